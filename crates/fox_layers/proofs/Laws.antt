@@ -1,0 +1,7 @@
+-- Laws beside definitions: what a proof cites in place of a definition's text.
+pub mod Xor
+pub mod Words
+pub mod Bytewise
+pub mod Field
+pub mod Matrix
+pub mod Tables

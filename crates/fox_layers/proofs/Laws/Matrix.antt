@@ -1,0 +1,89 @@
+-- A matrix product is the sum of the matrix's columns, each times its byte: row by row, the first byte's products come off as a column.
+-- Assumes nothing.
+use mathlib.Core.Path.{_≡_, refl, sym, ap, ap₂, _∙_}
+use mathlib.Core.List.{List, [], _∷_, map}
+use Prim.Native.Nat.{ℕ, zero, suc, _+_, _≤_, _<_}
+use native.Mathlib.Nat.{zero-lt-suc}
+use native.Mathlib.Omega.{arith}
+use lib.ListN.{length, getD, drop, length-map}
+use lib.Seq.{drop-cons}
+use Rattle.fox_layers.specs.Words.{_⊕_, Bytes, sum}
+use Rattle.fox_layers.specs.Field.{product}
+use Rattle.fox_layers.specs.Diffusion.{dot, times}
+use Rattle.fox_layers.specs.Tables.{column}
+use Rattle.fox_layers.proofs.Laws.Words.{length-sum, sum-bytes}
+use Rattle.fox_layers.proofs.Laws.Field.{product-lt}
+
+-- each row of a matrix has n entries
+abbrev pub Wide : ℕ → List (List ℕ) → Type 0
+Wide n [] = Unit {0}
+Wide n (row ∷ rows) = (length row ≡ n) × Wide n rows
+
+-- a column times one byte
+abbrev pub multiple : List ℕ → ℕ → List ℕ
+multiple ms x = map (λ (m : ℕ). product m x) ms
+
+-- the sum of the columns from number j on, each times its byte
+unfoldable pub columns : List (List ℕ) → ℕ → List ℕ → List ℕ
+columns rows j [] = map (λ (row : List ℕ). 0) rows
+columns rows j (x ∷ xs) = sum (multiple (column j rows) x) (columns rows (suc j) xs)
+
+-- the product with what is left of each row from entry j on
+from : List (List ℕ) → ℕ → List ℕ → List ℕ
+from rows j xs = map (λ (row : List ℕ). dot (drop j row) xs) rows
+
+dot-nil : (ms : List ℕ) → dot ms [] ≡ 0
+unfolding dot
+dot-nil [] = refl
+dot-nil (m ∷ ms) = refl
+
+from-nil : (rows : List (List ℕ)) (j : ℕ) → from rows j [] ≡ map (λ (row : List ℕ). 0) rows
+unfolding from
+from-nil [] j = refl
+from-nil (row ∷ rows) j = ap₂ (λ (x : ℕ) (xs : List ℕ). x ∷ xs) (dot-nil (drop j row)) (from-nil rows j)
+
+from-cons : (rows : List (List ℕ)) (n j x : ℕ) (xs : List ℕ) → Wide n rows → j < n
+    → from rows j (x ∷ xs) ≡ sum (multiple (column j rows) x) (from rows (suc j) xs)
+unfolding from dot sum column
+from-cons [] n j x xs w h = refl
+from-cons (row ∷ rows) n j x xs w h =
+    let inside : j < length row = omega (arith, w .0) in
+    ap₂ (λ (y : ℕ) (ys : List ℕ). y ∷ ys)
+    (ap (λ (ms : List ℕ). dot ms (x ∷ xs)) (drop-cons row j 0 inside))
+    (from-cons rows n j x xs (w .1) h)
+
+from-columns : (rows : List (List ℕ)) (n j : ℕ) (xs : List ℕ) → Wide n rows → j + length xs ≤ n → from rows j xs ≡ columns rows j xs
+unfolding columns
+from-columns rows n j [] w h = from-nil rows j
+from-columns rows n j (x ∷ xs) w h =
+    from-cons rows n j x xs w (omega arith)
+    ∙ ap (sum (multiple (column j rows) x)) (from-columns rows n (suc j) xs w (omega arith))
+
+pub times-columns : (rows : List (List ℕ)) (n : ℕ) (xs : List ℕ) → Wide n rows → length xs ≡ n → times rows xs ≡ columns rows 0 xs
+unfolding times from
+times-columns rows n xs w e = from-columns rows n 0 xs w (omega arith)
+
+-- such a sum has an entry for each row, and its entries are bytes
+pub length-columns : (rows : List (List ℕ)) (j : ℕ) (xs : List ℕ) → length (columns rows j xs) ≡ length rows
+unfolding columns column
+length-columns rows j [] = length-map rows (λ (row : List ℕ). 0)
+length-columns rows j (x ∷ xs) =
+    let same : length (multiple (column j rows) x) ≡ length rows = simp length-map in
+    length-sum (multiple (column j rows) x) (columns rows (suc j) xs) (same ∙ sym (length-columns rows (suc j) xs)) ∙ same
+
+pub multiple-bytes : (ms : List ℕ) (x : ℕ) → x < 256 → Bytes (multiple ms x)
+multiple-bytes [] x h i = zero-lt-suc 255
+multiple-bytes (m ∷ ms) x h zero = product-lt m x h
+multiple-bytes (m ∷ ms) x h (suc i) = multiple-bytes ms x h i
+
+zeros-bytes : (rows : List (List ℕ)) → Bytes (map (λ (row : List ℕ). 0) rows)
+zeros-bytes [] i = zero-lt-suc 255
+zeros-bytes (row ∷ rows) zero = zero-lt-suc 255
+zeros-bytes (row ∷ rows) (suc i) = zeros-bytes rows i
+
+pub columns-bytes : (rows : List (List ℕ)) (j : ℕ) (xs : List ℕ) → Bytes xs → Bytes (columns rows j xs)
+unfolding columns
+columns-bytes rows j [] h = zeros-bytes rows
+columns-bytes rows j (x ∷ xs) h =
+    sum-bytes (multiple (column j rows) x) (columns rows (suc j) xs) (multiple-bytes (column j rows) x (h 0))
+    (columns-bytes rows (suc j) xs (λ i. h (suc i)))

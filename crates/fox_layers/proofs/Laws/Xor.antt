@@ -1,0 +1,76 @@
+-- ⊕ is associative and commutative, and undoes itself. All are laws of binary digits, taken up by induction on the halves of a number.
+-- Assumes nothing.
+use mathlib.Core.Path.{_≡_, refl, sym, ap, ap₂, _∙_}
+use mathlib.Core.List.{List, [], _∷_}
+use Prim.Native.Nat.{ℕ, zero, suc, _+_, _*_, _/_, _%_, _<_}
+use native.Mathlib.Nat.{mod-lt, zero-lt-suc, not-suc-le-zero, le-of-suc-le-suc}
+use lib.Arith.{bin-ind, digits-mod}
+use lib.Bits.{differ, xor-step, xor-shr, xor-zero-l, xor-zero-r, xor-self}
+use Rattle.fox_layers.specs.Words.{_⊕_, total}
+pub use lib.Bits.{xor-comm, xor-zero-l as zero-xor, xor-zero-r as xor-zero, xor-self as xor-same, xor-lt}
+
+-- a number below two is 0 or 1, so the law of one digit has eight cases, which compute
+digit-assoc : (x y z : ℕ) → x < 2 → y < 2 → z < 2 → differ (differ x y) z ≡ differ x (differ y z)
+digit-assoc zero y z hx hy hz = refl
+digit-assoc (suc zero) zero z hx hy hz = refl
+digit-assoc (suc zero) (suc zero) zero hx hy hz = refl
+digit-assoc (suc zero) (suc zero) (suc zero) hx hy hz = refl
+digit-assoc (suc zero) (suc zero) (suc (suc z)) hx hy hz = absurd (not-suc-le-zero (le-of-suc-le-suc (le-of-suc-le-suc hz)))
+digit-assoc (suc zero) (suc (suc y)) z hx hy hz = absurd (not-suc-le-zero (le-of-suc-le-suc (le-of-suc-le-suc hy)))
+digit-assoc (suc (suc x)) y z hx hy hz = absurd (not-suc-le-zero (le-of-suc-le-suc (le-of-suc-le-suc hx)))
+
+digit-lt : (x y : ℕ) → x < 2 → y < 2 → differ x y < 2
+digit-lt zero y hx hy = hy
+digit-lt (suc zero) zero hx hy = hx
+digit-lt (suc zero) (suc zero) hx hy = zero-lt-suc 1
+digit-lt (suc zero) (suc (suc y)) hx hy = absurd (not-suc-le-zero (le-of-suc-le-suc (le-of-suc-le-suc hy)))
+digit-lt (suc (suc x)) y hx hy = absurd (not-suc-le-zero (le-of-suc-le-suc (le-of-suc-le-suc hx)))
+
+digit : (a : ℕ) → a % 2 < 2
+digit a = mod-lt a (zero-lt-suc 1)
+
+low : (a b : ℕ) → (a ⊕ b) % 2 ≡ differ (a % 2) (b % 2)
+low a b = ap (λ (n : ℕ). n % 2) (xor-step a b) ∙ digits-mod (a / 2 ⊕ b / 2) (digit-lt (a % 2) (b % 2) (digit a) (digit b))
+
+-- the digits of a sum of three, bracketed either way
+left-step : (a b c : ℕ) → (a ⊕ b) ⊕ c ≡ ((a / 2 ⊕ b / 2) ⊕ c / 2) * 2 + differ (differ (a % 2) (b % 2)) (c % 2)
+left-step a b c =
+    xor-step (a ⊕ b) c ∙ ap₂ (λ (x y : ℕ). (x ⊕ c / 2) * 2 + differ y (c % 2)) (xor-shr a b 1) (low a b)
+
+right-step : (a b c : ℕ) → a ⊕ b ⊕ c ≡ (a / 2 ⊕ b / 2 ⊕ c / 2) * 2 + differ (a % 2) (differ (b % 2) (c % 2))
+right-step a b c =
+    xor-step a (b ⊕ c) ∙ ap₂ (λ (x y : ℕ). (a / 2 ⊕ x) * 2 + differ (a % 2) y) (xor-shr b c 1) (low b c)
+
+pub xor-assoc : (a b c : ℕ) → (a ⊕ b) ⊕ c ≡ a ⊕ b ⊕ c
+xor-assoc =
+    bin-ind (λ (a : ℕ). (b c : ℕ) → (a ⊕ b) ⊕ c ≡ a ⊕ b ⊕ c) (λ b c. refl)
+    (λ a ih b c.
+    left-step a b c
+    ∙ ap₂ (λ (x y : ℕ). x * 2 + y) (ih (b / 2) (c / 2))
+    (digit-assoc (a % 2) (b % 2) (c % 2) (digit a) (digit b) (digit c))
+    ∙ sym (right-step a b c))
+
+-- what is added twice is gone
+pub xor-cancel : (a b : ℕ) → a ⊕ a ⊕ b ≡ b
+xor-cancel a b = sym (xor-assoc a a b) ∙ ap (λ (n : ℕ). n ⊕ b) (xor-self a) ∙ xor-zero-l b
+
+pub xor-cancel-right : (a b : ℕ) → (a ⊕ b) ⊕ b ≡ a
+xor-cancel-right a b = xor-assoc a b b ∙ ap (λ (n : ℕ). a ⊕ n) (xor-self b) ∙ xor-zero-r a
+
+pub xor-left-comm : (a b c : ℕ) → a ⊕ b ⊕ c ≡ b ⊕ a ⊕ c
+xor-left-comm a b c = sym (xor-assoc a b c) ∙ ap (λ (n : ℕ). n ⊕ c) (xor-comm a b) ∙ xor-assoc b a c
+
+-- two sums of two, taken the other way about
+pub xor-medial : (a b c d : ℕ) → (a ⊕ b) ⊕ c ⊕ d ≡ (a ⊕ c) ⊕ b ⊕ d
+xor-medial a b c d =
+    xor-assoc a b (c ⊕ d) ∙ ap (λ (n : ℕ). a ⊕ n) (xor-left-comm b c d) ∙ sym (xor-assoc a c (b ⊕ d))
+
+-- a sum built up from the left, as code does it, is the sum of the list
+abbrev pub running : ℕ → List ℕ → ℕ
+running a [] = a
+running a (x ∷ xs) = running (a ⊕ x) xs
+
+pub running-total : (a : ℕ) (xs : List ℕ) → running a xs ≡ a ⊕ total xs
+unfolding total
+running-total a [] = sym (xor-zero-r a)
+running-total a (x ∷ xs) = running-total (a ⊕ x) xs ∙ xor-assoc a x (total xs)

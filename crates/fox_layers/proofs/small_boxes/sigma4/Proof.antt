@@ -1,0 +1,47 @@
+-- `small_boxes::sigma4` meets its contract: each byte of the split goes through the box, and the results are joined.
+-- Assumes nothing.
+use borrow.Author.Needs.{needs}
+use mathlib.Core.Path.{_≡_, ap, _∙_}
+use mathlib.Core.List.{[], _∷_, map}
+use Rattle.fox_layers.specs.Words.{joined}
+use Rattle.fox_layers.specs.Substitution.{sbox, sigma}
+use Rattle.fox_layers.proofs.small_boxes.sigma4.Statement.{statement}
+use Rattle.fox_layers.proofs.small_boxes.sigma4.Tie as tie
+
+split4-requires : tie.Need-split4-requires
+split4-requires c κs = search needs
+
+sbox-requires : tie.Need-sbox-requires
+sbox-requires c κs = search needs
+
+sbox-requires-2 : tie.Need-sbox-requires-2
+sbox-requires-2 c κs = search needs
+
+sbox-requires-3 : tie.Need-sbox-requires-3
+sbox-requires-3 c κs = search needs
+
+sbox-requires-4 : tie.Need-sbox-requires-4
+sbox-requires-4 c κs = search needs
+
+join4-requires : tie.Need-join4-requires
+join4-requires c κs = search needs
+
+returns : tie.Need-returns
+unfolding sigma
+returns c = 
+    let s = c .before .before .before .before .before in
+    let bytes = s .split4 .result in
+    let boxed : c .before .before .before .before .sbox .result ∷ c .before .before .before .sbox2 .result ∷ c .before .before .sbox3 .result ∷ c .before .sbox4 .result ∷ [] ≡ map sbox (bytes .x0 ∷ bytes .x1 ∷ bytes .x2 ∷ bytes .x3 ∷ []) = cc in
+    c .join4 .ensures ∙ ap joined (boxed ∙ ap (map sbox) (s .split4 .ensures))
+
+pub sigma4-spec : {M : Type 1} → statement M
+sigma4-spec =
+    tie.close
+    (tie.spec
+    split4-requires
+    sbox-requires
+    sbox-requires-2
+    sbox-requires-3
+    sbox-requires-4
+    join4-requires
+    returns)

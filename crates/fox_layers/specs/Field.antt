@@ -1,0 +1,29 @@
+-- The field of 256 elements (001 §1.6): a byte is a polynomial over two elements, its bit k the coefficient of αᵏ, and products are
+-- taken modulo P = α⁸ + α⁷ + α⁶ + α⁵ + α⁴ + α³ + 1, which is 1F9. The sum is ⊕ (§1.6.1).
+-- Assumes nothing.
+use Prim.Native.Nat.{ℕ, zero, suc, _+_, _-_, _*_, _/_, _%_, _^_}
+use mathlib.Core.Bool.{cond}
+use lib.Dec.{ltb, eqb}
+use Rattle.fox_layers.specs.Words.{_⊕_}
+
+-- a byte moved left once, that is times α; a bit that leaves at the top stands for α⁸, which is F9
+unfoldable pub double : ℕ → ℕ
+double x = cond (ltb x 128) (x * 2) ((x * 2 - 256) ⊕ 0xF9)
+
+-- a byte moved right once, that is divided by α; a bit that leaves at the bottom stands for 1, and 1 over α is FC
+unfoldable pub halve : ℕ → ℕ
+halve x = cond (eqb (x % 2) 0) (x / 2) (x / 2 ⊕ 0xFC)
+
+-- §1.6.2: the product of two polynomials, over the lowest n coefficients of the first
+unfoldable pub polynomial : ℕ → ℕ → ℕ → ℕ
+polynomial zero x y = 0
+polynomial (suc n) x y = cond (eqb (x % 2) 0) 0 y ⊕ polynomial n (x / 2) (y * 2)
+
+-- §1.6.2: the rest of a polynomial of degree below 8 + n, divided by P: its highest coefficient is taken away first
+unfoldable pub rest : ℕ → ℕ → ℕ
+rest zero x = x
+rest (suc n) x = rest n (cond (ltb x (2 ^ (8 + n))) x (x ⊕ 0x1F9 * 2 ^ n))
+
+-- §1.6.2: the product of two bytes
+unfoldable pub product : ℕ → ℕ → ℕ
+product x y = rest 7 (polynomial 8 x y)

@@ -1,0 +1,7 @@
+-- What the promises of fox_layers cite: 001's definitions, in its order.
+pub mod Words
+pub mod Field
+pub mod Substitution
+pub mod Diffusion
+pub mod Tables
+pub mod Multiples

@@ -1,0 +1,44 @@
+-- Tables (001 §4.2.2), and what look-ups give over whatever tables are lent.
+-- Assumes nothing.
+use Prim.Native.Nat.{ℕ, zero, suc}
+use mathlib.Core.List.{List, [], _∷_, map}
+use lib.ListN.{getD}
+use Rattle.fox_layers.specs.Words.{_⊕_, joined, split}
+use Rattle.fox_layers.specs.Field.{product}
+use Rattle.fox_layers.specs.Substitution.{sbox}
+
+-- the values of a function at n bytes from i on
+unfoldable pub listed : (ℕ → ℕ) → ℕ → ℕ → List ℕ
+listed f zero i = []
+listed f (suc n) i = f i ∷ listed f n (suc i)
+
+-- a function on bytes as a table of 256 entries
+unfoldable pub table : (ℕ → ℕ) → List ℕ
+unfolding listed
+table f = listed f 256 0
+
+-- Fig. 7
+unfoldable pub box : List ℕ
+box = table sbox
+
+-- column number j of a matrix given by its rows
+unfoldable pub column : ℕ → List (List ℕ) → List ℕ
+column j rows = map (λ (row : List ℕ). getD row j 0) rows
+
+-- a column times one byte, joined to a word
+unfoldable pub scaled : List ℕ → ℕ → ℕ
+scaled ms x = joined (map (λ (m : ℕ). product m x) ms)
+
+-- §4.2.2: table number j of a matrix, TBSM: at a, column j times the box's value at a
+unfoldable pub joinedTable : List (List ℕ) → ℕ → List ℕ
+joinedTable rows j = table (λ (x : ℕ). scaled (column j rows) (sbox x))
+
+-- each byte of a word of n bytes replaced by the lent table's entry
+unfoldable pub replaced : List ℕ → ℕ → ℕ → ℕ
+replaced t n w = joined (map (λ (x : ℕ). getD t x 0) (split n w))
+
+-- the sum of the entries that a word's bytes pick, each from a table of its own
+unfoldable pub gathered : List (List ℕ) → List ℕ → ℕ
+gathered [] xs = 0
+gathered (t ∷ ts) [] = 0
+gathered (t ∷ ts) (x ∷ xs) = getD t x 0 ⊕ gathered ts xs

@@ -1,0 +1,36 @@
+-- Sums of words (001 §1.3) and words as bytes, the most significant first (001 §1.5).
+-- Assumes nothing.
+use Prim.Native.Nat.{ℕ, zero, suc, _+_, _*_, _/_, _%_, _^_, _<_}
+use mathlib.Core.List.{List, [], _∷_}
+use lib.ListN.{length, getD}
+use lib.Bits.{bitXor}
+
+infixr 55 _⊕_
+-- §1.3: the bitwise exclusive or, which in the field is the sum (§1.6.1)
+abbrev pub _⊕_ : ℕ → ℕ → ℕ
+a ⊕ b = bitXor a b
+
+-- §1.5: bytes joined to one number, x₀ ‖ x₁ ‖ ..
+unfoldable pub joined : List ℕ → ℕ
+joined [] = 0
+joined (x ∷ xs) = x * 2 ^ (8 * length xs) + joined xs
+
+-- §1.5: the lowest n bytes of a number, in the same order
+unfoldable pub split : ℕ → ℕ → List ℕ
+split zero w = []
+split (suc n) w = (w / 2 ^ (8 * n) % 256) ∷ split n w
+
+-- each number of a list is a byte
+abbrev pub Bytes : List ℕ → Type 0
+Bytes xs = (i : ℕ) → getD xs i 0 < 256
+
+-- two lists of one length, added place by place
+unfoldable pub sum : List ℕ → List ℕ → List ℕ
+sum [] ys = []
+sum (x ∷ xs) [] = []
+sum (x ∷ xs) (y ∷ ys) = (x ⊕ y) ∷ sum xs ys
+
+-- the sum of the numbers of a list
+unfoldable pub total : List ℕ → ℕ
+total [] = 0
+total (x ∷ xs) = x ⊕ total xs

@@ -1,0 +1,77 @@
+// The field of 256 elements (001 §1.6), worked out: products by the coefficients of mu4 and mu8, from doubling and halving.
+ghost use mathlib.Core.Path.{_≡_};
+ghost use Rattle.fox_layers.specs.Field.{double, halve, product};
+ghost use Rattle.fox_layers.specs.Multiples.{MultiplesOf};
+
+// Times 02. A bit that leaves at the top comes back as F9.
+pub fn double(x: u8) -> u8
+    ensures { λ r. ⌜ r ≡ double x ⌝ }
+{
+    if x < 128 { x * 2 } else { (x - 128) * 2 ^ 0xF9 }
+}
+
+// Times FC, that is divided by 02. A bit that leaves at the bottom comes back as FC.
+pub fn halve(x: u8) -> u8
+    ensures { λ r. ⌜ r ≡ halve x ⌝ }
+{
+    if x % 2 == 0 { x / 2 } else { x / 2 ^ 0xFC }
+}
+
+pub fn times_03(x: u8) -> u8
+    ensures { λ r. ⌜ r ≡ product 0x03 x ⌝ }
+{
+    double(x) ^ x
+}
+
+pub fn times_04(x: u8) -> u8
+    ensures { λ r. ⌜ r ≡ product 0x04 x ⌝ }
+{
+    double(double(x))
+}
+
+pub fn times_7e(x: u8) -> u8
+    ensures { λ r. ⌜ r ≡ product 0x7E x ⌝ }
+{
+    halve(halve(x))
+}
+
+pub fn times_82(x: u8) -> u8
+    ensures { λ r. ⌜ r ≡ product 0x82 x ⌝ }
+{
+    halve(x) ^ times_7e(x)
+}
+
+pub fn times_fd(x: u8) -> u8
+    ensures { λ r. ⌜ r ≡ product 0xFD x ⌝ }
+{
+    halve(x) ^ x
+}
+
+// A byte's products by the coefficients of mu8 other than 01.
+pub struct Multiples {
+    pub m02: u8,
+    pub m03: u8,
+    pub m04: u8,
+    pub m7e: u8,
+    pub m82: u8,
+    pub mfc: u8,
+}
+
+pub fn multiples_of(x: u8) -> Multiples
+    ensures { λ r. ⌜ MultiplesOf x r ⌝ }
+{
+    let m02 = double(x);
+    let m03 = times_03(x);
+    let m04 = times_04(x);
+    let m7e = times_7e(x);
+    let m82 = times_82(x);
+    let mfc = halve(x);
+    Multiples {
+        m02,
+        m03,
+        m04,
+        m7e,
+        m82,
+        mfc,
+    }
+}
