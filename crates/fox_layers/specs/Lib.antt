@@ -4,4 +4,4 @@ pub mod Field
 pub mod Substitution
 pub mod Diffusion
 pub mod Tables
-pub mod Multiples
+pub mod Structs

@@ -1,7 +1,7 @@
 // The field of 256 elements (001 §1.6), worked out: products by the coefficients of mu4 and mu8, from doubling and halving.
 ghost use mathlib.Core.Path.{_≡_};
 ghost use Rattle.fox_layers.specs.Field.{double, halve, product};
-ghost use Rattle.fox_layers.specs.Multiples.{MultiplesOf};
+ghost use Rattle.fox_layers.specs.Structs.{MultiplesOf};
 
 // Times 02. A bit that leaves at the top comes back as F9.
 pub fn double(x: u8) -> u8

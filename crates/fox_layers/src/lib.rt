@@ -6,4 +6,5 @@
 pub mod diffusion;
 pub mod field;
 pub mod small_boxes;
+pub mod tables;
 pub mod words;

@@ -1,69 +1,82 @@
+-- `diffusion::mu4` meets its contract: each sum has the products of its row, by the promises of the field's functions. The rows below are
+-- the matrix's.
+-- Assumes nothing.
 use borrow.Author.Needs.{needs}
+use mathlib.Core.Path.{_≡_, sym, ap, _∙_, subst}
+use mathlib.Core.List.{[], _∷_}
+use lib.ListN.{getD}
+use Rattle.fox_layers.specs.Diffusion.{dot, times, mu4Rows, diffused, mu4}
+use Rattle.fox_layers.proofs.Laws.Words.{split-bytes}
+use Rattle.fox_layers.proofs.Laws.Field.{product-01, product-02}
+use Rattle.fox_layers.specs.Words.{joined, split, Bytes}
+use Rattle.fox_layers.proofs.Laws.Matrix.{done, _▸_, products-dot}
 use Rattle.fox_layers.proofs.diffusion.mu4.Statement.{statement}
 use Rattle.fox_layers.proofs.diffusion.mu4.Tie as tie
-use Rattle.fox_layers.proofs.diffusion.mu4.Reads as reads
-use Rattle.fox_layers.proofs.diffusion.mu4.Lts as lts
-use Rattle.fox_layers.proofs.field.double.Reads as double-reads
-use Rattle.fox_layers.proofs.field.times_fd.Reads as times-fd-reads
-use Rattle.fox_layers.proofs.words.join4.Reads as join4-reads
-use Rattle.fox_layers.proofs.words.split4.Reads as split4-reads
-use Rattle.fox_layers.proofs.words.xor4.Reads as xor4-reads
 
--- src/diffusion.rt:17:9
 split4-requires : tie.Need-split4-requires
 split4-requires c κs = search needs
 
--- src/diffusion.rt:18:9
 double-requires : tie.Need-double-requires
 double-requires c κs = search needs
 
--- src/diffusion.rt:19:9
 double-requires-2 : tie.Need-double-requires-2
 double-requires-2 c κs = search needs
 
--- src/diffusion.rt:20:9
 double-requires-3 : tie.Need-double-requires-3
 double-requires-3 c κs = search needs
 
--- src/diffusion.rt:21:9
 double-requires-4 : tie.Need-double-requires-4
 double-requires-4 c κs = search needs
 
--- src/diffusion.rt:22:9
 times-fd-requires : tie.Need-times-fd-requires
 times-fd-requires c κs = search needs
 
--- src/diffusion.rt:23:9
 times-fd-requires-2 : tie.Need-times-fd-requires-2
 times-fd-requires-2 c κs = search needs
 
--- src/diffusion.rt:24:9
 times-fd-requires-3 : tie.Need-times-fd-requires-3
 times-fd-requires-3 c κs = search needs
 
--- src/diffusion.rt:26:9
 xor4-requires : tie.Need-xor4-requires
 xor4-requires c κs = search needs
 
--- src/diffusion.rt:27:9
 xor4-requires-2 : tie.Need-xor4-requires-2
 xor4-requires-2 c κs = search needs
 
--- src/diffusion.rt:28:9
 xor4-requires-3 : tie.Need-xor4-requires-3
 xor4-requires-3 c κs = search needs
 
--- src/diffusion.rt:29:9
 xor4-requires-4 : tie.Need-xor4-requires-4
 xor4-requires-4 c κs = search needs
 
--- src/diffusion.rt:25:5
 join4-requires : tie.Need-join4-requires
 join4-requires c κs = search needs
 
--- src/diffusion.rt:14:1
 returns : tie.Need-returns
-returns c = ?
+unfolding times mu4Rows diffused mu4
+returns c =
+    let s = c .before .before .before .before .before .before .before .before .before .before .before .before in
+    let x = s .split4 .result in
+    let xs = x .x0 ∷ x .x1 ∷ x .x2 ∷ x .x3 ∷ [] in
+    let same : xs ≡ split 4 (s .before .args .w) = s .split4 .ensures in
+    let bytes : Bytes xs = subst Bytes (sym same) (split-bytes 4 (s .before .args .w)) in
+    let o0 = sym (product-01 (x .x0) (bytes 0)) in
+    let o1 = sym (product-01 (x .x1) (bytes 1)) in
+    let o2 = sym (product-01 (x .x2) (bytes 2)) in
+    let o3 = sym (product-01 (x .x3) (bytes 3)) in
+    let d0 = c .before .before .before .before .before .before .before .before .before .before .before .double .ensures ∙ sym (product-02 (x .x0) (bytes 0)) in
+    let d1 = c .before .before .before .before .before .before .before .before .before .before .double2 .ensures ∙ sym (product-02 (x .x1) (bytes 1)) in
+    let d2 = c .before .before .before .before .before .before .before .before .before .double3 .ensures ∙ sym (product-02 (x .x2) (bytes 2)) in
+    let d3 = c .before .before .before .before .before .before .before .before .double4 .ensures ∙ sym (product-02 (x .x3) (bytes 3)) in
+    let z0 = c .before .before .before .before .before .before .before .times-fd .ensures in
+    let z1 = c .before .before .before .before .before .before .times-fd2 .ensures in
+    let z2 = c .before .before .before .before .before .times-fd3 .ensures in
+    let r0 : c .before .before .before .before .xor4 .result ≡ dot (getD mu4Rows 0 []) xs = c .before .before .before .before .xor4 .ensures ∙ products-dot (o0 ▸ o1 ▸ o2 ▸ d3 ▸ done) in
+    let r1 : c .before .before .before .xor42 .result ≡ dot (getD mu4Rows 1 []) xs = c .before .before .before .xor42 .ensures ∙ products-dot (o0 ▸ z1 ▸ d2 ▸ o3 ▸ done) in
+    let r2 : c .before .before .xor43 .result ≡ dot (getD mu4Rows 2 []) xs = c .before .before .xor43 .ensures ∙ products-dot (z0 ▸ d1 ▸ o2 ▸ o3 ▸ done) in
+    let r3 : c .before .xor44 .result ≡ dot (getD mu4Rows 3 []) xs = c .before .xor44 .ensures ∙ products-dot (d0 ▸ o1 ▸ z2 ▸ o3 ▸ done) in
+    c .join4 .ensures
+    ∙ ap joined ((λ i. r0 i ∷ r1 i ∷ r2 i ∷ r3 i ∷ []) ∙ ap (times mu4Rows) same)
 
 pub mu4-spec : {M : Type 1} → statement M
 mu4-spec =

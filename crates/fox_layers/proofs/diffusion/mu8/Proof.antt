@@ -1,88 +1,106 @@
+-- `diffusion::mu8` meets its contract: each sum has the products of its row, by the promises of the field's functions. The rows below are
+-- the matrix's.
+-- Assumes nothing.
 use borrow.Author.Needs.{needs}
+use mathlib.Core.Path.{_≡_, sym, ap, _∙_, subst}
+use mathlib.Core.List.{[], _∷_}
+use lib.ListN.{getD}
+use Rattle.fox_layers.specs.Diffusion.{dot, times, mu8Rows, diffused, mu8}
+use Rattle.fox_layers.proofs.Laws.Words.{split-bytes}
+use Rattle.fox_layers.proofs.Laws.Field.{product-01}
+use Rattle.fox_layers.specs.Words.{joined, split, Bytes}
+use Rattle.fox_layers.proofs.Laws.Matrix.{done, _▸_, products-dot}
 use Rattle.fox_layers.proofs.diffusion.mu8.Statement.{statement}
 use Rattle.fox_layers.proofs.diffusion.mu8.Tie as tie
-use Rattle.fox_layers.proofs.diffusion.mu8.Reads as reads
-use Rattle.fox_layers.proofs.diffusion.mu8.Lts as lts
-use Rattle.fox_layers.proofs.field.multiples_of.Reads as multiples-of-reads
-use Rattle.fox_layers.proofs.words.join8.Reads as join8-reads
-use Rattle.fox_layers.proofs.words.split8.Reads as split8-reads
-use Rattle.fox_layers.proofs.words.xor8.Reads as xor8-reads
 
--- src/diffusion.rt:36:9
 split8-requires : tie.Need-split8-requires
 split8-requires c κs = search needs
 
--- src/diffusion.rt:37:9
 multiples-of-requires : tie.Need-multiples-of-requires
 multiples-of-requires c κs = search needs
 
--- src/diffusion.rt:38:9
 multiples-of-requires-2 : tie.Need-multiples-of-requires-2
 multiples-of-requires-2 c κs = search needs
 
--- src/diffusion.rt:39:9
 multiples-of-requires-3 : tie.Need-multiples-of-requires-3
 multiples-of-requires-3 c κs = search needs
 
--- src/diffusion.rt:40:9
 multiples-of-requires-4 : tie.Need-multiples-of-requires-4
 multiples-of-requires-4 c κs = search needs
 
--- src/diffusion.rt:41:9
 multiples-of-requires-5 : tie.Need-multiples-of-requires-5
 multiples-of-requires-5 c κs = search needs
 
--- src/diffusion.rt:42:9
 multiples-of-requires-6 : tie.Need-multiples-of-requires-6
 multiples-of-requires-6 c κs = search needs
 
--- src/diffusion.rt:43:9
 multiples-of-requires-7 : tie.Need-multiples-of-requires-7
 multiples-of-requires-7 c κs = search needs
 
--- src/diffusion.rt:44:9
 multiples-of-requires-8 : tie.Need-multiples-of-requires-8
 multiples-of-requires-8 c κs = search needs
 
--- src/diffusion.rt:46:9
 xor8-requires : tie.Need-xor8-requires
 xor8-requires c κs = search needs
 
--- src/diffusion.rt:47:9
 xor8-requires-2 : tie.Need-xor8-requires-2
 xor8-requires-2 c κs = search needs
 
--- src/diffusion.rt:48:9
 xor8-requires-3 : tie.Need-xor8-requires-3
 xor8-requires-3 c κs = search needs
 
--- src/diffusion.rt:49:9
 xor8-requires-4 : tie.Need-xor8-requires-4
 xor8-requires-4 c κs = search needs
 
--- src/diffusion.rt:50:9
 xor8-requires-5 : tie.Need-xor8-requires-5
 xor8-requires-5 c κs = search needs
 
--- src/diffusion.rt:51:9
 xor8-requires-6 : tie.Need-xor8-requires-6
 xor8-requires-6 c κs = search needs
 
--- src/diffusion.rt:52:9
 xor8-requires-7 : tie.Need-xor8-requires-7
 xor8-requires-7 c κs = search needs
 
--- src/diffusion.rt:53:9
 xor8-requires-8 : tie.Need-xor8-requires-8
 xor8-requires-8 c κs = search needs
 
--- src/diffusion.rt:45:5
 join8-requires : tie.Need-join8-requires
 join8-requires c κs = search needs
 
--- src/diffusion.rt:33:1
 returns : tie.Need-returns
-returns c = ?
+unfolding times mu8Rows diffused mu8
+returns c =
+    let s = c .before .before .before .before .before .before .before .before .before .before .before .before .before .before .before .before .before in
+    let x = s .split8 .result in
+    let xs = x .x0 ∷ x .x1 ∷ x .x2 ∷ x .x3 ∷ x .x4 ∷ x .x5 ∷ x .x6 ∷ x .x7 ∷ [] in
+    let same : xs ≡ split 8 (s .before .args .w) = s .split8 .ensures in
+    let bytes : Bytes xs = subst Bytes (sym same) (split-bytes 8 (s .before .args .w)) in
+    let o0 = sym (product-01 (x .x0) (bytes 0)) in
+    let o1 = sym (product-01 (x .x1) (bytes 1)) in
+    let o2 = sym (product-01 (x .x2) (bytes 2)) in
+    let o3 = sym (product-01 (x .x3) (bytes 3)) in
+    let o4 = sym (product-01 (x .x4) (bytes 4)) in
+    let o5 = sym (product-01 (x .x5) (bytes 5)) in
+    let o6 = sym (product-01 (x .x6) (bytes 6)) in
+    let o7 = sym (product-01 (x .x7) (bytes 7)) in
+    let p0 = c .before .before .before .before .before .before .before .before .before .before .before .before .before .before .before .before .multiples-of .ensures in
+    let p1 = c .before .before .before .before .before .before .before .before .before .before .before .before .before .before .before .multiples-of2 .ensures in
+    let p2 = c .before .before .before .before .before .before .before .before .before .before .before .before .before .before .multiples-of3 .ensures in
+    let p3 = c .before .before .before .before .before .before .before .before .before .before .before .before .before .multiples-of4 .ensures in
+    let p4 = c .before .before .before .before .before .before .before .before .before .before .before .before .multiples-of5 .ensures in
+    let p5 = c .before .before .before .before .before .before .before .before .before .before .before .multiples-of6 .ensures in
+    let p6 = c .before .before .before .before .before .before .before .before .before .before .multiples-of7 .ensures in
+    let p7 = c .before .before .before .before .before .before .before .before .before .multiples-of8 .ensures in
+    let r0 : c .before .before .before .before .before .before .before .before .xor8 .result ≡ dot (getD mu8Rows 0 []) xs = c .before .before .before .before .before .before .before .before .xor8 .ensures ∙ products-dot (o0 ▸ o1 ▸ o2 ▸ o3 ▸ o4 ▸ o5 ▸ o6 ▸ p7 .by03 ▸ done) in
+    let r1 : c .before .before .before .before .before .before .before .xor82 .result ≡ dot (getD mu8Rows 1 []) xs = c .before .before .before .before .before .before .before .xor82 .ensures ∙ products-dot (o0 ▸ p1 .by03 ▸ p2 .by82 ▸ p3 .by02 ▸ p4 .by04 ▸ p5 .byfc ▸ p6 .by7e ▸ o7 ▸ done) in
+    let r2 : c .before .before .before .before .before .before .xor83 .result ≡ dot (getD mu8Rows 2 []) xs = c .before .before .before .before .before .before .xor83 .ensures ∙ products-dot (p0 .by03 ▸ p1 .by82 ▸ p2 .by02 ▸ p3 .by04 ▸ p4 .byfc ▸ p5 .by7e ▸ o6 ▸ o7 ▸ done) in
+    let r3 : c .before .before .before .before .before .xor84 .result ≡ dot (getD mu8Rows 3 []) xs = c .before .before .before .before .before .xor84 .ensures ∙ products-dot (p0 .by82 ▸ p1 .by02 ▸ p2 .by04 ▸ p3 .byfc ▸ p4 .by7e ▸ o5 ▸ p6 .by03 ▸ o7 ▸ done) in
+    let r4 : c .before .before .before .before .xor85 .result ≡ dot (getD mu8Rows 4 []) xs = c .before .before .before .before .xor85 .ensures ∙ products-dot (p0 .by02 ▸ p1 .by04 ▸ p2 .byfc ▸ p3 .by7e ▸ o4 ▸ p5 .by03 ▸ p6 .by82 ▸ o7 ▸ done) in
+    let r5 : c .before .before .before .xor86 .result ≡ dot (getD mu8Rows 5 []) xs = c .before .before .before .xor86 .ensures ∙ products-dot (p0 .by04 ▸ p1 .byfc ▸ p2 .by7e ▸ o3 ▸ p4 .by03 ▸ p5 .by82 ▸ p6 .by02 ▸ o7 ▸ done) in
+    let r6 : c .before .before .xor87 .result ≡ dot (getD mu8Rows 6 []) xs = c .before .before .xor87 .ensures ∙ products-dot (p0 .byfc ▸ p1 .by7e ▸ o2 ▸ p3 .by03 ▸ p4 .by82 ▸ p5 .by02 ▸ p6 .by04 ▸ o7 ▸ done) in
+    let r7 : c .before .xor88 .result ≡ dot (getD mu8Rows 7 []) xs = c .before .xor88 .ensures ∙ products-dot (p0 .by7e ▸ o1 ▸ p2 .by03 ▸ p3 .by82 ▸ p4 .by02 ▸ p5 .by04 ▸ p6 .byfc ▸ o7 ▸ done) in
+    c .join8 .ensures
+    ∙ ap joined ((λ i. r0 i ∷ r1 i ∷ r2 i ∷ r3 i ∷ r4 i ∷ r5 i ∷ r6 i ∷ r7 i ∷ []) ∙ ap (times mu8Rows) same)
 
 pub mu8-spec : {M : Type 1} → statement M
 mu8-spec =

@@ -22,7 +22,7 @@ returns c = simp (lt-ltb _ _ (c .if1 .taken))
 
 returns-2 : tie.Need-returns-2
 unfolding double
-returns-2 c = 
+returns-2 c =
     let x = c .before .args .x in
     let moved : (x - 128) * 2 ≡ x * 2 - 256 = omega arith in
     simp (le-ltb _ _ (c .if1 .left)) (ap (λ (n : ℕ). n ⊕ 0xF9) moved)

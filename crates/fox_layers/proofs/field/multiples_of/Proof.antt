@@ -25,7 +25,7 @@ halve-requires : tie.Need-halve-requires
 halve-requires c κs = search needs
 
 returns : tie.Need-returns
-returns c = 
+returns c =
     let d = c .before .before .before .before .before in
     let s = d .before in
     record {
@@ -34,7 +34,7 @@ returns c =
       by04 = c .before .before .before .times-04 .ensures;
       by7e = c .before .before .times-7e .ensures;
       by82 = c .before .times-82 .ensures;
-      byfc = c .halve .ensures ∙ sym (product-FC (s .args .x) (s .fits .x .fits))
+      byfc = c .halve .ensures ∙ sym (product-FC (s .args .x) (s .fits .x .fits));
     }
 
 pub multiples-of-spec : {M : Type 1} → statement M

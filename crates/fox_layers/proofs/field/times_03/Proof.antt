@@ -12,7 +12,7 @@ double-requires : tie.Need-double-requires
 double-requires c κs = search needs
 
 returns : tie.Need-returns
-returns c = 
+returns c =
     let a = c .before .args in
     ap (λ (n : ℕ). n ⊕ a .x) (c .double .ensures) ∙ sym (product-03 (a .x) (c .before .fits .x .fits))
 

@@ -14,7 +14,7 @@ double-requires-2 : tie.Need-double-requires-2
 double-requires-2 c κs = search needs
 
 returns : tie.Need-returns
-returns c = 
+returns c =
     let s = c .before .before in
     c .double2 .ensures ∙ ap double (c .before .double .ensures) ∙ sym (product-04 (s .args .x) (s .fits .x .fits))
 

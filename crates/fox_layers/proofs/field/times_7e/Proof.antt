@@ -14,7 +14,7 @@ halve-requires-2 : tie.Need-halve-requires-2
 halve-requires-2 c κs = search needs
 
 returns : tie.Need-returns
-returns c = 
+returns c =
     let s = c .before .before in
     c .halve2 .ensures ∙ ap halve (c .before .halve .ensures) ∙ sym (product-7E (s .args .x) (s .fits .x .fits))
 

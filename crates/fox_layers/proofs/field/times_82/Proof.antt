@@ -15,7 +15,7 @@ times-7e-requires : tie.Need-times-7e-requires
 times-7e-requires c κs = search needs
 
 returns : tie.Need-returns
-returns c = 
+returns c =
     let s = c .before .before in
     let x = s .args .x in
     let h = s .fits .x .fits in

@@ -12,7 +12,7 @@ halve-requires : tie.Need-halve-requires
 halve-requires c κs = search needs
 
 returns : tie.Need-returns
-returns c = 
+returns c =
     let a = c .before .args in
     ap (λ (n : ℕ). n ⊕ a .x) (c .halve .ensures) ∙ sym (product-FD (a .x) (c .before .fits .x .fits))
 

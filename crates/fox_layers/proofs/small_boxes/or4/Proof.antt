@@ -13,7 +13,7 @@ mul-result : tie.Need-mul-result
 mul-result c = search needs
 
 add-result : tie.Need-add-result
-add-result c = 
+add-result c =
     let x = c .args .x in
     omega (arith, xor-lt 6 (x / 4) (x % 4) (omega arith) (omega arith))
 

@@ -28,7 +28,7 @@ join4-requires c κs = search needs
 
 returns : tie.Need-returns
 unfolding sigma
-returns c = 
+returns c =
     let s = c .before .before .before .before .before in
     let bytes = s .split4 .result in
     let boxed : c .before .before .before .before .sbox .result ∷ c .before .before .before .sbox2 .result ∷ c .before .before .sbox3 .result ∷ c .before .sbox4 .result ∷ [] ≡ map sbox (bytes .x0 ∷ bytes .x1 ∷ bytes .x2 ∷ bytes .x3 ∷ []) = cc in

@@ -40,7 +40,7 @@ join8-requires c κs = search needs
 
 returns : tie.Need-returns
 unfolding sigma
-returns c = 
+returns c =
     let s = c .before .before .before .before .before .before .before .before .before in
     let bytes = s .split8 .result in
     let boxed : c .before .before .before .before .before .before .before .before .sbox .result ∷ c .before .before .before .before .before .before .before .sbox2 .result ∷ c .before .before .before .before .before .before .sbox3 .result ∷ c .before .before .before .before .before .sbox4 .result ∷ c .before .before .before .before .sbox5 .result ∷ c .before .before .before .sbox6 .result ∷ c .before .before .sbox7 .result ∷ c .before .sbox8 .result ∷ [] ≡ map sbox (bytes .x0 ∷ bytes .x1 ∷ bytes .x2 ∷ bytes .x3 ∷ bytes .x4 ∷ bytes .x5 ∷ bytes .x6 ∷ bytes .x7 ∷ []) = cc in

@@ -8,7 +8,7 @@ use Rattle.fox_layers.proofs.words.xor4.Tie as tie
 
 returns : tie.Need-returns
 unfolding total
-returns c = 
+returns c =
     let a = c .args in
     running-total (a .x0) (a .x1 ∷ a .x2 ∷ a .x3 ∷ [])
 

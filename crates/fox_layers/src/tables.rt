@@ -1,0 +1,73 @@
+// Look-ups in tables that the caller lends (001 §4.2.2). A constant table is built anew wherever it is named, so a caller makes each
+// table a local of its own once, by the functions of whole_box, joined4 and joined8, and lends it to every look-up.
+//
+// A look-up is stated for whatever it is lent. Where that is the box, or a matrix's joined tables in their order, the laws
+// replaced-box, gathered-mu4 and gathered-mu8 say that it is sigma, and mu after sigma.
+ghost use mathlib.Core.Path.{_≡_};
+ghost use mathlib.Core.List.{[], _∷_};
+ghost use Rattle.fox_layers.specs.Words.{split};
+ghost use Rattle.fox_layers.specs.Tables.{replaced, gathered};
+use crate::words::join4;
+use crate::words::join8;
+
+pub mod joined4;
+pub mod joined8;
+pub mod whole_box;
+
+pub fn sigma4(t: &[u8; 256], w: u32) -> u32
+    ensures { λ r. ⌜ r ≡ replaced (now (t .entry)) 4 w ⌝ }
+{
+    join4(
+        t[(w / 0x0100_0000 % 256) as usize],
+        t[(w / 0x0001_0000 % 256) as usize],
+        t[(w / 0x0000_0100 % 256) as usize],
+        t[(w % 256) as usize],
+    )
+}
+
+pub fn sigma8(t: &[u8; 256], w: u64) -> u64
+    ensures { λ r. ⌜ r ≡ replaced (now (t .entry)) 8 w ⌝ }
+{
+    join8(
+        t[(w / 0x0100_0000_0000_0000 % 256) as usize],
+        t[(w / 0x0001_0000_0000_0000 % 256) as usize],
+        t[(w / 0x0000_0100_0000_0000 % 256) as usize],
+        t[(w / 0x0000_0001_0000_0000 % 256) as usize],
+        t[(w / 0x0000_0000_0100_0000 % 256) as usize],
+        t[(w / 0x0000_0000_0001_0000 % 256) as usize],
+        t[(w / 0x0000_0000_0000_0100 % 256) as usize],
+        t[(w % 256) as usize],
+    )
+}
+
+pub fn sigma_mu4(a: &[u32; 256], b: &[u32; 256], c: &[u32; 256], d: &[u32; 256], w: u32) -> u32
+    ensures { λ r. ⌜ r ≡ gathered (now (a .entry) ∷ now (b .entry) ∷ now (c .entry) ∷ now (d .entry) ∷ []) (split 4 w) ⌝ }
+{
+    a[(w / 0x0100_0000 % 256) as usize]
+        ^ b[(w / 0x0001_0000 % 256) as usize]
+        ^ c[(w / 0x0000_0100 % 256) as usize]
+        ^ d[(w % 256) as usize]
+}
+
+pub fn sigma_mu8(
+    a: &[u64; 256],
+    b: &[u64; 256],
+    c: &[u64; 256],
+    d: &[u64; 256],
+    e: &[u64; 256],
+    f: &[u64; 256],
+    g: &[u64; 256],
+    h: &[u64; 256],
+    w: u64,
+) -> u64
+    ensures { λ r. ⌜ r ≡ gathered (now (a .entry) ∷ now (b .entry) ∷ now (c .entry) ∷ now (d .entry) ∷ now (e .entry) ∷ now (f .entry) ∷ now (g .entry) ∷ now (h .entry) ∷ []) (split 8 w) ⌝ }
+{
+    a[(w / 0x0100_0000_0000_0000 % 256) as usize]
+        ^ b[(w / 0x0001_0000_0000_0000 % 256) as usize]
+        ^ c[(w / 0x0000_0100_0000_0000 % 256) as usize]
+        ^ d[(w / 0x0000_0001_0000_0000 % 256) as usize]
+        ^ e[(w / 0x0000_0000_0100_0000 % 256) as usize]
+        ^ f[(w / 0x0000_0000_0001_0000 % 256) as usize]
+        ^ g[(w / 0x0000_0000_0000_0100 % 256) as usize]
+        ^ h[(w % 256) as usize]
+}
