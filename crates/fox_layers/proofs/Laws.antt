@@ -5,3 +5,4 @@ pub mod Bytewise
 pub mod Field
 pub mod Matrix
 pub mod Tables
+pub mod Quick

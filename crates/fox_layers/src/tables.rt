@@ -40,7 +40,13 @@ pub fn sigma8(t: &[u8; 256], w: u64) -> u64
     )
 }
 
-pub fn sigma_mu4(a: &[u32; 256], b: &[u32; 256], c: &[u32; 256], d: &[u32; 256], w: u32) -> u32
+pub fn sigma_mu4<'a>(
+    a: &'a [u32; 256],
+    b: &'a [u32; 256],
+    c: &'a [u32; 256],
+    d: &'a [u32; 256],
+    w: u32,
+) -> u32
     ensures { λ r. ⌜ r ≡ gathered (now (a .entry) ∷ now (b .entry) ∷ now (c .entry) ∷ now (d .entry) ∷ []) (split 4 w) ⌝ }
 {
     a[(w / 0x0100_0000 % 256) as usize]
@@ -49,15 +55,15 @@ pub fn sigma_mu4(a: &[u32; 256], b: &[u32; 256], c: &[u32; 256], d: &[u32; 256],
         ^ d[(w % 256) as usize]
 }
 
-pub fn sigma_mu8(
-    a: &[u64; 256],
-    b: &[u64; 256],
-    c: &[u64; 256],
-    d: &[u64; 256],
-    e: &[u64; 256],
-    f: &[u64; 256],
-    g: &[u64; 256],
-    h: &[u64; 256],
+pub fn sigma_mu8<'a>(
+    a: &'a [u64; 256],
+    b: &'a [u64; 256],
+    c: &'a [u64; 256],
+    d: &'a [u64; 256],
+    e: &'a [u64; 256],
+    f: &'a [u64; 256],
+    g: &'a [u64; 256],
+    h: &'a [u64; 256],
     w: u64,
 ) -> u64
     ensures { λ r. ⌜ r ≡ gathered (now (a .entry) ∷ now (b .entry) ∷ now (c .entry) ∷ now (d .entry) ∷ now (e .entry) ∷ now (f .entry) ∷ now (g .entry) ∷ now (h .entry) ∷ []) (split 8 w) ⌝ }

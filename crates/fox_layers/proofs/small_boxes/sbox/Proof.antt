@@ -1,35 +1,49 @@
--- `small_boxes::sbox` meets its contract: it takes the definition's steps in the definition's order. That the halves stay below 16, on which
--- each index and the last sum rest, is a test over all bytes.
+-- `small_boxes::sbox` meets its contract: it takes the definition's steps in the definition's order. Each index and the last sum rest on the
+-- halves staying below 16: the small boxes' entries are, and neither ⊕ nor "or" leaves four bits.
 -- Assumes nothing.
 use borrow.Author.Needs.{needs}
-use mathlib.Core.Path.{_≡_, refl}
-use Prim.Native.Nat.{ℕ, _%_, _<_}
+use mathlib.Core.Path.{refl}
+use mathlib.Core.List.{List, [], _∷_}
+use Prim.Native.Nat.{ℕ, zero, suc, _/_, _%_, _<_}
 use native.Mathlib.Nat.{zero-lt-suc}
 use native.Mathlib.Omega.{arith}
+use lib.ListN.{getD}
 use Rattle.fox_layers.specs.Words.{_⊕_}
-use Rattle.fox_layers.specs.Substitution.{S₁, S₂, S₃, Halves, halves, whole, or4, lmid4, lmor4, sbox}
-use Rattle.fox_layers.specs.Tables.{table}
-use Rattle.fox_layers.proofs.Laws.Bytewise.{below}
+use Rattle.fox_layers.specs.Substitution.{S₁, S₂, S₃, halves, whole, or4, lmid4, lmor4, sbox}
+use Rattle.fox_layers.proofs.Laws.Xor.{xor-lt}
 use Rattle.fox_layers.proofs.small_boxes.sbox.Statement.{statement}
 use Rattle.fox_layers.proofs.small_boxes.sbox.Tie as tie
 
--- the halves after each round
-abbrev first : ℕ → Halves
-first x = lmor4 S₁ (halves x)
+both : (x y : ℕ) → x < 16 → y < 16 → (x ⊕ y) < 16
+both x y = xor-lt 4 x y
 
-abbrev second : ℕ → Halves
-second x = lmor4 S₂ (first x)
+or4-below : (x : ℕ) → x < 16 → or4 x < 16
+unfolding or4
+or4-below x h = omega (arith, xor-lt 2 (x / 4) (x % 4) (omega arith) (omega arith))
 
-abbrev third : ℕ → Halves
-third x = lmid4 S₃ (second x)
+abbrev AllBelow : List ℕ → Type 0
+AllBelow [] = Unit {0}
+AllBelow (x ∷ xs) = (x < 16) × AllBelow xs
 
--- a number worked out from a byte that four bits hold, at every byte
-nibble : (f : ℕ → ℕ) → table (λ (x : ℕ). f x % 16) ≡ table f → (x : ℕ) → x < 256 → f x < 16
-nibble f same = below 16 f (zero-lt-suc 15) same
+entry : (s : List ℕ) → AllBelow s → (i : ℕ) → getD s i 0 < 16
+entry [] h i = zero-lt-suc 15
+entry (x ∷ xs) h zero = h .0
+entry (x ∷ xs) h (suc i) = entry xs (h .1) i
+
+S₁-below : AllBelow S₁
+unfolding S₁
+S₁-below = omega arith
+
+S₂-below : AllBelow S₂
+unfolding S₂
+S₂-below = omega arith
+
+S₃-below : AllBelow S₃
+unfolding S₃
+S₃-below = omega arith
 
 array-read-t : tie.Need-array-read-t
-unfolding halves table
-array-read-t c = nibble (λ (x : ℕ). halves x .left ⊕ halves x .right) refl (c .args .x) (c .fits .x .fits)
+array-read-t c = both (c .args .x / 16) (c .args .x % 16) (omega arith) (omega arith)
 
 cast-t : tie.Need-cast-t
 cast-t c = omega (arith, array-read-t c)
@@ -37,11 +51,23 @@ cast-t c = omega (arith, array-read-t c)
 or4-requires : tie.Need-or4-requires
 or4-requires c κs = search needs
 
+-- the halves after the first round
+left₁ : (c : tie.After-or4) → c .or4 .result < 16
+unfolding S₁
+left₁ c =
+    let x = c .before .args .x in
+    rw (c .or4 .ensures)
+    (or4-below _ (both (x / 16) (getD S₁ (x / 16 ⊕ x % 16) 0) (omega arith) (entry S₁ S₁-below (x / 16 ⊕ x % 16))))
+
+abbrev right₁-is : ℕ → ℕ
+right₁-is x = x % 16 ⊕ getD S₁ (x / 16 ⊕ x % 16) 0
+
+right₁ : (x : ℕ) → right₁-is x < 16
+right₁ x = both (x % 16) (getD S₁ (x / 16 ⊕ x % 16) 0) (omega arith) (entry S₁ S₁-below (x / 16 ⊕ x % 16))
+
 array-read-t-2 : tie.Need-array-read-t-2
-unfolding S₁ halves or4 lmid4 lmor4 table
-array-read-t-2 c =
-    let s = c .before in
-    rw (c .or4 .ensures) (nibble (λ (x : ℕ). first x .left ⊕ first x .right) refl (s .args .x) (s .fits .x .fits))
+unfolding S₁
+array-read-t-2 c = both (c .or4 .result) (right₁-is (c .before .args .x)) (left₁ c) (right₁ (c .before .args .x))
 
 cast-t-2 : tie.Need-cast-t-2
 cast-t-2 c = omega (arith, array-read-t-2 c)
@@ -49,36 +75,49 @@ cast-t-2 c = omega (arith, array-read-t-2 c)
 or4-requires-2 : tie.Need-or4-requires-2
 or4-requires-2 c κs = search needs
 
+-- the halves after the second round: l is the left half after the first
+left₂ : (c : tie.After-or42) → c .or42 .result < 16
+unfolding S₁ S₂
+left₂ c =
+    let l = c .before .or4 .result in
+    let i = l ⊕ right₁-is (c .before .before .args .x) in
+    rw (c .or42 .ensures) (or4-below _ (both l (getD S₂ i 0) (left₁ (c .before)) (entry S₂ S₂-below i)))
+
+abbrev right₂-is : ℕ → ℕ → ℕ
+right₂-is x l = right₁-is x ⊕ getD S₂ (l ⊕ right₁-is x) 0
+
+right₂ : (x l : ℕ) → right₂-is x l < 16
+right₂ x l = both (right₁-is x) (getD S₂ (l ⊕ right₁-is x) 0) (right₁ x) (entry S₂ S₂-below (l ⊕ right₁-is x))
+
 array-read-t-3 : tie.Need-array-read-t-3
-unfolding S₁ S₂ halves or4 lmid4 lmor4 table
+unfolding S₁ S₂
 array-read-t-3 c =
-    let s = c .before .before in
-    rw (c .or42 .ensures, c .before .or4 .ensures)
-    (nibble (λ (x : ℕ). second x .left ⊕ second x .right) refl (s .args .x) (s .fits .x .fits))
+    let r = right₂-is (c .before .before .args .x) (c .before .or4 .result) in
+    both (c .or42 .result) r (left₂ c) (right₂ (c .before .before .args .x) (c .before .or4 .result))
 
 cast-t-3 : tie.Need-cast-t-3
 cast-t-3 c = omega (arith, array-read-t-3 c)
 
-left-below : (x : ℕ) → x < 256 → third x .left < 16
-unfolding S₁ S₂ S₃ halves or4 lmid4 lmor4 table
-left-below = nibble (λ (x : ℕ). third x .left) refl
+-- the third round's value, at whatever number, keeps both halves below 16
+left₃ : (c : tie.After-or42) (i : ℕ) → (c .or42 .result ⊕ getD S₃ i 0) < 16
+left₃ c i = both (c .or42 .result) (getD S₃ i 0) (left₂ c) (entry S₃ S₃-below i)
 
-right-below : (x : ℕ) → x < 256 → third x .right < 16
-unfolding S₁ S₂ S₃ halves or4 lmid4 lmor4 table
-right-below = nibble (λ (x : ℕ). third x .right) refl
+right₃ : (x l i : ℕ) → (right₂-is x l ⊕ getD S₃ i 0) < 16
+right₃ x l i = both (right₂-is x l) (getD S₃ i 0) (right₂ x l) (entry S₃ S₃-below i)
 
 mul-result : tie.Need-mul-result
-unfolding S₁ S₂ S₃ halves or4 lmid4 lmor4
+unfolding S₁ S₂ S₃
 mul-result c =
-    let s = c .before .before in
-    rw (c .or42 .ensures, c .before .or4 .ensures) (omega (arith, left-below (s .args .x) (s .fits .x .fits)))
+    let i = c .or42 .result ⊕ right₂-is (c .before .before .args .x) (c .before .or4 .result) in
+    omega (arith, left₃ c i)
 
 add-result : tie.Need-add-result
-unfolding S₁ S₂ S₃ halves or4 lmid4 lmor4
+unfolding S₁ S₂ S₃
 add-result c =
-    let s = c .before .before in
-    rw (c .or42 .ensures, c .before .or4 .ensures)
-    (omega (arith, left-below (s .args .x) (s .fits .x .fits), right-below (s .args .x) (s .fits .x .fits)))
+    let x = c .before .before .args .x in
+    let l = c .before .or4 .result in
+    let i = c .or42 .result ⊕ right₂-is x l in
+    omega (arith, left₃ c i, right₃ x l i)
 
 returns : tie.Need-returns
 unfolding sbox S₁ S₂ S₃ halves whole or4 lmid4 lmor4
