@@ -3,7 +3,7 @@
 use Prim.Native.Nat.{ℕ, zero, suc}
 use mathlib.Core.List.{List, [], _∷_, map}
 use lib.ListN.{getD}
-use Rattle.fox_layers.specs.Words.{_⊕_, joined, split}
+use Rattle.fox_layers.specs.Words.{joined, split, summed}
 use Rattle.fox_layers.specs.Field.{product}
 use Rattle.fox_layers.specs.Substitution.{sbox}
 
@@ -37,8 +37,6 @@ joinedTable rows j = table (λ (x : ℕ). scaled (column j rows) (sbox x))
 unfoldable pub replaced : List ℕ → ℕ → ℕ → ℕ
 replaced t n w = joined (map (λ (x : ℕ). getD t x 0) (split n w))
 
--- the sum of the entries that a word's bytes pick, each from a table of its own
+-- the sum of the entries that bytes pick, each from a table of its own
 unfoldable pub gathered : List (List ℕ) → List ℕ → ℕ
-gathered [] xs = 0
-gathered (t ∷ ts) [] = 0
-gathered (t ∷ ts) (x ∷ xs) = getD t x 0 ⊕ gathered ts xs
+gathered ts xs = summed (λ (t : List ℕ) (x : ℕ). getD t x 0) ts xs

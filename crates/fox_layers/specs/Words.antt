@@ -34,3 +34,9 @@ sum (x ∷ xs) (y ∷ ys) = (x ⊕ y) ∷ sum xs ys
 unfoldable pub total : List ℕ → ℕ
 total [] = 0
 total (x ∷ xs) = x ⊕ total xs
+
+-- the sum of what f gives at each pair of two lists side by side
+unfoldable pub summed : {A : Type 0} → (A → ℕ → ℕ) → List A → List ℕ → ℕ
+summed f [] xs = 0
+summed f (m ∷ ms) [] = 0
+summed f (m ∷ ms) (x ∷ xs) = f m x ⊕ summed f ms xs

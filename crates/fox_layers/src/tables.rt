@@ -5,6 +5,8 @@
 // replaced-box, gathered-mu4 and gathered-mu8 say that it is sigma, and mu after sigma.
 ghost use mathlib.Core.Path.{_≡_};
 ghost use mathlib.Core.List.{[], _∷_};
+ghost use Prim.Native.Nat.{_%_};
+ghost use lib.ListN.{getD};
 ghost use Rattle.fox_layers.specs.Words.{split};
 ghost use Rattle.fox_layers.specs.Tables.{replaced, gathered};
 use crate::words::join4;
@@ -14,14 +16,33 @@ pub mod joined4;
 pub mod joined8;
 pub mod whole_box;
 
+fn of_box(t: &[u8; 256], i: u64) -> u8
+    ensures { λ r. ⌜ r ≡ getD (now (t .entry)) (i % 256) 0 ⌝ }
+{
+    t[(i % 256) as usize]
+}
+
+fn of_joined4(t: &[u32; 256], i: u32) -> u32
+    ensures { λ r. ⌜ r ≡ getD (now (t .entry)) (i % 256) 0 ⌝ }
+{
+    t[(i % 256) as usize]
+}
+
+fn of_joined8(t: &[u64; 256], i: u64) -> u64
+    ensures { λ r. ⌜ r ≡ getD (now (t .entry)) (i % 256) 0 ⌝ }
+{
+    t[(i % 256) as usize]
+}
+
 pub fn sigma4(t: &[u8; 256], w: u32) -> u32
     ensures { λ r. ⌜ r ≡ replaced (now (t .entry)) 4 w ⌝ }
 {
+    let v = w as u64;
     join4(
-        t[(w / 0x0100_0000 % 256) as usize],
-        t[(w / 0x0001_0000 % 256) as usize],
-        t[(w / 0x0000_0100 % 256) as usize],
-        t[(w % 256) as usize],
+        of_box(t, v / 0x0100_0000),
+        of_box(t, v / 0x0001_0000),
+        of_box(t, v / 0x0000_0100),
+        of_box(t, v),
     )
 }
 
@@ -29,14 +50,14 @@ pub fn sigma8(t: &[u8; 256], w: u64) -> u64
     ensures { λ r. ⌜ r ≡ replaced (now (t .entry)) 8 w ⌝ }
 {
     join8(
-        t[(w / 0x0100_0000_0000_0000 % 256) as usize],
-        t[(w / 0x0001_0000_0000_0000 % 256) as usize],
-        t[(w / 0x0000_0100_0000_0000 % 256) as usize],
-        t[(w / 0x0000_0001_0000_0000 % 256) as usize],
-        t[(w / 0x0000_0000_0100_0000 % 256) as usize],
-        t[(w / 0x0000_0000_0001_0000 % 256) as usize],
-        t[(w / 0x0000_0000_0000_0100 % 256) as usize],
-        t[(w % 256) as usize],
+        of_box(t, w / 0x0100_0000_0000_0000),
+        of_box(t, w / 0x0001_0000_0000_0000),
+        of_box(t, w / 0x0000_0100_0000_0000),
+        of_box(t, w / 0x0000_0001_0000_0000),
+        of_box(t, w / 0x0000_0000_0100_0000),
+        of_box(t, w / 0x0000_0000_0001_0000),
+        of_box(t, w / 0x0000_0000_0000_0100),
+        of_box(t, w),
     )
 }
 
@@ -49,10 +70,10 @@ pub fn sigma_mu4<'a>(
 ) -> u32
     ensures { λ r. ⌜ r ≡ gathered (now (a .entry) ∷ now (b .entry) ∷ now (c .entry) ∷ now (d .entry) ∷ []) (split 4 w) ⌝ }
 {
-    a[(w / 0x0100_0000 % 256) as usize]
-        ^ b[(w / 0x0001_0000 % 256) as usize]
-        ^ c[(w / 0x0000_0100 % 256) as usize]
-        ^ d[(w % 256) as usize]
+    of_joined4(a, w / 0x0100_0000)
+        ^ of_joined4(b, w / 0x0001_0000)
+        ^ of_joined4(c, w / 0x0000_0100)
+        ^ of_joined4(d, w)
 }
 
 pub fn sigma_mu8<'a>(
@@ -68,12 +89,12 @@ pub fn sigma_mu8<'a>(
 ) -> u64
     ensures { λ r. ⌜ r ≡ gathered (now (a .entry) ∷ now (b .entry) ∷ now (c .entry) ∷ now (d .entry) ∷ now (e .entry) ∷ now (f .entry) ∷ now (g .entry) ∷ now (h .entry) ∷ []) (split 8 w) ⌝ }
 {
-    a[(w / 0x0100_0000_0000_0000 % 256) as usize]
-        ^ b[(w / 0x0001_0000_0000_0000 % 256) as usize]
-        ^ c[(w / 0x0000_0100_0000_0000 % 256) as usize]
-        ^ d[(w / 0x0000_0001_0000_0000 % 256) as usize]
-        ^ e[(w / 0x0000_0000_0100_0000 % 256) as usize]
-        ^ f[(w / 0x0000_0000_0001_0000 % 256) as usize]
-        ^ g[(w / 0x0000_0000_0000_0100 % 256) as usize]
-        ^ h[(w % 256) as usize]
+    of_joined8(a, w / 0x0100_0000_0000_0000)
+        ^ of_joined8(b, w / 0x0001_0000_0000_0000)
+        ^ of_joined8(c, w / 0x0000_0100_0000_0000)
+        ^ of_joined8(d, w / 0x0000_0001_0000_0000)
+        ^ of_joined8(e, w / 0x0000_0000_0100_0000)
+        ^ of_joined8(f, w / 0x0000_0000_0001_0000)
+        ^ of_joined8(g, w / 0x0000_0000_0000_0100)
+        ^ of_joined8(h, w)
 }

@@ -1,4 +1,4 @@
--- A row times a column is a sum of products, and a matrix product is the sum of the matrix's columns, each times its byte: row by row, the first byte's products come off as a column.
+-- A matrix product is the sum of the matrix's columns, each times its byte: row by row, the first byte's products come off as a column.
 -- Assumes nothing.
 use mathlib.Core.Path.{_≡_, refl, sym, ap, ap₂, _∙_}
 use mathlib.Core.List.{List, [], _∷_, map}
@@ -7,23 +7,12 @@ use native.Mathlib.Nat.{zero-lt-suc}
 use native.Mathlib.Omega.{arith}
 use lib.ListN.{length, getD, drop, length-map}
 use lib.Seq.{drop-cons}
-use Rattle.fox_layers.specs.Words.{_⊕_, Bytes, sum, total}
+use Rattle.fox_layers.specs.Words.{Bytes, sum, summed}
 use Rattle.fox_layers.specs.Field.{product}
 use Rattle.fox_layers.specs.Diffusion.{dot, times}
 use Rattle.fox_layers.specs.Tables.{column}
 use Rattle.fox_layers.proofs.Laws.Words.{length-sum, sum-bytes}
 use Rattle.fox_layers.proofs.Laws.Field.{product-lt}
-
-infixr 40 _▸_
--- the numbers of the third list are the products of a row's entries with a column's bytes
-pub data Products : List ℕ → List ℕ → List ℕ → Type 0 where
-  done : Products [] [] []
-  _▸_ : {m x y : ℕ} {ms xs ys : List ℕ} → y ≡ product m x → Products ms xs ys → Products (m ∷ ms) (x ∷ xs) (y ∷ ys)
-
-pub products-dot : {ms xs ys : List ℕ} → Products ms xs ys → total ys ≡ dot ms xs
-unfolding total dot
-products-dot done = refl
-products-dot (e ▸ es) = ap₂ (λ (a b : ℕ). a ⊕ b) e (products-dot es)
 
 -- each row of a matrix has n entries
 abbrev pub Wide : ℕ → List (List ℕ) → Type 0
@@ -44,7 +33,7 @@ from : List (List ℕ) → ℕ → List ℕ → List ℕ
 from rows j xs = map (λ (row : List ℕ). dot (drop j row) xs) rows
 
 dot-nil : (ms : List ℕ) → dot ms [] ≡ 0
-unfolding dot
+unfolding dot summed
 dot-nil [] = refl
 dot-nil (m ∷ ms) = refl
 
@@ -55,7 +44,7 @@ from-nil (row ∷ rows) j = ap₂ (λ (x : ℕ) (xs : List ℕ). x ∷ xs) (dot-
 
 from-cons : (rows : List (List ℕ)) (n j x : ℕ) (xs : List ℕ) → Wide n rows → j < n
     → from rows j (x ∷ xs) ≡ sum (multiple (column j rows) x) (from rows (suc j) xs)
-unfolding from dot sum column
+unfolding from dot summed sum column
 from-cons [] n j x xs w h = refl
 from-cons (row ∷ rows) n j x xs w h =
     let inside : j < length row = omega (arith, w .0) in

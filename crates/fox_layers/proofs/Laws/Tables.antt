@@ -7,11 +7,10 @@ use Prim.Native.Nat.{ℕ, zero, suc, _+_, _*_, _^_, _<_}
 use native.Mathlib.Nat.{zero-mul, zero-lt-suc}
 use native.Mathlib.Omega.{arith}
 use lib.ListN.{length, getD, length-map}
-use Rattle.fox_layers.specs.Words.{_⊕_, joined, split, Bytes, sum, total}
+use Rattle.fox_layers.specs.Words.{_⊕_, joined, split, Bytes, sum, summed}
 use Rattle.fox_layers.specs.Substitution.{S₁, S₂, S₃, halves, whole, or4, lmid4, lmor4, sbox, sigma}
 use Rattle.fox_layers.specs.Diffusion.{times, diffused, mu4Rows, mu8Rows, mu4, mu8}
 use Rattle.fox_layers.specs.Tables.{table, box, column, scaled, joinedTable, replaced, gathered}
-use Rattle.fox_layers.proofs.Laws.Xor.{running, running-total}
 use Rattle.fox_layers.proofs.Laws.Words.{length-split, split-bytes, split-joined, joined-sum}
 use Rattle.fox_layers.proofs.Laws.Bytewise.{below, table-at}
 use Rattle.fox_layers.proofs.Laws.Matrix.{Wide, multiple, columns, times-columns, length-columns, multiple-bytes, columns-bytes}
@@ -43,25 +42,6 @@ pub replaced-box : (n w : ℕ) → replaced box n w ≡ sigma n w
 unfolding replaced sigma
 replaced-box n w = ap joined (box-at (split n w) (split-bytes n w))
 
--- the entries that bytes pick, each from a table of its own
-abbrev pub entries : List (List ℕ) → List ℕ → List ℕ
-entries [] xs = []
-entries (t ∷ ts) [] = []
-entries (t ∷ ts) (x ∷ xs) = getD t x 0 ∷ entries ts xs
-
-total-entries : (ts : List (List ℕ)) (xs : List ℕ) → total (entries ts xs) ≡ gathered ts xs
-unfolding total gathered
-total-entries [] xs = refl
-total-entries (t ∷ ts) [] = refl
-total-entries (t ∷ ts) (x ∷ xs) = ap (λ (n : ℕ). getD t x 0 ⊕ n) (total-entries ts xs)
-
--- entries added up from the left, as code does it
-pub running-gathered : (t : List ℕ) (ts : List (List ℕ)) (x : ℕ) (xs : List ℕ)
-    → running (getD t x 0) (entries ts xs) ≡ gathered (t ∷ ts) (x ∷ xs)
-unfolding gathered
-running-gathered t ts x xs =
-    running-total (getD t x 0) (entries ts xs) ∙ ap (λ (n : ℕ). getD t x 0 ⊕ n) (total-entries ts xs)
-
 -- the n joined tables of a matrix from number j on
 unfoldable pub joinedTables : List (List ℕ) → ℕ → ℕ → List (List ℕ)
 joinedTables rows zero j = []
@@ -75,7 +55,7 @@ joined-zeros (row ∷ rows) =
 
 gathered-columns : (rows : List (List ℕ)) (j : ℕ) (xs : List ℕ) → Bytes xs
     → gathered (joinedTables rows (length xs) j) xs ≡ joined (columns rows j (map sbox xs))
-unfolding gathered joinedTables joinedTable scaled column columns
+unfolding gathered summed joinedTables joinedTable scaled column columns
 gathered-columns rows j [] h = sym (joined-zeros rows)
 gathered-columns rows j (x ∷ xs) h =
     let ms = multiple (column j rows) (sbox x) in

@@ -3,7 +3,7 @@
 use mathlib.Core.Path.{_≡_, refl, sym, ap, ap₂, _∙_}
 use mathlib.Core.List.{List, [], _∷_, _++_}
 use Prim.Native.Nat.{ℕ, zero, suc, _+_, _*_, _/_, _%_, _^_, _<_}
-use native.Mathlib.Nat.{add-comm, add-assoc, zero-add, zero-mul, mul-assoc, add-mul, mul-suc, mul-add, mod-lt, mod-one, mod-eq-of-lt, zero-lt-suc, suc-inj, add-mul-div-right, mul-add-mod-self-right}
+use native.Mathlib.Nat.{add-comm, add-assoc, zero-add, zero-mul, mul-assoc, add-mul, mul-suc, mul-add, mod-lt, mod-one, div-one, mod-eq-of-lt, zero-lt-suc, suc-inj, add-mul-div-right, mul-add-mod-self-right}
 use native.Mathlib.Omega.{arith}
 use lib.Arith.{digits-lt}
 use lib.Pow.{pow-add, pow-pos, mod-pow-add, high}
@@ -113,3 +113,12 @@ split-xor (suc n) v w =
     ap₂ (λ (x : ℕ) (xs : List ℕ). x ∷ xs)
     (ap (λ (m : ℕ). m % 256) (xor-shr v w (8 * n)) ∙ xor-mod (v / 2 ^ (8 * n)) (w / 2 ^ (8 * n)) 8)
     (split-xor n v w)
+
+-- the bytes of a word of four and of eight, as code writes them: the last is not divided
+pub split-4 : (w : ℕ) → split 4 w ≡ w / 0x1000000 % 256 ∷ w / 0x10000 % 256 ∷ w / 0x100 % 256 ∷ w % 256 ∷ []
+unfolding split
+split-4 w = rw div-one
+
+pub split-8 : (w : ℕ) → split 8 w ≡ w / 0x100000000000000 % 256 ∷ w / 0x1000000000000 % 256 ∷ w / 0x10000000000 % 256 ∷ w / 0x100000000 % 256 ∷ w / 0x1000000 % 256 ∷ w / 0x10000 % 256 ∷ w / 0x100 % 256 ∷ w % 256 ∷ []
+unfolding split
+split-8 w = rw div-one

@@ -6,7 +6,7 @@ use Prim.Native.Nat.{ℕ, zero, suc, _+_, _*_, _/_, _%_, _<_}
 use native.Mathlib.Nat.{mod-lt, zero-lt-suc, not-suc-le-zero, le-of-suc-le-suc}
 use lib.Arith.{bin-ind, digits-mod}
 use lib.Bits.{differ, xor-step, xor-shr, xor-zero-l, xor-zero-r, xor-self}
-use Rattle.fox_layers.specs.Words.{_⊕_, total}
+use Rattle.fox_layers.specs.Words.{_⊕_, total, summed}
 pub use lib.Bits.{xor-comm, xor-zero-l as zero-xor, xor-zero-r as xor-zero, xor-self as xor-same, xor-lt}
 
 -- a number below two is 0 or 1, so the law of one digit has eight cases, which compute
@@ -74,3 +74,14 @@ pub running-total : (a : ℕ) (xs : List ℕ) → running a xs ≡ a ⊕ total x
 unfolding total
 running-total a [] = sym (xor-zero-r a)
 running-total a (x ∷ xs) = running-total (a ⊕ x) xs ∙ xor-assoc a x (total xs)
+
+infixr 40 _▸_
+-- the numbers of the third list are what f gives at each pair of the first two
+pub data Terms {A : Type 0} (f : A → ℕ → ℕ) : List A → List ℕ → List ℕ → Type 0 where
+  done : Terms f [] [] []
+  _▸_ : {m : A} {x y : ℕ} {ms : List A} {xs ys : List ℕ} → y ≡ f m x → Terms f ms xs ys → Terms f (m ∷ ms) (x ∷ xs) (y ∷ ys)
+
+pub terms-summed : {A : Type 0} {f : A → ℕ → ℕ} {ms : List A} {xs ys : List ℕ} → Terms f ms xs ys → total ys ≡ summed f ms xs
+unfolding total summed
+terms-summed done = refl
+terms-summed (e ▸ es) = ap₂ (λ (a b : ℕ). a ⊕ b) e (terms-summed es)

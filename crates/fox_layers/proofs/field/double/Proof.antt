@@ -1,6 +1,5 @@
 -- `field::double` meets its contract: the test on the byte is the definition's, and either way of moving it left is the same number.
 -- Assumes nothing.
-use borrow.Author.Needs.{needs}
 use native.Mathlib.Omega.{arith}
 use borrow.Author.Tests.{lt-ltb, le-ltb}
 use mathlib.Core.Path.{_≡_, ap}
@@ -11,10 +10,10 @@ use Rattle.fox_layers.proofs.field.double.Statement.{statement}
 use Rattle.fox_layers.proofs.field.double.Tie as tie
 
 mul-result : tie.Need-mul-result
-mul-result c = search needs
+mul-result c = omega arith
 
 mul-result-2 : tie.Need-mul-result-2
-mul-result-2 c = search needs
+mul-result-2 c = omega arith
 
 returns : tie.Need-returns
 unfolding double

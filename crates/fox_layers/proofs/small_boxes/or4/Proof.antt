@@ -1,6 +1,5 @@
 -- `small_boxes::or4` meets its contract, which has its sum word by word. The sum fits a byte, since a byte over 4 has six bits.
 -- Assumes nothing.
-use borrow.Author.Needs.{needs}
 use mathlib.Core.Path.{refl}
 use Prim.Native.Nat.{_/_, _%_}
 use native.Mathlib.Omega.{arith}
@@ -10,7 +9,7 @@ use Rattle.fox_layers.proofs.small_boxes.or4.Statement.{statement}
 use Rattle.fox_layers.proofs.small_boxes.or4.Tie as tie
 
 mul-result : tie.Need-mul-result
-mul-result c = search needs
+mul-result c = omega arith
 
 add-result : tie.Need-add-result
 add-result c =

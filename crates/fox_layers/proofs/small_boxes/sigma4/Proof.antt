@@ -30,9 +30,10 @@ returns : tie.Need-returns
 unfolding sigma
 returns c =
     let s = c .before .before .before .before .before in
-    let bytes = s .split4 .result in
-    let boxed : c .before .before .before .before .sbox .result ∷ c .before .before .before .sbox2 .result ∷ c .before .before .sbox3 .result ∷ c .before .sbox4 .result ∷ [] ≡ map sbox (bytes .x0 ∷ bytes .x1 ∷ bytes .x2 ∷ bytes .x3 ∷ []) = cc in
-    c .join4 .ensures ∙ ap joined (boxed ∙ ap (map sbox) (s .split4 .ensures))
+    c .join4 .ensures
+    ∙ ap joined
+    ((λ i. c .before .before .before .before .sbox .ensures i ∷ c .before .before .before .sbox2 .ensures i ∷ c .before .before .sbox3 .ensures i ∷ c .before .sbox4 .ensures i ∷ [])
+    ∙ ap (map sbox) (s .split4 .ensures))
 
 pub sigma4-spec : {M : Type 1} → statement M
 sigma4-spec =

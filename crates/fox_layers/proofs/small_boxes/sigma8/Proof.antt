@@ -42,9 +42,10 @@ returns : tie.Need-returns
 unfolding sigma
 returns c =
     let s = c .before .before .before .before .before .before .before .before .before in
-    let bytes = s .split8 .result in
-    let boxed : c .before .before .before .before .before .before .before .before .sbox .result ∷ c .before .before .before .before .before .before .before .sbox2 .result ∷ c .before .before .before .before .before .before .sbox3 .result ∷ c .before .before .before .before .before .sbox4 .result ∷ c .before .before .before .before .sbox5 .result ∷ c .before .before .before .sbox6 .result ∷ c .before .before .sbox7 .result ∷ c .before .sbox8 .result ∷ [] ≡ map sbox (bytes .x0 ∷ bytes .x1 ∷ bytes .x2 ∷ bytes .x3 ∷ bytes .x4 ∷ bytes .x5 ∷ bytes .x6 ∷ bytes .x7 ∷ []) = cc in
-    c .join8 .ensures ∙ ap joined (boxed ∙ ap (map sbox) (s .split8 .ensures))
+    c .join8 .ensures
+    ∙ ap joined
+    ((λ i. c .before .before .before .before .before .before .before .before .sbox .ensures i ∷ c .before .before .before .before .before .before .before .sbox2 .ensures i ∷ c .before .before .before .before .before .before .sbox3 .ensures i ∷ c .before .before .before .before .before .sbox4 .ensures i ∷ c .before .before .before .before .sbox5 .ensures i ∷ c .before .before .before .sbox6 .ensures i ∷ c .before .before .sbox7 .ensures i ∷ c .before .sbox8 .ensures i ∷ [])
+    ∙ ap (map sbox) (s .split8 .ensures))
 
 pub sigma8-spec : {M : Type 1} → statement M
 sigma8-spec =

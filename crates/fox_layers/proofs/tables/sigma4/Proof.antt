@@ -1,54 +1,42 @@
 -- `tables::sigma4` meets its contract: the entries that it joins are those that the definition names.
 -- Assumes nothing.
 use borrow.Author.Needs.{needs}
-use native.Mathlib.Nat.{div-one}
-use Rattle.fox_layers.specs.Words.{split}
+use mathlib.Core.Path.{ap, _∙_}
+use mathlib.Core.List.{[], _∷_}
+use Rattle.fox_layers.specs.Words.{joined}
 use Rattle.fox_layers.specs.Tables.{replaced}
+use Rattle.fox_layers.proofs.Laws.Words.{split-4}
 use Rattle.fox_layers.proofs.tables.sigma4.Statement.{statement}
 use Rattle.fox_layers.proofs.tables.sigma4.Tie as tie
 
-cast-join4 : tie.Need-cast-join4
-cast-join4 c = search needs
+of-box-requires : tie.Need-of-box-requires
+of-box-requires c κs = search needs
 
-element-copy-out-join4 : tie.Need-element-copy-out-join4
-element-copy-out-join4 c = search needs
+of-box-requires-2 : tie.Need-of-box-requires-2
+of-box-requires-2 c κs = search needs
 
-cast-join4-2 : tie.Need-cast-join4-2
-cast-join4-2 c = search needs
+of-box-requires-3 : tie.Need-of-box-requires-3
+of-box-requires-3 c κs = search needs
 
-element-copy-out-join4-2 : tie.Need-element-copy-out-join4-2
-element-copy-out-join4-2 c = search needs
-
-cast-join4-3 : tie.Need-cast-join4-3
-cast-join4-3 c = search needs
-
-element-copy-out-join4-3 : tie.Need-element-copy-out-join4-3
-element-copy-out-join4-3 c = search needs
-
-cast-join4-4 : tie.Need-cast-join4-4
-cast-join4-4 c = search needs
-
-element-copy-out-join4-4 : tie.Need-element-copy-out-join4-4
-element-copy-out-join4-4 c = search needs
+of-box-requires-4 : tie.Need-of-box-requires-4
+of-box-requires-4 c κs = search needs
 
 join4-requires : tie.Need-join4-requires
 join4-requires c κs = search needs
 
 returns : tie.Need-returns
-unfolding split replaced
-returns c = rw div-one (c .join4 .ensures)
+unfolding replaced
+returns c =
+    rw (split-4 (c .before .before .before .before .before .args .w))
+    (c .join4 .ensures ∙ ap joined (λ i. c .before .before .before .before .of-box .ensures i ∷ c .before .before .before .of-box2 .ensures i ∷ c .before .before .of-box3 .ensures i ∷ c .before .of-box4 .ensures i ∷ []))
 
 pub sigma4-spec : {M : Type 1} → statement M
 sigma4-spec =
     tie.close
     (tie.spec
-    cast-join4
-    element-copy-out-join4
-    cast-join4-2
-    element-copy-out-join4-2
-    cast-join4-3
-    element-copy-out-join4-3
-    cast-join4-4
-    element-copy-out-join4-4
+    of-box-requires
+    of-box-requires-2
+    of-box-requires-3
+    of-box-requires-4
     join4-requires
     returns)

@@ -1,54 +1,58 @@
 -- `tables::sigma8` meets its contract: the entries that it joins are those that the definition names.
 -- Assumes nothing.
 use borrow.Author.Needs.{needs}
-use native.Mathlib.Nat.{div-one}
-use Rattle.fox_layers.specs.Words.{split}
+use mathlib.Core.Path.{ap, _∙_}
+use mathlib.Core.List.{[], _∷_}
+use Rattle.fox_layers.specs.Words.{joined}
 use Rattle.fox_layers.specs.Tables.{replaced}
+use Rattle.fox_layers.proofs.Laws.Words.{split-8}
 use Rattle.fox_layers.proofs.tables.sigma8.Statement.{statement}
 use Rattle.fox_layers.proofs.tables.sigma8.Tie as tie
 
-element-copy-out-join8 : tie.Need-element-copy-out-join8
-element-copy-out-join8 c = search needs
+of-box-requires : tie.Need-of-box-requires
+of-box-requires c κs = search needs
 
-element-copy-out-join8-2 : tie.Need-element-copy-out-join8-2
-element-copy-out-join8-2 c = search needs
+of-box-requires-2 : tie.Need-of-box-requires-2
+of-box-requires-2 c κs = search needs
 
-element-copy-out-join8-3 : tie.Need-element-copy-out-join8-3
-element-copy-out-join8-3 c = search needs
+of-box-requires-3 : tie.Need-of-box-requires-3
+of-box-requires-3 c κs = search needs
 
-element-copy-out-join8-4 : tie.Need-element-copy-out-join8-4
-element-copy-out-join8-4 c = search needs
+of-box-requires-4 : tie.Need-of-box-requires-4
+of-box-requires-4 c κs = search needs
 
-element-copy-out-join8-5 : tie.Need-element-copy-out-join8-5
-element-copy-out-join8-5 c = search needs
+of-box-requires-5 : tie.Need-of-box-requires-5
+of-box-requires-5 c κs = search needs
 
-element-copy-out-join8-6 : tie.Need-element-copy-out-join8-6
-element-copy-out-join8-6 c = search needs
+of-box-requires-6 : tie.Need-of-box-requires-6
+of-box-requires-6 c κs = search needs
 
-element-copy-out-join8-7 : tie.Need-element-copy-out-join8-7
-element-copy-out-join8-7 c = search needs
+of-box-requires-7 : tie.Need-of-box-requires-7
+of-box-requires-7 c κs = search needs
 
-element-copy-out-join8-8 : tie.Need-element-copy-out-join8-8
-element-copy-out-join8-8 c = search needs
+of-box-requires-8 : tie.Need-of-box-requires-8
+of-box-requires-8 c κs = search needs
 
 join8-requires : tie.Need-join8-requires
 join8-requires c κs = search needs
 
 returns : tie.Need-returns
-unfolding split replaced
-returns c = rw div-one (c .join8 .ensures)
+unfolding replaced
+returns c =
+    rw (split-8 (c .before .before .before .before .before .before .before .before .before .args .w))
+    (c .join8 .ensures ∙ ap joined (λ i. c .before .before .before .before .before .before .before .before .of-box .ensures i ∷ c .before .before .before .before .before .before .before .of-box2 .ensures i ∷ c .before .before .before .before .before .before .of-box3 .ensures i ∷ c .before .before .before .before .before .of-box4 .ensures i ∷ c .before .before .before .before .of-box5 .ensures i ∷ c .before .before .before .of-box6 .ensures i ∷ c .before .before .of-box7 .ensures i ∷ c .before .of-box8 .ensures i ∷ []))
 
 pub sigma8-spec : {M : Type 1} → statement M
 sigma8-spec =
     tie.close
     (tie.spec
-    element-copy-out-join8
-    element-copy-out-join8-2
-    element-copy-out-join8-3
-    element-copy-out-join8-4
-    element-copy-out-join8-5
-    element-copy-out-join8-6
-    element-copy-out-join8-7
-    element-copy-out-join8-8
+    of-box-requires
+    of-box-requires-2
+    of-box-requires-3
+    of-box-requires-4
+    of-box-requires-5
+    of-box-requires-6
+    of-box-requires-7
+    of-box-requires-8
     join8-requires
     returns)

@@ -1,72 +1,40 @@
 -- `tables::sigma_mu4` meets its contract: the entries that it adds up are those that the definition names, bracketed from the left.
 -- Assumes nothing.
 use borrow.Author.Needs.{needs}
-use native.Mathlib.Nat.{div-one}
+use mathlib.Core.Path.{_∙_}
 use mathlib.Core.List.{[], _∷_}
-use Prim.Native.Nat.{_/_, _%_}
-use denote.Ref.{now}
-use Rattle.fox_layers.specs.Words.{split}
-use Rattle.fox_layers.proofs.Laws.Tables.{running-gathered}
+use Rattle.fox_layers.specs.Words.{total}
+use Rattle.fox_layers.specs.Tables.{gathered}
+use Rattle.fox_layers.proofs.Laws.Words.{split-4}
+use Rattle.fox_layers.proofs.Laws.Xor.{running-total, done, _▸_, terms-summed}
 use Rattle.fox_layers.proofs.tables.sigma_mu4.Statement.{statement}
 use Rattle.fox_layers.proofs.tables.sigma_mu4.Tie as tie
 
-cast-result : tie.Need-cast-result
-cast-result c = search needs
+of-joined4-requires : tie.Need-of-joined4-requires
+of-joined4-requires c κs = search needs
 
-mul-result : tie.Need-mul-result
-mul-result c = search needs
+of-joined4-requires-2 : tie.Need-of-joined4-requires-2
+of-joined4-requires-2 c κs = search needs
 
-element-copy-out-result : tie.Need-element-copy-out-result
-element-copy-out-result c = search needs
+of-joined4-requires-3 : tie.Need-of-joined4-requires-3
+of-joined4-requires-3 c κs = search needs
 
-cast-result-2 : tie.Need-cast-result-2
-cast-result-2 c = search needs
-
-mul-result-2 : tie.Need-mul-result-2
-mul-result-2 c = search needs
-
-element-copy-out-result-2 : tie.Need-element-copy-out-result-2
-element-copy-out-result-2 c = search needs
-
-cast-result-3 : tie.Need-cast-result-3
-cast-result-3 c = search needs
-
-mul-result-3 : tie.Need-mul-result-3
-mul-result-3 c = search needs
-
-element-copy-out-result-3 : tie.Need-element-copy-out-result-3
-element-copy-out-result-3 c = search needs
-
-cast-result-4 : tie.Need-cast-result-4
-cast-result-4 c = search needs
-
-mul-result-4 : tie.Need-mul-result-4
-mul-result-4 c = search needs
-
-element-copy-out-result-4 : tie.Need-element-copy-out-result-4
-element-copy-out-result-4 c = search needs
+of-joined4-requires-4 : tie.Need-of-joined4-requires-4
+of-joined4-requires-4 c κs = search needs
 
 returns : tie.Need-returns
-unfolding split
+unfolding total gathered
 returns c =
-    let s = c .before .before .before .before .args in
-    rw div-one
-    (running-gathered (now (s .a)) (now (s .b) ∷ now (s .c) ∷ now (s .d) ∷ []) (s .w / 0x1000000 % 256) (s .w / 0x10000 % 256 ∷ s .w / 0x100 % 256 ∷ s .w % 256 ∷ []))
+    rw (split-4 (c .before .before .before .before .args .w))
+    (running-total (c .before .before .before .of-joined4 .result) (c .before .before .of-joined42 .result ∷ c .before .of-joined43 .result ∷ c .of-joined44 .result ∷ [])
+    ∙ terms-summed (c .before .before .before .of-joined4 .ensures ▸ c .before .before .of-joined42 .ensures ▸ c .before .of-joined43 .ensures ▸ c .of-joined44 .ensures ▸ done))
 
 pub sigma-mu4-spec : {M : Type 1} → statement M
 sigma-mu4-spec =
     tie.close
     (tie.spec
-    cast-result
-    mul-result
-    element-copy-out-result
-    cast-result-2
-    mul-result-2
-    element-copy-out-result-2
-    cast-result-3
-    mul-result-3
-    element-copy-out-result-3
-    cast-result-4
-    mul-result-4
-    element-copy-out-result-4
+    of-joined4-requires
+    of-joined4-requires-2
+    of-joined4-requires-3
+    of-joined4-requires-4
     returns)

@@ -1,88 +1,56 @@
 -- `tables::sigma_mu8` meets its contract: the entries that it adds up are those that the definition names, bracketed from the left.
 -- Assumes nothing.
 use borrow.Author.Needs.{needs}
-use native.Mathlib.Nat.{div-one}
+use mathlib.Core.Path.{_∙_}
 use mathlib.Core.List.{[], _∷_}
-use Prim.Native.Nat.{_/_, _%_}
-use denote.Ref.{now}
-use Rattle.fox_layers.specs.Words.{split}
-use Rattle.fox_layers.proofs.Laws.Tables.{running-gathered}
+use Rattle.fox_layers.specs.Words.{total}
+use Rattle.fox_layers.specs.Tables.{gathered}
+use Rattle.fox_layers.proofs.Laws.Words.{split-8}
+use Rattle.fox_layers.proofs.Laws.Xor.{running-total, done, _▸_, terms-summed}
 use Rattle.fox_layers.proofs.tables.sigma_mu8.Statement.{statement}
 use Rattle.fox_layers.proofs.tables.sigma_mu8.Tie as tie
 
-mul-result : tie.Need-mul-result
-mul-result c = search needs
+of-joined8-requires : tie.Need-of-joined8-requires
+of-joined8-requires c κs = search needs
 
-element-copy-out-result : tie.Need-element-copy-out-result
-element-copy-out-result c = search needs
+of-joined8-requires-2 : tie.Need-of-joined8-requires-2
+of-joined8-requires-2 c κs = search needs
 
-mul-result-2 : tie.Need-mul-result-2
-mul-result-2 c = search needs
+of-joined8-requires-3 : tie.Need-of-joined8-requires-3
+of-joined8-requires-3 c κs = search needs
 
-element-copy-out-result-2 : tie.Need-element-copy-out-result-2
-element-copy-out-result-2 c = search needs
+of-joined8-requires-4 : tie.Need-of-joined8-requires-4
+of-joined8-requires-4 c κs = search needs
 
-mul-result-3 : tie.Need-mul-result-3
-mul-result-3 c = search needs
+of-joined8-requires-5 : tie.Need-of-joined8-requires-5
+of-joined8-requires-5 c κs = search needs
 
-element-copy-out-result-3 : tie.Need-element-copy-out-result-3
-element-copy-out-result-3 c = search needs
+of-joined8-requires-6 : tie.Need-of-joined8-requires-6
+of-joined8-requires-6 c κs = search needs
 
-mul-result-4 : tie.Need-mul-result-4
-mul-result-4 c = search needs
+of-joined8-requires-7 : tie.Need-of-joined8-requires-7
+of-joined8-requires-7 c κs = search needs
 
-element-copy-out-result-4 : tie.Need-element-copy-out-result-4
-element-copy-out-result-4 c = search needs
-
-mul-result-5 : tie.Need-mul-result-5
-mul-result-5 c = search needs
-
-element-copy-out-result-5 : tie.Need-element-copy-out-result-5
-element-copy-out-result-5 c = search needs
-
-mul-result-6 : tie.Need-mul-result-6
-mul-result-6 c = search needs
-
-element-copy-out-result-6 : tie.Need-element-copy-out-result-6
-element-copy-out-result-6 c = search needs
-
-mul-result-7 : tie.Need-mul-result-7
-mul-result-7 c = search needs
-
-element-copy-out-result-7 : tie.Need-element-copy-out-result-7
-element-copy-out-result-7 c = search needs
-
-mul-result-8 : tie.Need-mul-result-8
-mul-result-8 c = search needs
-
-element-copy-out-result-8 : tie.Need-element-copy-out-result-8
-element-copy-out-result-8 c = search needs
+of-joined8-requires-8 : tie.Need-of-joined8-requires-8
+of-joined8-requires-8 c κs = search needs
 
 returns : tie.Need-returns
-unfolding split
+unfolding total gathered
 returns c =
-    let s = c .before .before .before .before .before .before .before .before .args in
-    rw div-one
-    (running-gathered (now (s .a)) (now (s .b) ∷ now (s .c) ∷ now (s .d) ∷ now (s .e) ∷ now (s .f) ∷ now (s .g) ∷ now (s .h) ∷ []) (s .w / 0x100000000000000 % 256) (s .w / 0x1000000000000 % 256 ∷ s .w / 0x10000000000 % 256 ∷ s .w / 0x100000000 % 256 ∷ s .w / 0x1000000 % 256 ∷ s .w / 0x10000 % 256 ∷ s .w / 0x100 % 256 ∷ s .w % 256 ∷ []))
+    rw (split-8 (c .before .before .before .before .before .before .before .before .args .w))
+    (running-total (c .before .before .before .before .before .before .before .of-joined8 .result) (c .before .before .before .before .before .before .of-joined82 .result ∷ c .before .before .before .before .before .of-joined83 .result ∷ c .before .before .before .before .of-joined84 .result ∷ c .before .before .before .of-joined85 .result ∷ c .before .before .of-joined86 .result ∷ c .before .of-joined87 .result ∷ c .of-joined88 .result ∷ [])
+    ∙ terms-summed (c .before .before .before .before .before .before .before .of-joined8 .ensures ▸ c .before .before .before .before .before .before .of-joined82 .ensures ▸ c .before .before .before .before .before .of-joined83 .ensures ▸ c .before .before .before .before .of-joined84 .ensures ▸ c .before .before .before .of-joined85 .ensures ▸ c .before .before .of-joined86 .ensures ▸ c .before .of-joined87 .ensures ▸ c .of-joined88 .ensures ▸ done))
 
 pub sigma-mu8-spec : {M : Type 1} → statement M
 sigma-mu8-spec =
     tie.close
     (tie.spec
-    mul-result
-    element-copy-out-result
-    mul-result-2
-    element-copy-out-result-2
-    mul-result-3
-    element-copy-out-result-3
-    mul-result-4
-    element-copy-out-result-4
-    mul-result-5
-    element-copy-out-result-5
-    mul-result-6
-    element-copy-out-result-6
-    mul-result-7
-    element-copy-out-result-7
-    mul-result-8
-    element-copy-out-result-8
+    of-joined8-requires
+    of-joined8-requires-2
+    of-joined8-requires-3
+    of-joined8-requires-4
+    of-joined8-requires-5
+    of-joined8-requires-6
+    of-joined8-requires-7
+    of-joined8-requires-8
     returns)
