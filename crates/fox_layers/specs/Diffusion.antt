@@ -14,11 +14,10 @@ dot ms xs = summed product ms xs
 unfoldable pub times : List (List ℕ) → List ℕ → List ℕ
 times rows xs = map (λ (row : List ℕ). dot row xs) rows
 
--- α, 1/α and the constants named after them
 abbrev pub α : ℕ
 α = 0x02
 
--- §2.2.7: c = 1/α + 1, written z here, since §2.2.8 gives c another meaning
+-- 1/α + 1, which §2.2.7 calls c; §2.2.8 gives that letter another meaning
 abbrev pub z : ℕ
 z = 0xFD
 

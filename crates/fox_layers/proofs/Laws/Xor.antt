@@ -85,3 +85,7 @@ pub terms-summed : {A : Type 0} {f : A → ℕ → ℕ} {ms : List A} {xs ys : L
 unfolding total summed
 terms-summed done = refl
 terms-summed (e ▸ es) = ap₂ (λ (a b : ℕ). a ⊕ b) e (terms-summed es)
+
+-- a number that was promised to be the sum of such a list
+pub sum-of-terms : {A : Type 0} {f : A → ℕ → ℕ} {ms : List A} {xs ys : List ℕ} {r : ℕ} → r ≡ total ys → Terms f ms xs ys → r ≡ summed f ms xs
+sum-of-terms e es = e ∙ terms-summed es

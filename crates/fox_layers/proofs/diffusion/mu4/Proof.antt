@@ -9,7 +9,7 @@ use Rattle.fox_layers.specs.Diffusion.{dot, times, mu4Rows, diffused, mu
 use Rattle.fox_layers.proofs.Laws.Words.{split-bytes}
 use Rattle.fox_layers.proofs.Laws.Field.{product-01, product-02}
 use Rattle.fox_layers.specs.Words.{joined, split, Bytes}
-use Rattle.fox_layers.proofs.Laws.Xor.{done, _▸_, terms-summed}
+use Rattle.fox_layers.proofs.Laws.Xor.{done, _▸_, sum-of-terms}
 use Rattle.fox_layers.proofs.diffusion.mu4.Statement.{statement}
 use Rattle.fox_layers.proofs.diffusion.mu4.Tie as tie
 
@@ -71,10 +71,10 @@ returns c =
     let z0 = c .before .before .before .before .before .before .before .times-fd .ensures in
     let z1 = c .before .before .before .before .before .before .times-fd2 .ensures in
     let z2 = c .before .before .before .before .before .times-fd3 .ensures in
-    let r0 : c .before .before .before .before .xor4 .result ≡ dot (getD mu4Rows 0 []) xs = c .before .before .before .before .xor4 .ensures ∙ terms-summed (o0 ▸ o1 ▸ o2 ▸ d3 ▸ done) in
-    let r1 : c .before .before .before .xor42 .result ≡ dot (getD mu4Rows 1 []) xs = c .before .before .before .xor42 .ensures ∙ terms-summed (o0 ▸ z1 ▸ d2 ▸ o3 ▸ done) in
-    let r2 : c .before .before .xor43 .result ≡ dot (getD mu4Rows 2 []) xs = c .before .before .xor43 .ensures ∙ terms-summed (z0 ▸ d1 ▸ o2 ▸ o3 ▸ done) in
-    let r3 : c .before .xor44 .result ≡ dot (getD mu4Rows 3 []) xs = c .before .xor44 .ensures ∙ terms-summed (d0 ▸ o1 ▸ z2 ▸ o3 ▸ done) in
+    let r0 : c .before .before .before .before .xor4 .result ≡ dot (getD mu4Rows 0 []) xs = sum-of-terms (c .before .before .before .before .xor4 .ensures) (o0 ▸ o1 ▸ o2 ▸ d3 ▸ done) in
+    let r1 : c .before .before .before .xor42 .result ≡ dot (getD mu4Rows 1 []) xs = sum-of-terms (c .before .before .before .xor42 .ensures) (o0 ▸ z1 ▸ d2 ▸ o3 ▸ done) in
+    let r2 : c .before .before .xor43 .result ≡ dot (getD mu4Rows 2 []) xs = sum-of-terms (c .before .before .xor43 .ensures) (z0 ▸ d1 ▸ o2 ▸ o3 ▸ done) in
+    let r3 : c .before .xor44 .result ≡ dot (getD mu4Rows 3 []) xs = sum-of-terms (c .before .xor44 .ensures) (d0 ▸ o1 ▸ z2 ▸ o3 ▸ done) in
     c .join4 .ensures
     ∙ ap joined ((λ i. r0 i ∷ r1 i ∷ r2 i ∷ r3 i ∷ []) ∙ ap (times mu4Rows) same)
 

@@ -98,26 +98,30 @@ array-read-t-3 c =
 cast-t-3 : tie.Need-cast-t-3
 cast-t-3 c = omega (arith, array-read-t-3 c)
 
--- the third round's value, at whatever number, keeps both halves below 16
-left₃ : (c : tie.After-or42) (i : ℕ) → (c .or42 .result ⊕ getD S₃ i 0) < 16
-left₃ c i = both (c .or42 .result) (getD S₃ i 0) (left₂ c) (entry S₃ S₃-below i)
+-- the halves after the third round
+module _ (c : tie.After-or42) where
+  abbrev right₂-here : ℕ
+  right₂-here = right₂-is (c .before .before .args .x) (c .before .or4 .result)
 
-right₃ : (x l i : ℕ) → (right₂-is x l ⊕ getD S₃ i 0) < 16
-right₃ x l i = both (right₂-is x l) (getD S₃ i 0) (right₂ x l) (entry S₃ S₃-below i)
+  abbrev value₃ : ℕ
+  value₃ = getD S₃ (c .or42 .result ⊕ right₂-here) 0
+
+  below₃ : value₃ < 16
+  below₃ = entry S₃ S₃-below (c .or42 .result ⊕ right₂-here)
+
+  left₃ : (c .or42 .result ⊕ value₃) < 16
+  left₃ = both (c .or42 .result) value₃ (left₂ c) below₃
+
+  right₃ : (right₂-here ⊕ value₃) < 16
+  right₃ = both right₂-here value₃ (right₂ (c .before .before .args .x) (c .before .or4 .result)) below₃
 
 mul-result : tie.Need-mul-result
 unfolding S₁ S₂ S₃
-mul-result c =
-    let i = c .or42 .result ⊕ right₂-is (c .before .before .args .x) (c .before .or4 .result) in
-    omega (arith, left₃ c i)
+mul-result c = omega (arith, left₃ c, right₃ c)
 
 add-result : tie.Need-add-result
 unfolding S₁ S₂ S₃
-add-result c =
-    let x = c .before .before .args .x in
-    let l = c .before .or4 .result in
-    let i = c .or42 .result ⊕ right₂-is x l in
-    omega (arith, left₃ c i, right₃ x l i)
+add-result c = omega (arith, left₃ c, right₃ c)
 
 returns : tie.Need-returns
 unfolding sbox S₁ S₂ S₃ halves whole or4 lmid4 lmor4

@@ -1,0 +1,109 @@
+// Runs the compiled layers: values of the specification, then the card's way beside the server's way on words of a fixed sequence.
+// What it prints is held to the file `stdout`.
+ghost use Prim.Native.Nat.{_≤_};
+use fox_layers::diffusion;
+use fox_layers::small_boxes;
+use fox_layers::tables;
+use fox_layers::tables::joined4;
+use fox_layers::tables::joined8;
+use fox_layers::tables::whole_box;
+
+const WORDS: u32 = 4096;
+
+fn main() {
+    print(b"sbox 4C: ", small_boxes::sbox(0x4C) as u64, 2);
+    print(b"mu4 01000000: ", diffusion::mu4(0x0100_0000) as u64, 8);
+    print(
+        b"mu8 0100000000000000: ",
+        diffusion::mu8(0x0100_0000_0000_0000),
+        16,
+    );
+    io::write_all(1, b"32-bit words alike by both ways: ");
+    io::print_decimal(1, alike4() as u64);
+    io::write_all(1, b"\n64-bit words alike by both ways: ");
+    io::print_decimal(1, alike8() as u64);
+    io::write_all(1, b"\n");
+}
+
+fn print(name: &[u8], value: u64, width: usize) {
+    io::write_all(1, name);
+    io::print_hex(1, value, width);
+    io::write_all(1, b"\n");
+}
+
+// The next word of the sequence.
+fn next(w: u64) -> u64 {
+    let a = w ^ (w >> 12);
+    let b = a ^ (a << 25);
+    b ^ (b >> 27)
+}
+
+// 1 where both ways substitute and diffuse the word alike.
+fn same4<'a>(
+    s: &'a [u8; 256],
+    a: &'a [u32; 256],
+    b: &'a [u32; 256],
+    c: &'a [u32; 256],
+    d: &'a [u32; 256],
+    w: u32,
+) -> u32
+    ensures { λ r. ⌜ r ≤ 1 ⌝ }
+{
+    let x = small_boxes::sigma4(w);
+    if x != tables::sigma4(s, w) {
+        return 0;
+    }
+    if diffusion::mu4(x) != tables::sigma_mu4(a, b, c, d, w) {
+        return 0;
+    }
+    1
+}
+
+fn alike4() -> u32 {
+    let s = whole_box::sbox();
+    let t = joined4::tbsm();
+    let mut alike: u32 = 0;
+    let mut w: u64 = 0x0123_4567_89AB_CDEF;
+    for i in 0..WORDS {
+        w = next(w);
+        alike += same4(&s, &t.a, &t.b, &t.c, &t.d, (w % 0x1_0000_0000) as u32);
+    }
+    alike
+}
+
+// 1 where both ways substitute and diffuse the word alike.
+fn same8<'a>(
+    s: &'a [u8; 256],
+    a: &'a [u64; 256],
+    b: &'a [u64; 256],
+    c: &'a [u64; 256],
+    d: &'a [u64; 256],
+    e: &'a [u64; 256],
+    f: &'a [u64; 256],
+    g: &'a [u64; 256],
+    h: &'a [u64; 256],
+    w: u64,
+) -> u32
+    ensures { λ r. ⌜ r ≤ 1 ⌝ }
+{
+    let x = small_boxes::sigma8(w);
+    if x != tables::sigma8(s, w) {
+        return 0;
+    }
+    if diffusion::mu8(x) != tables::sigma_mu8(a, b, c, d, e, f, g, h, w) {
+        return 0;
+    }
+    1
+}
+
+fn alike8() -> u32 {
+    let s = whole_box::sbox();
+    let t = joined8::tbsm();
+    let mut alike: u32 = 0;
+    let mut w: u64 = 0x0123_4567_89AB_CDEF;
+    for i in 0..WORDS {
+        w = next(w);
+        alike += same8(&s, &t.a, &t.b, &t.c, &t.d, &t.e, &t.f, &t.g, &t.h, w);
+    }
+    alike
+}

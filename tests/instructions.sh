@@ -1,0 +1,42 @@
+#!/bin/sh
+# Counts the instructions under each symbol of tests/instructions.txt and holds them to their limit: a look-up that built its table anew
+# would take hundreds. Wants a disassembler for x86-64, for which the Rattle compiler makes its code.
+# Last line: 'N passed, M failed'.
+set -u
+cd "$(dirname "$0")/.." || exit 2
+
+disassembler=''
+for d in x86_64-linux-gnu-objdump llvm-objdump objdump; do
+    command -v "$d" >/dev/null 2>&1 || continue
+    [ "$d" != objdump ] || [ "$(uname -m)" = x86_64 ] || continue
+    disassembler=$d
+    break
+done
+if [ -z "$disassembler" ]; then
+    echo "instructions: not counted, since there is no disassembler for x86-64 here"
+    echo "0 passed, 0 failed"
+    exit 0
+fi
+
+rt staticlib fox_probe >target/log/fox_probe.staticlib 2>&1 || {
+    tail -n 5 target/log/fox_probe.staticlib
+    echo "instructions: fox_probe was not built"
+    echo "0 passed, 1 failed"
+    exit 1
+}
+"$disassembler" -d --no-show-raw-insn target/staticlib/libfox_probe.a >target/log/fox_probe.code
+
+passed=0 failed=0
+while read -r symbol limit; do
+    case $symbol in '' | '#'*) continue ;; esac
+    count=$(awk -v s="<$symbol>:" '$2 == s { on = 1; next } on && /^$/ { exit } on && /^ / { n++ } END { print n + 0 }' target/log/fox_probe.code)
+    if [ "$count" -gt 0 ] && [ "$count" -lt "$limit" ]; then
+        passed=$((passed + 1))
+        echo "instructions: $symbol takes $count, below $limit"
+    else
+        failed=$((failed + 1))
+        echo "instructions: $symbol takes $count, and is to stay below $limit: FAILED"
+    fi
+done <tests/instructions.txt
+echo "$passed passed, $failed failed"
+[ "$failed" -eq 0 ]
