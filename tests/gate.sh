@@ -28,5 +28,6 @@ part() { # NAME COMMAND..
 part "rt ci" rt ci
 part "instructions" sh tests/instructions.sh
 
-echo "$passed passed, $failed failed"
+mkdir -p target
+echo "$passed passed, $failed failed" | tee target/gate.sum
 [ "$failed" -eq 0 ]
