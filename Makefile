@@ -3,6 +3,7 @@
 .PHONY: run test count fmt clean
 
 run:
+	@echo "proving and building (about a minute the first time)"
 	@rt check fox_known >/dev/null || rt check fox_known
 	@cat target/log/fox_known.stdout
 
@@ -10,7 +11,8 @@ test:
 	@sh tests/gate.sh
 
 count:
-	@rt check fox_probe >/dev/null && sh tests/instructions.sh
+	@rt check fox_probe >/dev/null || rt check fox_probe
+	@sh tests/instructions.sh
 
 fmt:
 	@rt fmt

@@ -6,7 +6,8 @@ set -u
 cd "$(dirname "$0")/.." || exit 2
 passed=0 failed=0
 log=$(mktemp) || exit 2
-trap 'rm -f "$log"' EXIT
+trap 'rm -f "$log" "$log.status"' EXIT
+rm -f target/gate.sum
 
 part() { # NAME COMMAND..
     name=$1
@@ -14,7 +15,6 @@ part() { # NAME COMMAND..
     began=$(date +%s)
     { "$@" 2>&1; echo "$?" >"$log.status"; } | tee "$log"
     status=$(cat "$log.status")
-    rm -f "$log.status"
     set -- $(tail -n 1 "$log" | sed -n 's/^\([0-9][0-9]*\) passed, \([0-9][0-9]*\) failed$/\1 \2/p')
     if [ $# -ne 2 ]; then
         set -- 0 1

@@ -1,6 +1,7 @@
 #!/bin/sh
 # Counts the instructions under each symbol of tests/instructions.txt and holds them to their limit: a look-up that built its table anew
-# would take hundreds. Wants a disassembler for x86-64, for which the Rattle compiler makes its code.
+# would take hundreds. Code that calls or jumps is refused, since a count of lines says nothing of it. Wants a disassembler for x86-64, for
+# which the Rattle compiler makes its code.
 # Last line: 'N passed, M failed'.
 set -u
 cd "$(dirname "$0")/.." || exit 2
@@ -29,8 +30,12 @@ rt staticlib fox_probe >target/log/fox_probe.staticlib 2>&1 || {
 passed=0 failed=0
 while read -r symbol limit; do
     case $symbol in '' | '#'*) continue ;; esac
-    count=$(awk -v s="<$symbol>:" '$2 == s { on = 1; next } on && /^$/ { exit } on && /^ / { n++ } END { print n + 0 }' target/log/fox_probe.code)
-    if [ "$count" -gt 0 ] && [ "$count" -lt "$limit" ]; then
+    awk -v s="<$symbol>:" '$2 == s { on = 1; next } on && /^$/ { exit } on && /^ / { print }' target/log/fox_probe.code >target/log/fox_probe.symbol
+    count=$(wc -l <target/log/fox_probe.symbol)
+    if grep -Eq '[[:space:]](call|j[a-z]+)q?[[:space:]]' target/log/fox_probe.symbol; then
+        failed=$((failed + 1))
+        echo "instructions: $symbol calls or jumps: FAILED"
+    elif [ "$count" -gt 0 ] && [ "$count" -lt "$limit" ]; then
         passed=$((passed + 1))
         echo "instructions: $symbol takes $count, below $limit"
     else

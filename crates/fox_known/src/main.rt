@@ -13,9 +13,15 @@ const WORDS: u32 = 4096;
 fn main() {
     print(b"sbox 4C: ", small_boxes::sbox(0x4C) as u64, 2);
     print(b"mu4 01000000: ", diffusion::mu4(0x0100_0000) as u64, 8);
+    print(b"mu4 00000001: ", diffusion::mu4(0x0000_0001) as u64, 8);
     print(
         b"mu8 0100000000000000: ",
         diffusion::mu8(0x0100_0000_0000_0000),
+        16,
+    );
+    print(
+        b"mu8 0000000000000001: ",
+        diffusion::mu8(0x0000_0000_0000_0001),
         16,
     );
     io::write_all(1, b"32-bit words alike by both ways: ");

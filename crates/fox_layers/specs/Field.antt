@@ -6,13 +6,15 @@ use mathlib.Core.Bool.{cond}
 use lib.Dec.{ltb, eqb}
 use Rattle.fox_layers.specs.Words.{_⊕_}
 
--- a byte moved left once, that is times α; a bit that leaves at the top stands for α⁸, which is F9
+-- times α, 001's first operation on the field: a byte moved left once; a bit that leaves at the top stands for α⁸, which is F9. The law
+-- product-02 says that this is the product by 02
 unfoldable pub double : ℕ → ℕ
-double x = cond (ltb x 128) (x * 2) ((x * 2 - 256) ⊕ 0xF9)
+double x = let over = (x * 2 - 256) ⊕ 0xF9 in cond (ltb x 128) (x * 2) over
 
--- a byte moved right once, that is divided by α; a bit that leaves at the bottom stands for 1, and 1 over α is FC
+-- divided by α, 001's other operation on the field: a byte moved right once; a bit that leaves at the bottom stands for 1, and 1/α is FC. The
+-- law product-FC says that this is the product by FC
 unfoldable pub halve : ℕ → ℕ
-halve x = cond (eqb (x % 2) 0) (x / 2) (x / 2 ⊕ 0xFC)
+halve x = let under = x / 2 ⊕ 0xFC in cond (eqb (x % 2) 0) (x / 2) under
 
 -- §1.6.2: the product of two polynomials, over the lowest n coefficients of the first
 unfoldable pub polynomial : ℕ → ℕ → ℕ → ℕ
@@ -22,7 +24,7 @@ polynomial (suc n) x y = cond (eqb (x % 2) 0) 0 y ⊕ polynomial n (x / 2) (y * 
 -- §1.6.2: the rest of a polynomial of degree below 8 + n, divided by P: its highest coefficient is taken away first
 unfoldable pub rest : ℕ → ℕ → ℕ
 rest zero x = x
-rest (suc n) x = rest n (cond (ltb x (2 ^ (8 + n))) x (x ⊕ 0x1F9 * 2 ^ n))
+rest (suc n) x = let less = x ⊕ 0x1F9 * 2 ^ n in rest n (cond (ltb x (2 ^ (8 + n))) x less)
 
 -- §1.6.2: the product of two bytes
 unfoldable pub product : ℕ → ℕ → ℕ

@@ -1,4 +1,4 @@
--- What the promises of fox_layers cite: 001's definitions, in its order.
+-- What the promises and laws of fox_layers cite: 001's definitions, in its order.
 pub mod Words
 pub mod Field
 pub mod Substitution

@@ -4,7 +4,7 @@ use mathlib.Core.Path.{_≡_}
 use Prim.Native.Nat.{ℕ}
 use Rattle.fox_layers.specs.Field.{product}
 use Rattle.fox_layers.specs.Diffusion.{mu4Rows, mu8Rows}
-use Rattle.fox_layers.specs.Tables.{joinedTable}
+use Rattle.fox_layers.specs.Tables.{TBSM}
 use Rattle.fox_layers.specs.declared.field.Multiples.{Multiples}
 use Rattle.fox_layers.specs.declared.tables.joined4.Tables4.{Tables4}
 use Rattle.fox_layers.specs.declared.tables.joined8.Tables8.{Tables8}
@@ -20,18 +20,18 @@ pub record MultiplesOf (x : ℕ) (r : Multiples) : Type 0 where
 
 -- the joined tables of mu4 (001 §4.2.2)
 pub record Joined4 (r : Tables4) : Type 0 where
-  pub a : r .a ≡ joinedTable mu4Rows 0
-  pub b : r .b ≡ joinedTable mu4Rows 1
-  pub c : r .c ≡ joinedTable mu4Rows 2
-  pub d : r .d ≡ joinedTable mu4Rows 3
+  pub a : r .a ≡ TBSM mu4Rows 0
+  pub b : r .b ≡ TBSM mu4Rows 1
+  pub c : r .c ≡ TBSM mu4Rows 2
+  pub d : r .d ≡ TBSM mu4Rows 3
 
 -- the joined tables of mu8 (001 §4.2.2)
 pub record Joined8 (r : Tables8) : Type 0 where
-  pub a : r .a ≡ joinedTable mu8Rows 0
-  pub b : r .b ≡ joinedTable mu8Rows 1
-  pub c : r .c ≡ joinedTable mu8Rows 2
-  pub d : r .d ≡ joinedTable mu8Rows 3
-  pub e : r .e ≡ joinedTable mu8Rows 4
-  pub f : r .f ≡ joinedTable mu8Rows 5
-  pub g : r .g ≡ joinedTable mu8Rows 6
-  pub h : r .h ≡ joinedTable mu8Rows 7
+  pub a : r .a ≡ TBSM mu8Rows 0
+  pub b : r .b ≡ TBSM mu8Rows 1
+  pub c : r .c ≡ TBSM mu8Rows 2
+  pub d : r .d ≡ TBSM mu8Rows 3
+  pub e : r .e ≡ TBSM mu8Rows 4
+  pub f : r .f ≡ TBSM mu8Rows 5
+  pub g : r .g ≡ TBSM mu8Rows 6
+  pub h : r .h ≡ TBSM mu8Rows 7

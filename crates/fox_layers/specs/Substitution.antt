@@ -26,15 +26,15 @@ halves x = record { left = x / 16; right = x % 16 }
 unfoldable pub whole : Halves → ℕ
 whole h = h .left * 16 + h .right
 
--- §3.1: "or" at four bits, (a, b) to (b, a ⊕ b), two bits each
+-- §3.1, by §2.2.3: "or" at four bits, (a, b) to (b, a ⊕ b), two bits each
 unfoldable pub or4 : ℕ → ℕ
 or4 x = x % 4 * 4 + (x / 4 ⊕ x % 4)
 
--- §3.1: a round adds the small box's value at left ⊕ right to both halves
+-- §3.1, by §2.2.1: lmid at eight bits: the small box's value at left ⊕ right is added to both halves
 unfoldable pub lmid4 : List ℕ → Halves → Halves
 lmid4 s h = let t = getD s (h .left ⊕ h .right) 0 in record { left = h .left ⊕ t; right = h .right ⊕ t }
 
--- §3.1: a round, and "or" on its left half
+-- §3.1, by §2.2.1: lmor at eight bits: the same, and "or" on the left half
 unfoldable pub lmor4 : List ℕ → Halves → Halves
 lmor4 s h = let k = lmid4 s h in record { left = or4 (k .left); right = k .right }
 

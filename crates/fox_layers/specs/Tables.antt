@@ -17,7 +17,7 @@ unfoldable pub table : (ℕ → ℕ) → List ℕ
 unfolding listed
 table f = listed f 256 0
 
--- Fig. 7
+-- Fig. 7, as §3.1 computes it
 unfoldable pub box : List ℕ
 box = table sbox
 
@@ -29,9 +29,9 @@ column j rows = map (λ (row : List ℕ). getD row j 0) rows
 unfoldable pub scaled : List ℕ → ℕ → ℕ
 scaled ms x = joined (map (λ (m : ℕ). product m x) ms)
 
--- §4.2.2: table number j of a matrix, TBSM: at a, column j times the box's value at a
-unfoldable pub joinedTable : List (List ℕ) → ℕ → List ℕ
-joinedTable rows j = table (λ (x : ℕ). scaled (column j rows) (sbox x))
+-- §4.2.2: TBSM number j of a matrix has at each byte column j times the box's value
+unfoldable pub TBSM : List (List ℕ) → ℕ → List ℕ
+TBSM rows j = table (λ (x : ℕ). scaled (column j rows) (sbox x))
 
 -- each byte of a word of n bytes replaced by the lent table's entry
 unfoldable pub replaced : List ℕ → ℕ → ℕ → ℕ

@@ -1,4 +1,4 @@
-// Look-ups in tables that the caller lends (001 §4.2.2). A constant table is built anew wherever it is named, so a caller makes each
+// Look-ups in tables that the caller lends (001 §2.2.6, §4.2.2). A constant table is built anew wherever it is named, so a caller makes each
 // table a local of its own once, by the functions of whole_box, joined4 and joined8, and lends it to every look-up.
 //
 // A look-up is stated for whatever it is lent. Where that is the box, or a matrix's joined tables in their order, the laws

@@ -5,7 +5,7 @@ use mathlib.Core.Path.{_≡_, refl, sym, ap, _∙_, subst}
 use mathlib.Core.List.{List}
 use Prim.Native.Nat.{ℕ, zero, suc, _+_, _%_, _<_}
 use native.Mathlib.Nat.{add-zero, zero-add, add-suc, suc-add, le-of-suc-le-suc, not-suc-le-zero, mod-lt}
-use lib.ListN.{getD, length}
+use lib.ListN.{getD}
 use Rattle.fox_layers.specs.Tables.{listed, table}
 
 listed-at : (f : ℕ → ℕ) (n i k : ℕ) → k < n → getD (listed f n i) k 0 ≡ f (i + k)
@@ -14,18 +14,9 @@ listed-at f zero i k h = absurd (not-suc-le-zero h)
 listed-at f (suc n) i zero h = ap f (sym (add-zero i))
 listed-at f (suc n) i (suc k) h = listed-at f n (suc i) k (le-of-suc-le-suc h) ∙ ap f (suc-add i k ∙ sym (add-suc i k))
 
-length-listed : (f : ℕ → ℕ) (n i : ℕ) → length (listed f n i) ≡ n
-unfolding listed
-length-listed f zero i = refl
-length-listed f (suc n) i = ap suc (length-listed f n (suc i))
-
 pub table-at : (f : ℕ → ℕ) (x : ℕ) → x < 256 → getD (table f) x 0 ≡ f x
 unfolding table
 table-at f x h = listed-at f 256 0 x h ∙ ap f (zero-add x)
-
-pub length-table : (f : ℕ → ℕ) → length (table f) ≡ 256
-unfolding table
-length-table f = length-listed f 256 0
 
 pub agree : (f g : ℕ → ℕ) → table f ≡ table g → (x : ℕ) → x < 256 → f x ≡ g x
 agree f g same x h = sym (table-at f x h) ∙ ap (λ (t : List ℕ). getD t x 0) same ∙ table-at g x h

@@ -5,13 +5,13 @@ use mathlib.Core.List.{List, [], _∷_, map}
 use Prim.Native.Nat.{ℕ, zero, suc, _+_, _≤_, _<_}
 use native.Mathlib.Nat.{zero-lt-suc}
 use native.Mathlib.Omega.{arith}
-use lib.ListN.{length, getD, drop, length-map}
+use lib.ListN.{length, drop, length-map}
 use lib.Seq.{drop-cons}
 use Rattle.fox_layers.specs.Words.{Bytes, sum, summed}
 use Rattle.fox_layers.specs.Field.{product}
 use Rattle.fox_layers.specs.Diffusion.{dot, times}
 use Rattle.fox_layers.specs.Tables.{column}
-use Rattle.fox_layers.proofs.Laws.Words.{length-sum, sum-bytes}
+use Rattle.fox_layers.proofs.Laws.Words.{length-sum, map-bytes, sum-bytes}
 use Rattle.fox_layers.proofs.Laws.Field.{product-lt}
 
 -- each row of a matrix has n entries
@@ -71,19 +71,9 @@ length-columns rows j (x ∷ xs) =
     let same : length (multiple (column j rows) x) ≡ length rows = simp length-map in
     length-sum (multiple (column j rows) x) (columns rows (suc j) xs) (same ∙ sym (length-columns rows (suc j) xs)) ∙ same
 
-pub multiple-bytes : (ms : List ℕ) (x : ℕ) → x < 256 → Bytes (multiple ms x)
-multiple-bytes [] x h i = zero-lt-suc 255
-multiple-bytes (m ∷ ms) x h zero = product-lt m x h
-multiple-bytes (m ∷ ms) x h (suc i) = multiple-bytes ms x h i
-
-zeros-bytes : (rows : List (List ℕ)) → Bytes (map (λ (row : List ℕ). 0) rows)
-zeros-bytes [] i = zero-lt-suc 255
-zeros-bytes (row ∷ rows) zero = zero-lt-suc 255
-zeros-bytes (row ∷ rows) (suc i) = zeros-bytes rows i
-
 pub columns-bytes : (rows : List (List ℕ)) (j : ℕ) (xs : List ℕ) → Bytes xs → Bytes (columns rows j xs)
 unfolding columns
-columns-bytes rows j [] h = zeros-bytes rows
+columns-bytes rows j [] h = map-bytes (λ (row : List ℕ). 0) (λ row. zero-lt-suc 255) rows
 columns-bytes rows j (x ∷ xs) h =
-    sum-bytes (multiple (column j rows) x) (columns rows (suc j) xs) (multiple-bytes (column j rows) x (h 0))
+    sum-bytes (multiple (column j rows) x) (columns rows (suc j) xs) (map-bytes (λ (m : ℕ). product m x) (λ m. product-lt m x (h 0)) (column j rows))
     (columns-bytes rows (suc j) xs (λ i. h (suc i)))

@@ -1,18 +1,17 @@
 -- The joined tables by doubling and halving. A product worked out as the field defines it takes antt a hundred steps where a doubling takes a
 -- few, and twelve tables want twenty thousand products; so a table is computed in this form, which is the same list.
 -- Assumes nothing.
-use mathlib.Core.Path.{_≡_, refl, sym, ap, ap₂, _∙_}
+use mathlib.Core.Path.{_≡_, refl, sym, ap, ap₂, _∙_, fun-ext}
 use mathlib.Core.Bool.{Bool, true, false, cond}
 use mathlib.Core.List.{List, [], _∷_, map}
 use Prim.Native.Nat.{ℕ, zero, suc, _+_, _≤_, _<_}
-use native.Mathlib.Nat.{add-suc, suc-add}
 use native.Mathlib.Omega.{arith}
 use lib.Dec.{eqb}
 use borrow.Author.Tests.{eqb-true}
 use Rattle.fox_layers.specs.Words.{_⊕_, joined}
 use Rattle.fox_layers.specs.Field.{double, halve, product}
 use Rattle.fox_layers.specs.Substitution.{sbox}
-use Rattle.fox_layers.specs.Tables.{listed, table, column, scaled, joinedTable}
+use Rattle.fox_layers.specs.Tables.{listed, table, column, scaled, TBSM}
 use Rattle.fox_layers.proofs.Laws.Field.{product-01, product-02, product-03, product-04, product-7E, product-82, product-FC, product-FD}
 use Rattle.fox_layers.proofs.Laws.Tables.{sbox-lt}
 
@@ -60,11 +59,7 @@ quickScaled ms x = joined (map (λ (m : ℕ). quick m x) ms)
 
 quick-scaled : (ms : List ℕ) (x : ℕ) → x < 256 → scaled ms x ≡ quickScaled ms x
 unfolding scaled quickScaled
-quick-scaled ms x h = ap joined (each ms)
-  where
-    each : (ns : List ℕ) → map (λ (m : ℕ). product m x) ns ≡ map (λ (m : ℕ). quick m x) ns
-    each [] = refl
-    each (n ∷ ns) = ap₂ (λ (y : ℕ) (ys : List ℕ). y ∷ ys) (sym (quick-product n x h)) (each ns)
+quick-scaled ms x h = ap (λ (f : ℕ → ℕ). joined (map f ms)) (fun-ext (λ m. sym (quick-product m x h)))
 
 -- tables of functions that agree at every byte are the same list
 listed-same : (f g : ℕ → ℕ) → ((x : ℕ) → x < 256 → f x ≡ g x) → (n i : ℕ) → i + n ≤ 256 → listed f n i ≡ listed g n i
@@ -73,8 +68,8 @@ listed-same f g same zero i h = refl
 listed-same f g same (suc n) i h =
     ap₂ (λ (y : ℕ) (ys : List ℕ). y ∷ ys) (same i (omega arith)) (listed-same f g same n (suc i) (omega arith))
 
-pub joined-quick : (rows : List (List ℕ)) (j : ℕ) → joinedTable rows j ≡ table (λ (x : ℕ). quickScaled (column j rows) (sbox x))
-unfolding joinedTable table
+pub joined-quick : (rows : List (List ℕ)) (j : ℕ) → TBSM rows j ≡ table (λ (x : ℕ). quickScaled (column j rows) (sbox x))
+unfolding TBSM table
 joined-quick rows j =
     listed-same (λ (x : ℕ). scaled (column j rows) (sbox x)) (λ (x : ℕ). quickScaled (column j rows) (sbox x))
     (λ x h. quick-scaled (column j rows) (sbox x) (sbox-lt x h)) 256 0 (omega arith)

@@ -5,15 +5,16 @@ use mathlib.Core.Path.{_≡_, refl, sym, ap, ap₂, _∙_}
 use mathlib.Core.List.{List, [], _∷_, map}
 use Prim.Native.Nat.{ℕ, zero, suc, _+_, _*_, _^_, _<_}
 use native.Mathlib.Nat.{zero-mul, zero-lt-suc}
-use native.Mathlib.Omega.{arith}
 use lib.ListN.{length, getD, length-map}
 use Rattle.fox_layers.specs.Words.{_⊕_, joined, split, Bytes, sum, summed}
+use Rattle.fox_layers.specs.Field.{product}
 use Rattle.fox_layers.specs.Substitution.{S₁, S₂, S₃, halves, whole, or4, lmid4, lmor4, sbox, sigma}
 use Rattle.fox_layers.specs.Diffusion.{times, diffused, mu4Rows, mu8Rows, mu4, mu8}
-use Rattle.fox_layers.specs.Tables.{table, box, column, scaled, joinedTable, replaced, gathered}
-use Rattle.fox_layers.proofs.Laws.Words.{length-split, split-bytes, split-joined, joined-sum}
+use Rattle.fox_layers.specs.Tables.{table, box, column, scaled, TBSM, replaced, gathered}
+use Rattle.fox_layers.proofs.Laws.Words.{length-split, split-bytes, split-joined, joined-sum, map-bytes}
+use Rattle.fox_layers.proofs.Laws.Field.{product-lt}
 use Rattle.fox_layers.proofs.Laws.Bytewise.{below, table-at}
-use Rattle.fox_layers.proofs.Laws.Matrix.{Wide, multiple, columns, times-columns, length-columns, multiple-bytes, columns-bytes}
+use Rattle.fox_layers.proofs.Laws.Matrix.{Wide, multiple, columns, times-columns, length-columns, columns-bytes}
 
 pub sbox-lt : (x : ℕ) → x < 256 → sbox x < 256
 unfolding sbox S₁ S₂ S₃ halves whole or4 lmid4 lmor4 table
@@ -43,9 +44,9 @@ unfolding replaced sigma
 replaced-box n w = ap joined (box-at (split n w) (split-bytes n w))
 
 -- the n joined tables of a matrix from number j on
-unfoldable pub joinedTables : List (List ℕ) → ℕ → ℕ → List (List ℕ)
-joinedTables rows zero j = []
-joinedTables rows (suc n) j = joinedTable rows j ∷ joinedTables rows n (suc j)
+unfoldable pub TBSMs : List (List ℕ) → ℕ → ℕ → List (List ℕ)
+TBSMs rows zero j = []
+TBSMs rows (suc n) j = TBSM rows j ∷ TBSMs rows n (suc j)
 
 joined-zeros : (rows : List (List ℕ)) → joined (map (λ (row : List ℕ). 0) rows) ≡ 0
 unfolding joined
@@ -54,8 +55,8 @@ joined-zeros (row ∷ rows) =
     ap₂ (λ (a b : ℕ). a + b) (zero-mul (2 ^ (8 * length (map (λ (row : List ℕ). 0) rows)))) (joined-zeros rows)
 
 gathered-columns : (rows : List (List ℕ)) (j : ℕ) (xs : List ℕ) → Bytes xs
-    → gathered (joinedTables rows (length xs) j) xs ≡ joined (columns rows j (map sbox xs))
-unfolding gathered summed joinedTables joinedTable scaled column columns
+    → gathered (TBSMs rows (length xs) j) xs ≡ joined (columns rows j (map sbox xs))
+unfolding gathered summed TBSMs TBSM scaled column columns
 gathered-columns rows j [] h = sym (joined-zeros rows)
 gathered-columns rows j (x ∷ xs) h =
     let ms = multiple (column j rows) (sbox x) in
@@ -64,39 +65,39 @@ gathered-columns rows j (x ∷ xs) h =
     ap₂ (λ (a b : ℕ). a ⊕ b) (table-at (λ (x : ℕ). scaled (column j rows) (sbox x)) x (h 0))
     (gathered-columns rows (suc j) xs (λ i. h (suc i)))
     ∙ sym
-    (joined-sum ms rest (multiple-bytes (column j rows) (sbox x) (sbox-lt x (h 0)))
+    (joined-sum ms rest (map-bytes (λ (m : ℕ). product m (sbox x)) (λ m. product-lt m (sbox x) (sbox-lt x (h 0))) (column j rows))
     (columns-bytes rows (suc j) (map sbox xs) (map-sbox-bytes xs (λ i. h (suc i)))) same)
 
 -- the lent tables are a matrix's joined tables: substitution, then diffusion
 pub gathered-diffused : (rows : List (List ℕ)) → Wide (length rows) rows → (w : ℕ)
-    → gathered (joinedTables rows (length rows) 0) (split (length rows) w) ≡ diffused rows (sigma (length rows) w)
+    → gathered (TBSMs rows (length rows) 0) (split (length rows) w) ≡ diffused rows (sigma (length rows) w)
 unfolding diffused
 gathered-diffused rows wide w =
     let n = length rows in
     let bs = split n w in
     let many : length (map sbox bs) ≡ n = length-map bs sbox ∙ length-split n w in
-    ap (λ (k : ℕ). gathered (joinedTables rows k 0) bs) (sym (length-split n w))
+    ap (λ (k : ℕ). gathered (TBSMs rows k 0) bs) (sym (length-split n w))
     ∙ gathered-columns rows 0 bs (split-bytes n w)
     ∙ ap joined (sym (times-columns rows n (map sbox bs) wide many))
     ∙ ap (λ (xs : List ℕ). joined (times rows xs)) (sym (split-sigma n w))
 
 pub gathered-mu4 : (w : ℕ)
-    → gathered (joinedTable mu4Rows 0 ∷ joinedTable mu4Rows 1 ∷ joinedTable mu4Rows 2 ∷ joinedTable mu4Rows 3 ∷ []) (split 4 w) ≡ mu4 (sigma 4 w)
-unfolding mu4 mu4Rows joinedTables
+    → gathered (TBSM mu4Rows 0 ∷ TBSM mu4Rows 1 ∷ TBSM mu4Rows 2 ∷ TBSM mu4Rows 3 ∷ []) (split 4 w) ≡ mu4 (sigma 4 w)
+unfolding mu4 mu4Rows TBSMs
 gathered-mu4 w = gathered-diffused mu4Rows (refl, (refl, (refl, (refl, tt)))) w
 
 pub gathered-mu8 : (w : ℕ)
     → gathered
-    (joinedTable mu8Rows 0
-    ∷ joinedTable mu8Rows 1
-    ∷ joinedTable mu8Rows 2
-    ∷ joinedTable mu8Rows 3
-    ∷ joinedTable mu8Rows 4
-    ∷ joinedTable mu8Rows 5
-    ∷ joinedTable mu8Rows 6
-    ∷ joinedTable mu8Rows 7
+    (TBSM mu8Rows 0
+    ∷ TBSM mu8Rows 1
+    ∷ TBSM mu8Rows 2
+    ∷ TBSM mu8Rows 3
+    ∷ TBSM mu8Rows 4
+    ∷ TBSM mu8Rows 5
+    ∷ TBSM mu8Rows 6
+    ∷ TBSM mu8Rows 7
     ∷ [])
     (split 8 w)
     ≡ mu8 (sigma 8 w)
-unfolding mu8 mu8Rows joinedTables
+unfolding mu8 mu8Rows TBSMs
 gathered-mu8 w = gathered-diffused mu8Rows (refl, (refl, (refl, (refl, (refl, (refl, (refl, (refl, tt)))))))) w

@@ -1,13 +1,13 @@
 -- Joining and splitting undo each other, and ⊕ goes through both, over any number of bytes.
 -- Assumes nothing.
 use mathlib.Core.Path.{_≡_, refl, sym, ap, ap₂, _∙_}
-use mathlib.Core.List.{List, [], _∷_, _++_}
+use mathlib.Core.List.{List, [], _∷_, _++_, map}
 use Prim.Native.Nat.{ℕ, zero, suc, _+_, _*_, _/_, _%_, _^_, _<_}
 use native.Mathlib.Nat.{add-comm, add-assoc, zero-add, zero-mul, mul-assoc, add-mul, mul-suc, mul-add, mod-lt, mod-one, div-one, mod-eq-of-lt, zero-lt-suc, suc-inj, add-mul-div-right, mul-add-mod-self-right}
 use native.Mathlib.Omega.{arith}
 use lib.Arith.{digits-lt}
 use lib.Pow.{pow-add, pow-pos, mod-pow-add, high}
-use lib.ListN.{length, getD, length-append}
+use lib.ListN.{length, length-append}
 use lib.Bits.{xor-block, xor-shr, xor-mod, xor-lt}
 use Rattle.fox_layers.specs.Words.{_⊕_, joined, split, Bytes, sum}
 
@@ -98,6 +98,11 @@ joined-sum (x ∷ xs) (y ∷ ys) hx hy e =
     (joined-sum xs ys (λ i. hx (suc i)) (λ i. hy (suc i)) n)
     ∙ sym (xor-block (8 * length xs) x y (joined xs) (joined ys) (joined-lt xs (λ i. hx (suc i))) bound)
     ∙ ap (λ (k : ℕ). (x * 2 ^ (8 * length xs) + joined xs) ⊕ (y * 2 ^ (8 * k) + joined ys)) n
+
+pub map-bytes : {A : Type 0} (f : A → ℕ) → ((a : A) → f a < 256) → (xs : List A) → Bytes (map f xs)
+map-bytes f h [] i = zero-lt-suc 255
+map-bytes f h (x ∷ xs) zero = h x
+map-bytes f h (x ∷ xs) (suc i) = map-bytes f h xs i
 
 pub sum-bytes : (xs ys : List ℕ) → Bytes xs → Bytes ys → Bytes (sum xs ys)
 unfolding sum

@@ -1,4 +1,4 @@
--- `field::times_04` meets its contract: what it adds up is the product, by a law that was computed over all bytes.
+-- `field::times_04` meets its contract: doubling twice is the product by 04, by a law that was computed over all bytes.
 -- Assumes nothing.
 use borrow.Author.Needs.{needs}
 use mathlib.Core.Path.{sym, ap, _∙_}

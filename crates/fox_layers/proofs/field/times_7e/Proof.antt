@@ -1,4 +1,4 @@
--- `field::times_7e` meets its contract: what it adds up is the product, by a law that was computed over all bytes.
+-- `field::times_7e` meets its contract: halving twice is the product by 7E, by a law that was computed over all bytes.
 -- Assumes nothing.
 use borrow.Author.Needs.{needs}
 use mathlib.Core.Path.{sym, ap, _∙_}

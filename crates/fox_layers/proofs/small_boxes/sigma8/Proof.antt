@@ -1,7 +1,7 @@
 -- `small_boxes::sigma8` meets its contract: each byte of the split goes through the box, and the results are joined.
 -- Assumes nothing.
 use borrow.Author.Needs.{needs}
-use mathlib.Core.Path.{_≡_, ap, _∙_}
+use mathlib.Core.Path.{ap, _∙_}
 use mathlib.Core.List.{[], _∷_, map}
 use Rattle.fox_layers.specs.Words.{joined}
 use Rattle.fox_layers.specs.Substitution.{sbox, sigma}
@@ -41,11 +41,28 @@ join8-requires c κs = search needs
 returns : tie.Need-returns
 unfolding sigma
 returns c =
-    let s = c .before .before .before .before .before .before .before .before .before in
+    let c1 = c .before in
+    let c2 = c1 .before in
+    let c3 = c2 .before in
+    let c4 = c3 .before in
+    let c5 = c4 .before in
+    let c6 = c5 .before in
+    let c7 = c6 .before in
+    let c8 = c7 .before in
+    let c9 = c8 .before in
     c .join8 .ensures
     ∙ ap joined
-    ((λ i. c .before .before .before .before .before .before .before .before .sbox .ensures i ∷ c .before .before .before .before .before .before .before .sbox2 .ensures i ∷ c .before .before .before .before .before .before .sbox3 .ensures i ∷ c .before .before .before .before .before .sbox4 .ensures i ∷ c .before .before .before .before .sbox5 .ensures i ∷ c .before .before .before .sbox6 .ensures i ∷ c .before .before .sbox7 .ensures i ∷ c .before .sbox8 .ensures i ∷ [])
-    ∙ ap (map sbox) (s .split8 .ensures))
+    ((λ i.
+    c8 .sbox .ensures i
+    ∷ c7 .sbox2 .ensures i
+    ∷ c6 .sbox3 .ensures i
+    ∷ c5 .sbox4 .ensures i
+    ∷ c4 .sbox5 .ensures i
+    ∷ c3 .sbox6 .ensures i
+    ∷ c2 .sbox7 .ensures i
+    ∷ c1 .sbox8 .ensures i
+    ∷ [])
+    ∙ ap (map sbox) (c9 .split8 .ensures))
 
 pub sigma8-spec : {M : Type 1} → statement M
 sigma8-spec =

@@ -27,8 +27,20 @@ join4-requires c κs = search needs
 returns : tie.Need-returns
 unfolding replaced
 returns c =
-    rw (split-4 (c .before .before .before .before .before .args .w))
-    (c .join4 .ensures ∙ ap joined (λ i. c .before .before .before .before .of-box .ensures i ∷ c .before .before .before .of-box2 .ensures i ∷ c .before .before .of-box3 .ensures i ∷ c .before .of-box4 .ensures i ∷ []))
+    let c1 = c .before in
+    let c2 = c1 .before in
+    let c3 = c2 .before in
+    let c4 = c3 .before in
+    let c5 = c4 .before in
+    rw (split-4 (c5 .args .w))
+    (c .join4 .ensures
+    ∙ ap joined
+    (λ i.
+    c4 .of-box .ensures i
+    ∷ c3 .of-box2 .ensures i
+    ∷ c2 .of-box3 .ensures i
+    ∷ c1 .of-box4 .ensures i
+    ∷ []))
 
 pub sigma4-spec : {M : Type 1} → statement M
 sigma4-spec =

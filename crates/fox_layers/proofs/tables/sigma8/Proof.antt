@@ -39,8 +39,28 @@ join8-requires c κs = search needs
 returns : tie.Need-returns
 unfolding replaced
 returns c =
-    rw (split-8 (c .before .before .before .before .before .before .before .before .before .args .w))
-    (c .join8 .ensures ∙ ap joined (λ i. c .before .before .before .before .before .before .before .before .of-box .ensures i ∷ c .before .before .before .before .before .before .before .of-box2 .ensures i ∷ c .before .before .before .before .before .before .of-box3 .ensures i ∷ c .before .before .before .before .before .of-box4 .ensures i ∷ c .before .before .before .before .of-box5 .ensures i ∷ c .before .before .before .of-box6 .ensures i ∷ c .before .before .of-box7 .ensures i ∷ c .before .of-box8 .ensures i ∷ []))
+    let c1 = c .before in
+    let c2 = c1 .before in
+    let c3 = c2 .before in
+    let c4 = c3 .before in
+    let c5 = c4 .before in
+    let c6 = c5 .before in
+    let c7 = c6 .before in
+    let c8 = c7 .before in
+    let c9 = c8 .before in
+    rw (split-8 (c9 .args .w))
+    (c .join8 .ensures
+    ∙ ap joined
+    (λ i.
+    c8 .of-box .ensures i
+    ∷ c7 .of-box2 .ensures i
+    ∷ c6 .of-box3 .ensures i
+    ∷ c5 .of-box4 .ensures i
+    ∷ c4 .of-box5 .ensures i
+    ∷ c3 .of-box6 .ensures i
+    ∷ c2 .of-box7 .ensures i
+    ∷ c1 .of-box8 .ensures i
+    ∷ []))
 
 pub sigma8-spec : {M : Type 1} → statement M
 sigma8-spec =

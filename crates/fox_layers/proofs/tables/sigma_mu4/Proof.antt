@@ -25,9 +25,22 @@ of-joined4-requires-4 c κs = search needs
 returns : tie.Need-returns
 unfolding total gathered
 returns c =
-    rw (split-4 (c .before .before .before .before .args .w))
-    (running-total (c .before .before .before .of-joined4 .result) (c .before .before .of-joined42 .result ∷ c .before .of-joined43 .result ∷ c .of-joined44 .result ∷ [])
-    ∙ terms-summed (c .before .before .before .of-joined4 .ensures ▸ c .before .before .of-joined42 .ensures ▸ c .before .of-joined43 .ensures ▸ c .of-joined44 .ensures ▸ done))
+    let c1 = c .before in
+    let c2 = c1 .before in
+    let c3 = c2 .before in
+    let c4 = c3 .before in
+    rw (split-4 (c4 .args .w))
+    (running-total (c3 .of-joined4 .result)
+    (c2 .of-joined42 .result
+    ∷ c1 .of-joined43 .result
+    ∷ c .of-joined44 .result
+    ∷ [])
+    ∙ terms-summed
+    (c3 .of-joined4 .ensures
+    ▸ c2 .of-joined42 .ensures
+    ▸ c1 .of-joined43 .ensures
+    ▸ c .of-joined44 .ensures
+    ▸ done))
 
 pub sigma-mu4-spec : {M : Type 1} → statement M
 sigma-mu4-spec =
