@@ -24,7 +24,7 @@ split (suc n) w = (w / 2 ^ (8 * n) % 256) ∷ split n w
 abbrev pub Bytes : List ℕ → Type 0
 Bytes xs = (i : ℕ) → getD xs i 0 < 256
 
--- two lists of one length, added place by place
+-- two lists added place by place, as far as both go
 unfoldable pub sum : List ℕ → List ℕ → List ℕ
 sum [] ys = []
 sum (x ∷ xs) [] = []
