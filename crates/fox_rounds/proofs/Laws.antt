@@ -1,0 +1,6 @@
+-- Laws beside definitions: what a proof cites in place of a definition's text.
+pub mod Halves
+pub mod Rounds
+pub mod Skeleton
+pub mod Lent
+pub mod Undoing

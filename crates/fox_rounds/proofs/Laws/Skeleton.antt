@@ -1,0 +1,93 @@
+-- Rounds over a numbered list of round keys, one turn at a time, as a loop does them; and the list read backwards.
+-- Assumes nothing.
+use mathlib.Core.Path.{_≡_, refl, sym, ap, ap₂, _∙_}
+use mathlib.Core.List.{List, [], _∷_, _++_, reverse, reverse-cons}
+use Prim.Native.Nat.{ℕ, zero, suc, _+_, _-_, _<_, _≤_}
+use native.Mathlib.Nat.{add-zero, zero-add, add-suc, suc-add}
+use native.Mathlib.Omega.{arith}
+use Rattle.fox_rounds.specs.Skeleton.{numbered, through}
+
+module _ {S : Type 0} (round : ℕ → S → S) (between : S → S) (k : ℕ → ℕ) where
+  -- one more round to come after this one
+  pub turn : (n i : ℕ) (x : S) → i < n
+      → through round between (numbered k (suc (n - i)) i) x
+      ≡ through round between (numbered k (suc (n - (i + 1))) (i + 1)) (between (round (k i) x))
+  unfolding through numbered
+  turn n i x h =
+      let more : n - i ≡ suc (n - (i + 1)) = omega arith in
+      let next : i + 1 ≡ suc i = omega arith in
+      ap (λ (m : ℕ). through round between (numbered k (suc m) i) x) more
+      ∙ ap (λ (j : ℕ). through round between (numbered k (suc (n - (i + 1))) j) (between (round (k i) x))) (sym next)
+
+  -- the last round
+  pub last : (n : ℕ) (x : S) → through round between (numbered k (suc (n - n)) n) x ≡ round (k n) x
+  unfolding through numbered
+  last n x =
+      let none : n - n ≡ zero = omega arith in
+      ap (λ (m : ℕ). through round between (numbered k (suc m) n) x) none
+
+  -- where a loop stands: n rounds are followed by "or" or "io", i of them are done, and they have made y of x
+  abbrev pub Going : ℕ → S → ℕ → S → Type 0
+  Going n x i y = through round between (numbered k (suc (n - i)) i) y ≡ through round between (numbered k (suc n) 0) x
+
+  pub going-first : (n : ℕ) (x : S) → Going n x 0 x
+  going-first n x =
+      let all : n - 0 ≡ n = omega arith in
+      ap (λ (m : ℕ). through round between (numbered k (suc m) 0) x) all
+
+  pub going-on : (n i : ℕ) (x y z : S) → i < n → Going n x i y → z ≡ between (round (k i) y) → Going n x (i + 1) z
+  going-on n i x y z h g e =
+      ap (through round between (numbered k (suc (n - (i + 1))) (i + 1))) e ∙ sym (turn n i y h) ∙ g
+
+  pub going-last : (m i : ℕ) (x y z : S) → 1 ≤ m → i ≤ m - 1 → m - 1 ≤ i → Going (m - 1) x i y → z ≡ round (k (m - 1)) y
+      → z ≡ through round between (numbered k m 0) x
+  going-last m i x y z some low high g e =
+      let here : m - 1 ≡ i = omega arith in
+      let whole : suc (m - 1) ≡ m = omega arith in
+      e
+      ∙ sym (last (m - 1) y)
+      ∙ ap (λ (j : ℕ). through round between (numbered k (suc (m - 1 - j)) j) y) here
+      ∙ g
+      ∙ ap (λ (j : ℕ). through round between (numbered k j 0) x) whole
+
+module _ {A : Type 0} where
+  -- the numbers moved by one
+  pub numbered-next : (k : ℕ → A) (n i : ℕ) → numbered k n (suc i) ≡ numbered (λ (j : ℕ). k (suc j)) n i
+  unfolding numbered
+  numbered-next k zero i = refl
+  numbered-next k (suc n) i = ap (λ (xs : List A). k (suc i) ∷ xs) (numbered-next k n (suc i))
+
+  -- values that agree below the end
+  pub numbered-same : (k l : ℕ → A) (n i : ℕ) → ((j : ℕ) → j < i + n → k j ≡ l j) → numbered k n i ≡ numbered l n i
+  unfolding numbered
+  numbered-same k l zero i e = refl
+  numbered-same k l (suc n) i e =
+      ap₂ (λ (a : A) (ks : List A). a ∷ ks) (e i (omega arith))
+      (numbered-same k l n (suc i) (λ j h. e j (omega arith)))
+
+  numbered-snoc : (k : ℕ → A) (n i : ℕ) → numbered k (suc n) i ≡ numbered k n i ++ (k (i + n) ∷ [])
+  unfolding numbered
+  numbered-snoc k zero i = ap (λ (j : ℕ). k j ∷ []) (sym (add-zero i))
+  numbered-snoc k (suc n) i =
+      ap (λ (ks : List A). k i ∷ ks) (numbered-snoc k n (suc i) ∙ ap (λ (j : ℕ). numbered k n (suc i) ++ (k j ∷ [])) (suc-add i n ∙ sym (add-suc i n)))
+
+  -- read backwards
+  pub reverse-numbered : (k : ℕ → A) (n : ℕ) → reverse (numbered k (suc n) 0) ≡ numbered (λ (j : ℕ). k (n - j)) (suc n) 0
+  unfolding numbered
+  reverse-numbered k zero = refl
+  reverse-numbered k (suc n) =
+      reverse-cons (k 0) (numbered k (suc n) 1)
+      ∙ ap (λ (ks : List A). reverse ks ++ (k 0 ∷ [])) (numbered-next k (suc n) 0)
+      ∙ ap (λ (ks : List A). ks ++ (k 0 ∷ [])) (reverse-numbered (λ (j : ℕ). k (suc j)) n)
+      ∙ ap₂ (λ (ks : List A) (a : A). ks ++ (a ∷ []))
+      (numbered-same (λ (j : ℕ). k (suc (n - j))) (λ (j : ℕ). k (suc n - j)) (suc n) 0
+      (λ j h. ap k (omega arith)))
+      (ap k (omega arith))
+      ∙ sym (numbered-snoc (λ (j : ℕ). k (suc n - j)) (suc n) 0)
+
+  pub reversed : (k : ℕ → A) (m : ℕ) → 1 ≤ m → reverse (numbered k m 0) ≡ numbered (λ (j : ℕ). k (m - 1 - j)) m 0
+  reversed k m some =
+      let whole : m ≡ suc (m - 1) = omega arith in
+      ap (λ (n : ℕ). reverse (numbered k n 0)) whole
+      ∙ reverse-numbered k (m - 1)
+      ∙ ap (λ (n : ℕ). numbered (λ (j : ℕ). k (m - 1 - j)) n 0) (sym whole)

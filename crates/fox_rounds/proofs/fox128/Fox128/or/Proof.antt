@@ -1,0 +1,21 @@
+-- `fox128::Fox128::or` meets its contract.
+-- Assumes nothing.
+use borrow.Author.Needs.{needs}
+use Rattle.fox_rounds.specs.Rounds.{or128}
+use Rattle.fox_rounds.proofs.fox128.Fox128.or.Statement.{statement}
+use Rattle.fox_rounds.proofs.fox128.Fox128.or.Tie as tie
+
+or-requires : tie.Need-or-requires
+or-requires c κs = search needs
+
+or-requires-2 : tie.Need-or-requires-2
+or-requires-2 c κs = search needs
+
+returns : tie.Need-returns
+unfolding or128
+returns c =
+    let x = c .before .before .args .self in
+    λ i. record { ll = c .before .or .ensures i; lr = x .lr; rl = c .or2 .ensures i; rr = x .rr }
+
+pub or-spec : {M : Type 1} → statement M
+or-spec = tie.close (tie.spec or-requires or-requires-2 returns)

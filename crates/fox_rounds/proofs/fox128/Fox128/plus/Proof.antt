@@ -1,0 +1,27 @@
+-- `fox128::Fox128::plus` meets its contract.
+-- Assumes nothing.
+use borrow.Author.Needs.{needs}
+use mathlib.Core.Path.{sym}
+use Rattle.fox_layers.specs.Words.{_⊕_}
+use Rattle.fox_rounds.specs.Rounds.{left, right, plus128}
+use Rattle.fox_rounds.proofs.Laws.Halves.{left-div}
+use Rattle.fox_rounds.proofs.fox128.Fox128.plus.Statement.{statement}
+use Rattle.fox_rounds.proofs.fox128.Fox128.plus.Tie as tie
+
+cast-a : tie.Need-cast-a
+cast-a c = search needs
+
+cast-b : tie.Need-cast-b
+cast-b c = search needs
+
+returns : tie.Need-returns
+unfolding plus128 right
+returns c =
+    let a = c .before .before .before .before in
+    let x = a .args .self in
+    let high = sym (left-div 32 (a .args .t) (a .fits .t .fits)) in
+    let low = right 32 (a .args .t) in
+    λ i. record { ll = x .ll ⊕ high i; lr = x .lr ⊕ high i; rl = x .rl ⊕ low; rr = x .rr ⊕ low }
+
+pub plus-spec : {M : Type 1} → statement M
+plus-spec = tie.close (tie.spec cast-a cast-b returns)

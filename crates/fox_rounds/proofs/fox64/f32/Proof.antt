@@ -1,0 +1,40 @@
+-- `fox64::f32` meets its contract.
+-- Assumes nothing.
+use borrow.Author.Needs.{needs}
+use mathlib.Core.Path.{refl, ap, _∙_}
+use Rattle.fox_layers.specs.Diffusion.{mu4}
+use Rattle.fox_rounds.specs.Rounds.{right, f32}
+use Rattle.fox_rounds.proofs.Laws.Halves.{left-div}
+use Rattle.fox_rounds.proofs.Laws.Rounds.{f-made}
+use Rattle.fox_rounds.proofs.Laws.Halves.{left-div}
+use Rattle.fox_rounds.proofs.fox64.f32.Statement.{statement}
+use Rattle.fox_rounds.proofs.fox64.f32.Tie as tie
+
+cast-k : tie.Need-cast-k
+cast-k c = search needs
+
+cast-l : tie.Need-cast-l
+cast-l c = search needs
+
+sigma4-requires : tie.Need-sigma4-requires
+sigma4-requires c κs = search needs
+
+mu4-requires : tie.Need-mu4-requires
+mu4-requires c κs = search needs
+
+sigma4-requires-2 : tie.Need-sigma4-requires-2
+sigma4-requires-2 c κs = search needs
+
+returns : tie.Need-returns
+unfolding f32 right
+returns c =
+    let c1 = c .before in
+    let c2 = c1 .before in
+    let c3 = c2 .before in
+    let rk = c3 .args .rk in
+    f-made 4 mu4 (c3 .args .x) rk (left-div 32 rk (c3 .fits .rk .fits)) refl (c1 .mu4 .ensures ∙ ap mu4 (c2 .sigma4 .ensures))
+    (c .sigma42 .ensures)
+
+pub f32-spec : {M : Type 1} → statement M
+f32-spec =
+    tie.close (tie.spec cast-k cast-l sigma4-requires mu4-requires sigma4-requires-2 returns)

@@ -1,0 +1,95 @@
+// FOX128: its constants, its state of four words, and its round by the card's way (001 §2.2.2, §2.2.5). A round key is two words of 64 bits.
+ghost use mathlib.Core.Path.{_≡_};
+ghost use Prim.Native.Nat.{_+_, _*_, _^_};
+ghost use Rattle.fox_layers.specs.Words.{_⊕_};
+ghost use Rattle.fox_rounds.specs.Rounds.{f64, plus128, elmid128, or128, io128};
+use crate::fox64::io;
+use crate::fox64::or;
+use fox_layers::diffusion::mu8;
+use fox_layers::small_boxes::sigma8;
+
+pub struct Fox128 {
+    pub ll: u32,
+    pub lr: u32,
+    pub rl: u32,
+    pub rr: u32,
+}
+
+pub fn f64(x: u64, k: u64, l: u64) -> u64
+    ensures { λ r. ⌜ r ≡ f64 x (k * 2 ^ 64 + l) ⌝ }
+{
+    sigma8(mu8(sigma8(x ^ k)) ^ l) ^ k
+}
+
+// Two words of 32 bits side by side.
+pub fn pair(a: u32, b: u32) -> u64
+    ensures { λ r. ⌜ r ≡ a * 2 ^ 32 + b ⌝ }
+{
+    (a as u64) * 0x1_0000_0000 + (b as u64)
+}
+
+impl Fox128 {
+    // Bytes in a block.
+    pub const BLOCK: usize = 16;
+
+    // ek in bytes (001 Fig. 8).
+    pub const EK: usize = 32;
+
+    // Register steps to a round key.
+    pub const STEPS: u32 = 11;
+
+    pub fn new(ll: u32, lr: u32, rl: u32, rr: u32) -> Fox128
+        ensures { λ x. ⌜ (x .ll ≡ ll) × (x .lr ≡ lr) × (x .rl ≡ rl) × (x .rr ≡ rr) ⌝ }
+    {
+        Fox128 { ll, lr, rl, rr }
+    }
+
+    // What the round function is given: the sum of the left words, then that of the right words.
+    pub fn sums(self) -> u64
+        ensures { λ r. ⌜ r ≡ (self .ll ⊕ self .lr) * 2 ^ 32 + (self .rl ⊕ self .rr) ⌝ }
+    {
+        pair(self.ll ^ self.lr, self.rl ^ self.rr)
+    }
+
+    // What the round function gives is added, its left half to the left words and its right half to the right words.
+    pub fn plus(self, t: u64) -> Fox128
+        ensures { λ x. ⌜ x ≡ plus128 t self ⌝ }
+    {
+        let a = (t / 0x1_0000_0000) as u32;
+        let b = (t % 0x1_0000_0000) as u32;
+        Fox128 {
+            ll: self.ll ^ a,
+            lr: self.lr ^ a,
+            rl: self.rl ^ b,
+            rr: self.rr ^ b,
+        }
+    }
+
+    pub fn elmid(self, k: u64, l: u64) -> Fox128
+        ensures { λ x. ⌜ x ≡ elmid128 (k * 2 ^ 64 + l) self ⌝ }
+    {
+        self.plus(f64(self.sums(), k, l))
+    }
+
+    pub fn or(self) -> Fox128
+        ensures { λ x. ⌜ x ≡ or128 self ⌝ }
+    {
+        Fox128 {
+            ll: or(self.ll),
+            lr: self.lr,
+            rl: or(self.rl),
+            rr: self.rr,
+        }
+    }
+
+    pub fn io(self) -> Fox128
+        ensures { λ x. ⌜ x ≡ io128 self ⌝ }
+    {
+        Fox128 {
+            ll: io(self.ll),
+            lr: self.lr,
+            rl: io(self.rl),
+            rr: self.rr,
+        }
+    }
+}

@@ -1,0 +1,46 @@
+-- The key schedules (001 §2.3.1 to §2.3.4): which of the three serves, and the round keys that it gives.
+-- Assumes nothing.
+use Prim.Native.Nat.{ℕ, _-_, _*_}
+use mathlib.Core.List.{List}
+use mathlib.Core.Bool.{Bool, cond}
+use lib.Dec.{leb, eqb}
+use lib.ListN.{length}
+use Rattle.fox_rounds.specs.Skeleton.{numbered}
+use Rattle.fox_keying.specs.Padding.{mkey}
+use Rattle.fox_keying.specs.Register.{LFSR, groups, dkey}
+use Rattle.fox_schedule.specs.Nonlinear.{NL64, NL64h, NL128}
+
+-- Fig. 8: ek in bytes, for FOX64 and a key of so many bytes
+unfoldable pub ek64 : ℕ → ℕ
+ek64 len = cond (leb len 16) 16 32
+
+-- Fig. 8
+unfoldable pub ek128 : ℕ
+ek128 = 32
+
+-- Algorithms 2 and 3: the round key made where the register stands at reg
+unfoldable pub key64 : List ℕ → ℕ → ℕ
+key64 key reg =
+    let ek = ek64 (length key) in
+    let d = dkey (mkey ek key) reg in
+    let long = NL64h (eqb (length key) ek) d in
+    let usual = NL64 (eqb (length key) ek) d in
+    cond (leb (length key) 16) usual long
+
+-- Algorithm 4
+unfoldable pub key128 : List ℕ → ℕ → ℕ
+key128 key reg = NL128 (eqb (length key) ek128) (dkey (mkey ek128 key) reg)
+
+-- the round key number i, from 1 on, for r rounds: rk of index i - 1. The register has made (i - 1) times as many steps as there are groups
+unfoldable pub roundKey64 : ℕ → List ℕ → ℕ → ℕ
+roundKey64 r key i = key64 key (LFSR ((i - 1) * groups (ek64 (length key))) r)
+
+unfoldable pub roundKey128 : ℕ → List ℕ → ℕ → ℕ
+roundKey128 r key i = key128 key (LFSR ((i - 1) * groups ek128) r)
+
+-- all r round keys
+unfoldable pub roundKeys64 : ℕ → List ℕ → List ℕ
+roundKeys64 r key = numbered (roundKey64 r key) r 1
+
+unfoldable pub roundKeys128 : ℕ → List ℕ → List ℕ
+roundKeys128 r key = numbered (roundKey128 r key) r 1
