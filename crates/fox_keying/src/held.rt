@@ -1,4 +1,11 @@
 // Keys of 16 and of 32 bytes, held in words of 64 bits, the first byte the most significant.
+ghost use mathlib.Core.Path.{_≡_};
+ghost use Prim.Native.Nat.{_+_, _≤_};
+ghost use lib.ListN.{length, take, drop};
+ghost use Rattle.fox_layers.specs.Words.{split};
+ghost use Rattle.fox_keying.specs.Held.{bytes16, bytes32};
+use fox_layers::words::join8;
+
 pub struct Key16 {
     pub a: u64,
     pub b: u64,
@@ -9,4 +16,43 @@ pub struct Key32 {
     pub b: u64,
     pub c: u64,
     pub d: u64,
+}
+
+// Eight bytes in a word.
+fn load8(s: &[u8], at: usize) -> u64
+    requires { ⌜ at + 8 ≤ length (now s) ⌝ }
+    ensures { λ r. ⌜ split 8 r ≡ take 8 (drop at (now (s .entry))) ⌝ }
+{
+    join8(
+        s[at],
+        s[at + 1],
+        s[at + 2],
+        s[at + 3],
+        s[at + 4],
+        s[at + 5],
+        s[at + 6],
+        s[at + 7],
+    )
+}
+
+pub fn load16(s: &[u8]) -> Key16
+    requires { ⌜ 16 ≤ length (now s) ⌝ }
+    ensures { λ r. ⌜ bytes16 r ≡ take 16 (now (s .entry)) ⌝ }
+{
+    Key16 {
+        a: load8(s, 0),
+        b: load8(s, 8),
+    }
+}
+
+pub fn load32(s: &[u8]) -> Key32
+    requires { ⌜ 32 ≤ length (now s) ⌝ }
+    ensures { λ r. ⌜ bytes32 r ≡ take 32 (now (s .entry)) ⌝ }
+{
+    Key32 {
+        a: load8(s, 0),
+        b: load8(s, 8),
+        c: load8(s, 16),
+        d: load8(s, 24),
+    }
 }

@@ -1,10 +1,7 @@
-// The register of 24 bits and the diversification of a mixed key (001 §2.3.8, §2.3.9).
+// The register of 24 bits (001 §2.3.9): what it holds at first, and its steps forward and back.
 ghost use mathlib.Core.Path.{_≡_};
 ghost use Prim.Native.Nat.{_<_, _^_};
-ghost use Rattle.fox_keying.specs.Register.{seed, clocked, clockedBack, times, dkey};
-ghost use Rattle.fox_keying.specs.Held.{bytes16, bytes32};
-use crate::held::Key16;
-use crate::held::Key32;
+ghost use Rattle.fox_keying.specs.Register.{seed, clocked, clockedBack, times};
 use fox_layers::words::join4;
 
 // What the register holds at first.
@@ -43,7 +40,7 @@ pub fn forward(reg: u32, steps: u32) -> u32
     ensures { λ r. ⌜ (r ≡ times steps clocked reg) × (r < 2 ^ 24) ⌝ }
 {
     let mut now = reg;
-    for i in 0..steps {
+    for done in 0..steps {
         now = clocked(now);
     }
     now
@@ -54,7 +51,7 @@ pub fn back(reg: u32, steps: u32) -> u32
     ensures { λ r. ⌜ (r ≡ times steps clockedBack reg) × (r < 2 ^ 24) ⌝ }
 {
     let mut now = reg;
-    for i in 0..steps {
+    for undone in 0..steps {
         now = clocked_back(now);
     }
     now

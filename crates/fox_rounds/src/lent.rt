@@ -53,7 +53,7 @@ pub fn seal64<'a>(
     b: &'a [u32; 256],
     c: &'a [u32; 256],
     d: &'a [u32; 256],
-    keys: &'a [u64; 510],
+    keys: &[u64; 510],
     rounds: usize,
     x: Fox64,
 ) -> Fox64
@@ -76,7 +76,7 @@ pub fn open64<'a>(
     b: &'a [u32; 256],
     c: &'a [u32; 256],
     d: &'a [u32; 256],
-    keys: &'a [u64; 510],
+    keys: &[u64; 510],
     rounds: usize,
     x: Fox64,
 ) -> Fox64
@@ -144,7 +144,7 @@ pub fn elmid128_at<'a>(
     f: &'a [u64; 256],
     g: &'a [u64; 256],
     h: &'a [u64; 256],
-    keys: &'a [u64; 510],
+    keys: &[u64; 510],
     i: usize,
     x: Fox128,
 ) -> Fox128
@@ -165,7 +165,7 @@ pub fn seal128<'a>(
     f: &'a [u64; 256],
     g: &'a [u64; 256],
     h: &'a [u64; 256],
-    keys: &'a [u64; 510],
+    keys: &[u64; 510],
     rounds: usize,
     x: Fox128,
 ) -> Fox128
@@ -192,7 +192,7 @@ pub fn open128<'a>(
     f: &'a [u64; 256],
     g: &'a [u64; 256],
     h: &'a [u64; 256],
-    keys: &'a [u64; 510],
+    keys: &[u64; 510],
     rounds: usize,
     x: Fox128,
 ) -> Fox128

@@ -1,0 +1,62 @@
+-- `bytes::store16` meets its contract: two words are written over the first eight bytes and two over the last eight.
+-- Assumes nothing.
+use mathlib.Core.Path.{_≡_, ap, ap₂, _∙_}
+use mathlib.Core.List.{List, _++_}
+use Prim.Native.Nat.{ℕ}
+use lib.ListN.{take, drop}
+use Rattle.fox_layers.specs.Words.{split}
+use Rattle.fox_calls.proofs.Laws.Blocks.{put-end}
+use borrow.Author.Needs.{needs}
+use Rattle.fox_calls.proofs.bytes.store16.Statement.{statement}
+use Rattle.fox_calls.proofs.bytes.store16.Tie as tie
+
+sub-store8 : tie.Need-sub-store8
+sub-store8 c = search needs
+
+part-store8-start : tie.Need-part-store8-start
+part-store8-start c = search needs
+
+part-store8-end : tie.Need-part-store8-end
+part-store8-end c = search needs
+
+store8-requires : tie.Need-store8-requires
+store8-requires c κs = search needs
+
+sub-store8-2 : tie.Need-sub-store8-2
+sub-store8-2 c = search needs
+
+part-store8-start-2 : tie.Need-part-store8-start-2
+part-store8-start-2 c = search needs
+
+part-store8-end-2 : tie.Need-part-store8-end-2
+part-store8-end-2 c = search needs
+
+store8-requires-2 : tie.Need-store8-requires-2
+store8-requires-2 c κs = search needs
+
+same-length : tie.Need-same-length
+same-length c = search needs
+
+returns : tie.Need-returns
+unfolding split
+returns c =
+    let first = c .before .before .before .before .before .before in
+    let second = c .before .before in
+    let rest = drop 8 (first .before .before .before .args .out .now) in
+    put-end 8 (first .store8 .last .0 ++ rest) (second .store82 .last .0)
+    ∙ ap₂ (λ (xs ys : List ℕ). xs ++ ys) (ap (λ (xs : List ℕ). take 8 (xs ++ rest)) (first .store8 .ensures)) (second .store82 .ensures)
+
+pub store16-spec : {M : Type 1} → statement M
+store16-spec =
+    tie.close
+    (tie.spec
+    sub-store8
+    part-store8-start
+    part-store8-end
+    store8-requires
+    sub-store8-2
+    part-store8-start-2
+    part-store8-end-2
+    store8-requires-2
+    same-length
+    returns)

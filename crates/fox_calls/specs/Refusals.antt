@@ -1,0 +1,66 @@
+-- The refusals of 01, "Numbers handed back": each is a number and the test of when it is given, and the first that applies is taken.
+-- Assumes nothing.
+use Prim.Native.Nat.{ℕ, _≤_}
+use mathlib.Core.Path.{_≡_}
+use mathlib.Core.Logic.{_⊎_}
+use mathlib.Core.List.{List, [], _∷_, _++_}
+use mathlib.Core.Bool.{Bool, true, false, cond, not}
+use lib.Dec.{ltb, eqb}
+
+pub record Refusal : Type 0 where
+  pub number : ℕ
+  pub applies : Bool
+
+-- the number of the first refusal that applies, and 0 where none does
+unfoldable pub refusalOf : List Refusal → ℕ
+refusalOf [] = 0
+refusalOf (x ∷ xs) = cond (x .applies) (x .number) (refusalOf xs)
+
+-- the block size in bytes: B
+unfoldable pub blockSize : ℕ → ℕ
+blockSize cipher = cond (eqb cipher 64) 8 16
+
+-- 1: cipher is neither 64 nor 128
+unfoldable pub noCipher : ℕ → Refusal
+noCipher cipher = record { number = 1; applies = cond (eqb cipher 64) false (not (eqb cipher 128)) }
+
+-- 2: rounds below 12 or above 255
+unfoldable pub noRounds : ℕ → Refusal
+noRounds rounds = record { number = 2; applies = cond (ltb rounds 12) true (ltb 255 rounds) }
+
+-- 3: key longer than 32 bytes
+unfoldable pub longKey : ℕ → Refusal
+longKey keyLen = record { number = 3; applies = ltb 32 keyLen }
+
+-- 4: input block or counter block is not B bytes
+unfoldable pub noBlock : ℕ → ℕ → Refusal
+noBlock cipher blockLen = record { number = 4; applies = not (eqb blockLen (blockSize cipher)) }
+
+-- 6: output length is not the input length
+unfoldable pub noOutput : ℕ → ℕ → Refusal
+noOutput inLen outLen = record { number = 6; applies = not (eqb outLen inLen) }
+
+-- preparing a key meets only these
+unfoldable pub forKey : ℕ → ℕ → ℕ → List Refusal
+forKey cipher rounds keyLen = noCipher cipher ∷ noRounds rounds ∷ longKey keyLen ∷ []
+
+-- one block meets only these
+unfoldable pub forBlock : ℕ → ℕ → ℕ → ℕ → ℕ → List Refusal
+forBlock cipher rounds keyLen blockLen outLen =
+    forKey cipher rounds keyLen ++ (noBlock cipher blockLen ∷ noOutput blockLen outLen ∷ [])
+
+-- what a call that prepares a key knows where no refusal applies
+pub record Keyed (c r k : ℕ) : Type 0 where
+  pub cipher : (c ≡ 64) ⊎ (c ≡ 128)
+  pub low : 12 ≤ r
+  pub high : r ≤ 255
+  pub key : k ≤ 32
+
+-- what a call on one block knows where no refusal applies
+pub record Blocked (c r k b o : ℕ) : Type 0 where
+  pub cipher : (c ≡ 64) ⊎ (c ≡ 128)
+  pub low : 12 ≤ r
+  pub high : r ≤ 255
+  pub key : k ≤ 32
+  pub block : b ≡ blockSize c
+  pub output : o ≡ b

@@ -1,0 +1,30 @@
+-- `blocks::read64` meets its contract.
+-- Assumes nothing.
+use borrow.Author.Needs.{needs}
+use Rattle.fox_cipher.specs.Block.{state64}
+use mathlib.Core.Path.{_∙_}
+use Rattle.fox_cipher.proofs.blocks.read64.Statement.{statement}
+use Rattle.fox_cipher.proofs.blocks.read64.Tie as tie
+use Rattle.fox_cipher.proofs.blocks.read64.Reads as reads
+use Rattle.fox_cipher.proofs.blocks.read64.Lts as lts
+use Rattle.fox_calls.proofs.bytes.load4.Reads as load4-reads
+use Rattle.fox_rounds.proofs.fox64.Fox64.new.Reads as new-reads
+
+load4-requires : tie.Need-load4-requires
+load4-requires c κs = search needs
+
+load4-requires-2 : tie.Need-load4-requires-2
+load4-requires-2 c κs = search needs
+
+new-requires : tie.Need-new-requires
+new-requires c κs = search needs
+
+returns : tie.Need-returns
+unfolding state64
+returns c =
+    let c1 = c .before in
+    let c2 = c1 .before in
+    λ i. record { l = (c .new .ensures .0 ∙ c2 .load4 .ensures) i; r = (c .new .ensures .1 ∙ c1 .load42 .ensures) i }
+
+pub read64-spec : {M : Type 1} → statement M
+read64-spec = tie.close (tie.spec load4-requires load4-requires-2 new-requires returns)

@@ -1,0 +1,42 @@
+// Blocks of bytes as the words of a state, and back.
+ghost use mathlib.Core.Path.{_≡_};
+ghost use lib.ListN.{length};
+ghost use Rattle.fox_cipher.specs.Block.{state64, state128, bytes64, bytes128};
+use fox_calls::bytes::load4;
+use fox_calls::bytes::store16;
+use fox_calls::bytes::store8;
+use fox_rounds::fox128::Fox128;
+use fox_rounds::fox64::Fox64;
+
+pub fn read64(block: &[u8]) -> Fox64
+    requires { ⌜ length (now block) ≡ 8 ⌝ }
+    ensures { λ x. ⌜ x ≡ state64 (now (block .entry)) ⌝ }
+{
+    Fox64::new(load4(block, 0), load4(block, 4))
+}
+
+pub fn write64(out: &mut [u8], x: Fox64)
+    requires { ⌜ length (now out) ≡ 8 ⌝ }
+    ensures { λ _. ⌜ now (out .exit) ≡ bytes64 x ⌝ }
+{
+    store8(out, x.l, x.r);
+}
+
+pub fn read128(block: &[u8]) -> Fox128
+    requires { ⌜ length (now block) ≡ 16 ⌝ }
+    ensures { λ x. ⌜ x ≡ state128 (now (block .entry)) ⌝ }
+{
+    Fox128::new(
+        load4(block, 0),
+        load4(block, 4),
+        load4(block, 8),
+        load4(block, 12),
+    )
+}
+
+pub fn write128(out: &mut [u8], x: Fox128)
+    requires { ⌜ length (now out) ≡ 16 ⌝ }
+    ensures { λ _. ⌜ now (out .exit) ≡ bytes128 x ⌝ }
+{
+    store16(out, x.ll, x.lr, x.rl, x.rr);
+}

@@ -1,0 +1,145 @@
+-- The register stays within 24 bits, and a step back undoes a step. So the register stepped back is the register stepped forward fewer times.
+-- Assumes nothing.
+use mathlib.Core.Path.{_≡_, refl, sym, ap, ap₂, _∙_, subst⁻¹}
+use mathlib.Core.Bool.{true, false, Bool}
+use mathlib.Core.List.{[], _∷_}
+use Prim.Native.Nat.{ℕ, zero, suc, _+_, _-_, _*_, _/_, _%_, _^_, _≤_, _<_}
+use native.Mathlib.Nat.{zero-add, suc-add, add-comm, one-mul, zero-lt-suc}
+use native.Mathlib.Numerals.{add-one}
+use native.Mathlib.Omega.{arith}
+use lib.Dec.{ltb, eqb}
+use lib.Bits.{xor-shr, xor-mod, xor-comm, xor-lt, xor-shifted}
+use borrow.Author.Tests.{ltb-true, ltb-false, eqb-true, eqb-false, lt-ltb, le-ltb, eq-eqb, ne-eqb}
+use Rattle.fox_layers.specs.Words.{_⊕_, joined}
+use Rattle.fox_layers.proofs.Laws.Xor.{xor-assoc}
+use Rattle.fox_keying.specs.Register.{seed, clocked, clockedBack, times, LFSR}
+
+-- the four branches of the two steps
+pub clocked-below : (x : ℕ) → x < 2 ^ 23 → clocked x ≡ x * 2
+unfolding clocked
+clocked-below x h = simp (lt-ltb x (2 ^ 23) h)
+
+pub clocked-above : (x : ℕ) → 2 ^ 23 ≤ x → clocked x ≡ (x * 2 - 2 ^ 24) ⊕ 0x1B
+unfolding clocked
+clocked-above x h = simp (le-ltb x (2 ^ 23) h)
+
+pub clockedBack-even : (x : ℕ) → x % 2 ≡ 0 → clockedBack x ≡ x / 2
+unfolding clockedBack
+clockedBack-even x h = simp (eq-eqb (x % 2) 0 h)
+
+pub clockedBack-odd : (x : ℕ) → (x % 2 ≡ 0 → ⊥) → clockedBack x ≡ x / 2 ⊕ 0x80000D
+unfolding clockedBack
+clockedBack-odd x h = simp (ne-eqb (x % 2) 0 h)
+
+pub moved-lt : (x : ℕ) → x < 2 ^ 24 → ((x * 2 - 2 ^ 24) ⊕ 0x1B) < 2 ^ 24
+moved-lt x h = xor-lt 24 (x * 2 - 2 ^ 24) 0x1B (omega arith) (omega arith)
+
+pub halved-lt : (x : ℕ) → x < 2 ^ 24 → (x / 2 ⊕ 0x80000D) < 2 ^ 24
+halved-lt x h = xor-lt 24 (x / 2) 0x80000D (omega arith) (omega arith)
+
+lt-cases : (x : ℕ) → x < 2 ^ 24 → (t : Bool) → ltb x (2 ^ 23) ≡ t → clocked x < 2 ^ 24
+lt-cases x h true e =
+    let below = ltb-true x (2 ^ 23) e in
+    rw (clocked-below x below) (omega arith)
+lt-cases x h false e = rw (clocked-above x (ltb-false x (2 ^ 23) e)) (moved-lt x h)
+
+pub clocked-lt : (x : ℕ) → x < 2 ^ 24 → clocked x < 2 ^ 24
+clocked-lt x h = lt-cases x h (ltb x (2 ^ 23)) refl
+
+back-lt-cases : (x : ℕ) → x < 2 ^ 24 → (t : Bool) → eqb (x % 2) 0 ≡ t → clockedBack x < 2 ^ 24
+back-lt-cases x h true e = rw (clockedBack-even x (eqb-true (x % 2) 0 e)) (omega arith)
+back-lt-cases x h false e = rw (clockedBack-odd x (eqb-false (x % 2) 0 e)) (halved-lt x h)
+
+pub clockedBack-lt : (x : ℕ) → x < 2 ^ 24 → clockedBack x < 2 ^ 24
+clockedBack-lt x h = back-lt-cases x h (eqb (x % 2) 0) refl
+
+-- adding a top bit that is not there. The powers stand as variables, since ⊕ of two numerals would be computed bit by bit
+with-top : (k p b : ℕ) → p ≡ 2 ^ k → b < 2 ^ k → b ⊕ p ≡ p + b
+with-top k p b e h =
+    xor-comm b p ∙ ap (λ (n : ℕ). n ⊕ b) (e ∙ sym (one-mul (2 ^ k))) ∙ xor-shifted 1 k b h
+    ∙ ap (λ (n : ℕ). n + b) (one-mul (2 ^ k) ∙ sym e)
+
+-- A register with its top bit set, that is 2 ^ 23 + z: a step makes it z * 2 ⊕ 1B, which is odd. Its half is z ⊕ 0D, and with 80000D added
+-- that is z with the top bit again.
+odd-after : (z : ℕ) → (z * 2 ⊕ 0x1B) % 2 ≡ 1
+odd-after z =
+    let even : z * 2 % 2 ≡ 0 = omega arith in
+    xor-mod (z * 2) 0x1B 1 ∙ ap (λ (n : ℕ). n ⊕ 1) even
+
+half-after : (z : ℕ) → (z * 2 ⊕ 0x1B) / 2 ≡ z ⊕ 0xD
+half-after z =
+    let half : z * 2 / 2 ≡ z = omega arith in
+    xor-shr (z * 2) 0x1B 1 ∙ ap (λ (n : ℕ). n ⊕ 0xD) half
+
+back-above : (x z : ℕ) → x ≡ 0x800000 + z → z < 2 ^ 23 → clockedBack (z * 2 ⊕ 0x1B) ≡ x
+back-above x z e h =
+    let odd = odd-after z in
+    clockedBack-odd (z * 2 ⊕ 0x1B) (λ p. omega arith)
+    ∙ ap (λ (n : ℕ). n ⊕ 0x80000D) (half-after z)
+    ∙ xor-assoc z 0xD 0x80000D
+    ∙ with-top 23 0x800000 z refl h
+    ∙ sym e
+
+back-cases : (x : ℕ) → x < 2 ^ 24 → (t : Bool) → ltb x (2 ^ 23) ≡ t → clockedBack (clocked x) ≡ x
+back-cases x h true e =
+    let below = ltb-true x (2 ^ 23) e in
+    rw (clocked-below x below) (clockedBack-even (x * 2) (omega arith) ∙ omega arith)
+back-cases x h false e =
+    let above = ltb-false x (2 ^ 23) e in
+    let z = x - 2 ^ 23 in
+    let moved : x * 2 - 2 ^ 24 ≡ (x - 2 ^ 23) * 2 = omega arith in
+    ap clockedBack (clocked-above x above ∙ ap (λ (n : ℕ). n ⊕ 0x1B) moved)
+    ∙ back-above x (x - 2 ^ 23) (omega arith) (omega arith)
+
+pub back-clocked : (x : ℕ) → x < 2 ^ 24 → clockedBack (clocked x) ≡ x
+back-clocked x h = back-cases x h (ltb x (2 ^ 23)) refl
+
+-- one step more, taken last or first
+pub times-suc : {A : Type 0} (n : ℕ) (f : A → A) (x : A) → times (n + 1) f x ≡ f (times n f x)
+unfolding times
+times-suc n f x = rw add-one
+
+pub times-first : {A : Type 0} (n : ℕ) (f : A → A) (x : A) → times n f (f x) ≡ f (times n f x)
+unfolding times
+times-first zero f x = refl
+times-first (suc n) f x = ap f (times-first n f x)
+
+pub times-add : {A : Type 0} (m n : ℕ) (f : A → A) (x : A) → times (m + n) f x ≡ times m f (times n f x)
+unfolding times
+times-add zero n f x = rw zero-add
+times-add (suc m) n f x = rw suc-add (ap f (times-add m n f x))
+
+pub times-lt : (n x : ℕ) → x < 2 ^ 24 → times n clocked x < 2 ^ 24
+unfolding times
+times-lt zero x h = h
+times-lt (suc n) x h = clocked-lt (times n clocked x) (times-lt n x h)
+
+pub times-back-lt : (n x : ℕ) → x < 2 ^ 24 → times n clockedBack x < 2 ^ 24
+unfolding times
+times-back-lt zero x h = h
+times-back-lt (suc n) x h = clockedBack-lt (times n clockedBack x) (times-back-lt n x h)
+
+pub back-times : (n x : ℕ) → x < 2 ^ 24 → times n clockedBack (times n clocked x) ≡ x
+unfolding times
+back-times zero x h = refl
+back-times (suc n) x h =
+    sym (times-first n clockedBack (clocked (times n clocked x)))
+    ∙ ap (times n clockedBack) (back-clocked (times n clocked x) (times-lt n x h))
+    ∙ back-times n x h
+
+pub seed-lt : (r : ℕ) → r < 256 → seed r < 2 ^ 24
+unfolding seed joined
+seed-lt r h = omega (arith, xor-lt 8 r 0xFF h (omega arith))
+
+pub LFSR-lt : (c r : ℕ) → r < 256 → LFSR c r < 2 ^ 24
+unfolding LFSR
+LFSR-lt c r h = times-lt c (seed r) (seed-lt r h)
+
+pub LFSR-forward : (m n r : ℕ) → times n clocked (LFSR m r) ≡ LFSR (m + n) r
+unfolding LFSR
+LFSR-forward m n r =
+    sym (times-add n m clocked (seed r)) ∙ ap (λ (k : ℕ). times k clocked (seed r)) (add-comm n m)
+
+pub LFSR-back : (m n r : ℕ) → r < 256 → times n clockedBack (LFSR (m + n) r) ≡ LFSR m r
+LFSR-back m n r h =
+    ap (times n clockedBack) (sym (LFSR-forward m n r)) ∙ back-times n (LFSR m r) (LFSR-lt m r h)

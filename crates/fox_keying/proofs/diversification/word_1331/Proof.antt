@@ -1,0 +1,76 @@
+-- `diversification::word_1331` meets its contract: the word is the number that the four parts of the list join to.
+-- Assumes nothing.
+use native.Mathlib.Omega.{arith}
+use mathlib.Core.Path.{_≡_, refl, sym}
+use mathlib.Core.List.{_++_}
+use Prim.Native.Nat.{_+_, _*_, _/_, _%_, _^_}
+use lib.ListN.{take, drop}
+use Rattle.fox_layers.specs.Words.{joined, split}
+use Rattle.fox_layers.proofs.Laws.Words.{joined-append, joined-split, split-bytes}
+use Rattle.fox_keying.proofs.Laws.Bytes.{bytes-append, bytes-take, bytes-drop, word-of}
+use Rattle.fox_keying.proofs.Laws.Stream.{low-one, top-one}
+use borrow.Author.Needs.{needs}
+use Rattle.fox_keying.proofs.diversification.word_1331.Statement.{statement}
+use Rattle.fox_keying.proofs.diversification.word_1331.Tie as tie
+
+cast-result : tie.Need-cast-result
+cast-result c = search needs
+
+mul-result : tie.Need-mul-result
+mul-result c = search needs
+
+mul-result-2 : tie.Need-mul-result-2
+mul-result-2 c = search needs
+
+add-result : tie.Need-add-result
+add-result c = search needs
+
+mul-result-3 : tie.Need-mul-result-3
+mul-result-3 c = search needs
+
+add-result-2 : tie.Need-add-result-2
+add-result-2 c = search needs
+
+cast-result-2 : tie.Need-cast-result-2
+cast-result-2 c = search needs
+
+add-result-3 : tie.Need-add-result-3
+add-result-3 c = search needs
+
+returns : tie.Need-returns
+unfolding split
+returns c =
+    let a = c .args in
+    let x = drop 2 (split 3 (a .x)) in
+    let y = split 3 (a .y) in
+    let z = split 3 (a .z) in
+    let t = take 1 (split 3 (a .t)) in
+    word-of _ (x ++ y ++ z ++ t)
+    (bytes-append (x ++ y ++ z) t
+    (bytes-append (x ++ y) z (bytes-append x y (bytes-drop 2 (split 3 (a .x)) (split-bytes 3 (a .x))) (split-bytes 3 (a .y))) (split-bytes 3 (a .z)))
+    (bytes-take 1 (split 3 (a .t)) (split-bytes 3 (a .t))))
+    refl
+    (omega (
+      arith,
+      joined-append (x ++ y ++ z) t,
+      joined-append (x ++ y) z,
+      joined-append x y,
+      low-one (a .x),
+      joined-split 3 (a .y) (c .pre .1),
+      joined-split 3 (a .z) (c .pre .2),
+      top-one (a .t) (c .pre .3),
+    ))
+
+pub word-1331-spec : {M : Type 1} → statement M
+word-1331-spec =
+    tie.close
+    (tie.spec
+    cast-result
+    mul-result
+    mul-result-2
+    add-result
+    mul-result-3
+    add-result-2
+    cast-result-2
+    add-result-3
+    returns)

@@ -1,0 +1,43 @@
+-- `mixing::mkey32` meets its contract: the test on the key's length is the definition's, and a key of 32 bytes is all of its first 32 bytes.
+-- Assumes nothing.
+use native.Mathlib.Omega.{arith}
+use mathlib.Core.Path.{sym, _∙_}
+use lib.Seq.{take-all}
+use Rattle.fox_keying.proofs.Laws.Mixing.{mkey-short, mkey-full}
+use borrow.Author.Needs.{needs}
+use Rattle.fox_keying.proofs.mixing.mkey32.Statement.{statement}
+use Rattle.fox_keying.proofs.mixing.mkey32.Tie as tie
+
+mixed-bytes-requires : tie.Need-mixed-bytes-requires
+mixed-bytes-requires c κs = search needs
+
+slice-aggregate-load32 : tie.Need-slice-aggregate-load32
+slice-aggregate-load32 c = search needs
+
+load32-requires : tie.Need-load32-requires
+load32-requires c κs = search needs
+
+load32-requires-2 : tie.Need-load32-requires-2
+load32-requires-2 c κs = search needs
+
+returns : tie.Need-returns
+returns c =
+    let c2 = c .before .before in
+    let key = c2 .before .before .before .args .key .now in
+    c .load32 .ensures ∙ c2 .mixed-bytes .ensures ∙ sym (mkey-short 32 key (omega arith))
+
+returns-2 : tie.Need-returns-2
+returns-2 c =
+    let key = c .before .before .before .args .key .now in
+    c .load322 .ensures ∙ take-all 32 key (omega arith) ∙ sym (mkey-full 32 key (omega arith))
+
+pub mkey32-spec : {M : Type 1} → statement M
+mkey32-spec =
+    tie.close
+    (tie.spec
+    mixed-bytes-requires
+    slice-aggregate-load32
+    load32-requires
+    load32-requires-2
+    returns
+    returns-2)

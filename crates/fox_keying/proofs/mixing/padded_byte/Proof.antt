@@ -1,0 +1,37 @@
+-- `mixing::padded_byte` meets its contract: either branch is the law for an element of two lists in a row.
+-- Assumes nothing.
+use Prim.Native.Nat.{ℕ, _+_, _-_}
+use native.Mathlib.Omega.{arith}
+use mathlib.Core.Path.{_≡_, sym, ap, _∙_}
+use mathlib.Core.List.{_++_}
+use lib.ListN.{length, getD, List·getD-append}
+use lib.Seq.{getD-append-add}
+use borrow.Author.Needs.{needs}
+use Rattle.fox_keying.proofs.mixing.padded_byte.Statement.{statement}
+use Rattle.fox_keying.proofs.mixing.padded_byte.Tie as tie
+
+shared-slice-read-result : tie.Need-shared-slice-read-result
+shared-slice-read-result c = search needs
+
+sub-result : tie.Need-sub-result
+sub-result c = search needs
+
+element-copy-out-result : tie.Need-element-copy-out-result
+element-copy-out-result c = search needs
+
+returns : tie.Need-returns
+returns c =
+    let a = c .before .before .args in
+    sym (List·getD-append (a .key .now) (a .pad .now) 0 (a .i) (c .before .if1 .taken))
+
+returns-2 : tie.Need-returns-2
+returns-2 c =
+    let a = c .before .before .args in
+    let n = length (a .key .now) in
+    let there : n + (a .i - n) ≡ a .i = omega arith in
+    sym (getD-append-add (a .key .now) (a .pad .now) (a .i - n) 0) ∙ ap (λ (k : ℕ). getD (a .key .now ++ a .pad .now) k 0) there
+
+pub padded-byte-spec : {M : Type 1} → statement M
+padded-byte-spec =
+    tie.close
+    (tie.spec shared-slice-read-result sub-result element-copy-out-result returns returns-2)

@@ -1,0 +1,24 @@
+-- `register::seed` meets its contract: the byte 0 that it joins in front counts nothing, and three bytes are below 2 ^ 24.
+-- Assumes nothing.
+use borrow.Author.Needs.{needs}
+use native.Mathlib.Omega.{arith}
+use Prim.Native.Nat.{_<_, _^_}
+use mathlib.Core.Path.{_≡_}
+use Rattle.fox_layers.specs.Words.{joined}
+use Rattle.fox_keying.specs.Register.{seed}
+use Rattle.fox_keying.proofs.Laws.Register.{seed-lt}
+use Rattle.fox_keying.proofs.register.seed.Statement.{statement}
+use Rattle.fox_keying.proofs.register.seed.Tie as tie
+
+join4-requires : tie.Need-join4-requires
+join4-requires c κs = search needs
+
+returns : tie.Need-returns
+unfolding seed joined
+returns c =
+    let r = c .before .args .rounds in
+    let same : c .join4 .result ≡ seed r = omega (arith, c .join4 .ensures) in
+    (same, omega (arith, seed-lt r (c .before .fits .rounds .fits)))
+
+pub seed-spec : {M : Type 1} → statement M
+seed-spec = tie.close (tie.spec join4-requires returns)

@@ -1,0 +1,40 @@
+-- The layers, word by word: to flip a list of words or not is to flip each of them or not. The pad's words compute.
+-- Assumes nothing.
+use mathlib.Core.Path.{_≡_, refl, sym, ap, ap₂, _∙_}
+use mathlib.Core.List.{List, [], _∷_, map}
+use mathlib.Core.Bool.{Bool, true, false, cond}
+use Prim.Native.Nat.{ℕ}
+use Rattle.fox_layers.specs.Words.{joined, sum}
+use Rattle.fox_layers.specs.Substitution.{sigma}
+use Rattle.fox_keying.specs.Padding.{pad}
+use Rattle.fox_nonlinear.specs.Nonlinear.{words, flipped, layers}
+
+pub pad-4-4 : words 4 4 pad ≡ 0xB7E15162 ∷ 0x8AED2A6A ∷ 0xBF715880 ∷ 0x9CF4F3C7 ∷ []
+unfolding words pad joined
+pad-4-4 = refl
+
+pub pad-4-8 : words 4 8 pad
+    ≡ 0xB7E15162 ∷ 0x8AED2A6A ∷ 0xBF715880 ∷ 0x9CF4F3C7 ∷ 0x62E7160F ∷ 0x38B4DA56 ∷ 0xA784D904 ∷ 0x5190CFEF ∷ []
+unfolding words pad joined
+pad-4-8 = refl
+
+pub pad-8-4 : words 8 4 pad ≡ 0xB7E151628AED2A6A ∷ 0xBF7158809CF4F3C7 ∷ 0x62E7160F38B4DA56 ∷ 0xA784D9045190CFEF ∷ []
+unfolding words pad joined
+pad-8-4 = refl
+
+-- what follows the pad, on one word
+abbrev pub turned : ℕ → Bool → ℕ → ℕ
+turned n flip w = sigma n (cond flip (flipped n w) w)
+
+map-turned : (n : ℕ) (flip : Bool) (ws : List ℕ) → map (sigma n) (cond flip (map (flipped n) ws) ws) ≡ map (turned n flip) ws
+map-turned n true [] = refl
+map-turned n true (w ∷ ws) = ap (λ (xs : List ℕ). sigma n (flipped n w) ∷ xs) (map-turned n true ws)
+map-turned n false ws = refl
+
+-- from the words after the diffusion, and the pad's words
+pub layers-made : (n k : ℕ) (mu : ℕ → ℕ) (mix : List ℕ → List ℕ) (flip : Bool) (ts : List ℕ) {xs ps : List ℕ}
+    → xs ≡ map mu (map (sigma n) ts) → words n k pad ≡ ps → map (turned n flip) (sum (mix xs) ps) ≡ layers n k mu mix flip ts
+unfolding layers
+layers-made n k mu mix flip ts {xs} {ps} made pads =
+    ap₂ (λ (ys qs : List ℕ). map (turned n flip) (sum (mix ys) qs)) made (sym pads)
+    ∙ sym (map-turned n flip (sum (mix (map mu (map (sigma n) ts))) (words n k pad)))

@@ -1,0 +1,33 @@
+-- `nl128::state` meets its contract: nothing stands above the two halves of a word of 64 bits.
+-- Assumes nothing.
+use borrow.Author.Needs.{needs}
+use mathlib.Core.Path.{sym}
+use Rattle.fox_rounds.specs.Rounds.{right}
+use Rattle.fox_rounds.proofs.Laws.Halves.{left-div}
+use Rattle.fox_nonlinear.specs.Nonlinear.{state128}
+use Rattle.fox_nonlinear.proofs.nl128.state.Statement.{statement}
+use Rattle.fox_nonlinear.proofs.nl128.state.Tie as tie
+
+cast-t4 : tie.Need-cast-t4
+cast-t4 c = search needs
+
+cast-t6 : tie.Need-cast-t6
+cast-t6 c = search needs
+
+cast-t8 : tie.Need-cast-t8
+cast-t8 c = search needs
+
+cast-t10 : tie.Need-cast-t10
+cast-t10 c = search needs
+
+returns : tie.Need-returns
+unfolding state128 right
+returns c =
+    let a = c .args .a in
+    let b = c .args .b in
+    let high-a = sym (left-div 32 a (c .fits .a .fits)) in
+    let high-b = sym (left-div 32 b (c .fits .b .fits)) in
+    λ i. record { ll = high-a i; lr = right 32 a; rl = high-b i; rr = right 32 b }
+
+pub state-spec : {M : Type 1} → statement M
+state-spec = tie.close (tie.spec cast-t4 cast-t6 cast-t8 cast-t10 returns)

@@ -1,0 +1,25 @@
+-- `step::Schedule128::round_key` meets its contract.
+-- Assumes nothing.
+use borrow.Author.Needs.{needs}
+use mathlib.Core.Path.{ap, _∙_}
+use Rattle.fox_nonlinear.specs.Nonlinear.{NL128}
+use Rattle.fox_schedule.specs.Step.{made128}
+use Rattle.fox_schedule.proofs.step.Schedule128.round_key.Statement.{statement}
+use Rattle.fox_schedule.proofs.step.Schedule128.round_key.Tie as tie
+use Rattle.fox_schedule.proofs.step.Schedule128.round_key.Reads as reads
+use Rattle.fox_schedule.proofs.step.Schedule128.round_key.Lts as lts
+use Rattle.fox_keying.proofs.diversification.dkey32.Reads as dkey32-reads
+use Rattle.fox_nonlinear.proofs.nl128.nl128.Reads as nl128-reads
+
+dkey32-requires : tie.Need-dkey32-requires
+dkey32-requires c κs = search needs
+
+nl128-requires : tie.Need-nl128-requires
+nl128-requires c κs = search needs
+
+returns : tie.Need-returns
+unfolding made128
+returns c = c .nl128 .ensures ∙ ap (NL128 _) (c .before .dkey32 .ensures)
+
+pub round-key-spec : {M : Type 1} → statement M
+round-key-spec = tie.close (tie.spec dkey32-requires nl128-requires returns)

@@ -1,0 +1,64 @@
+-- `step::Schedule64::round_key` meets its contract.
+-- Assumes nothing.
+use borrow.Author.Needs.{needs}
+use mathlib.Core.Path.{sym, ap, _∙_}
+use Rattle.fox_nonlinear.specs.Nonlinear.{NL64, NL64h}
+use Rattle.fox_schedule.specs.Step.{made64}
+use Rattle.fox_schedule.specs.declared.step.Schedule64.{Schedule64}
+use Rattle.fox_schedule.proofs.step.Schedule64.round_key.Statement.{statement}
+use Rattle.fox_schedule.proofs.step.Schedule64.round_key.Tie as tie
+use Rattle.fox_schedule.proofs.step.Schedule64.round_key.Reads as reads
+use Rattle.fox_schedule.proofs.step.Schedule64.round_key.Lts as lts
+use Rattle.fox_keying.proofs.diversification.dkey16.Reads as dkey16-reads
+use Rattle.fox_keying.proofs.diversification.dkey32.Reads as dkey32-reads
+use Rattle.fox_nonlinear.proofs.nl64.nl64.Reads as nl64-reads
+use Rattle.fox_nonlinear.proofs.nl64h.nl64h.Reads as nl64h-reads
+
+enum-known-self : tie.Need-enum-known-self
+enum-known-self c = search needs
+
+dkey16-requires : tie.Need-dkey16-requires
+dkey16-requires c κs = search needs
+
+nl64-requires : tie.Need-nl64-requires
+nl64-requires c κs = search needs
+
+enum-known-self-2 : tie.Need-enum-known-self-2
+enum-known-self-2 c = search needs
+
+dkey32-requires : tie.Need-dkey32-requires
+dkey32-requires c κs = search needs
+
+nl64h-requires : tie.Need-nl64h-requires
+nl64h-requires c κs = search needs
+
+returns : tie.Need-returns
+unfolding made64
+returns c =
+    let at = c .before .before .before in
+    let reg = at .before .before .args .reg in
+    c .nl64 .ensures
+    ∙ ap (NL64 _) (c .before .dkey16 .ensures)
+    ∙ sym (ap (λ (s : Schedule64). made64 s reg) (at .self .given .1))
+
+returns-2 : tie.Need-returns-2
+unfolding made64
+returns-2 c =
+    let at = c .before .before .before in
+    let reg = at .before .before .args .reg in
+    c .nl64h .ensures
+    ∙ ap (NL64h _) (c .before .dkey32 .ensures)
+    ∙ sym (ap (λ (s : Schedule64). made64 s reg) (at .self2 .given .1))
+
+pub round-key-spec : {M : Type 1} → statement M
+round-key-spec =
+    tie.close
+    (tie.spec
+    enum-known-self
+    dkey16-requires
+    nl64-requires
+    enum-known-self-2
+    dkey32-requires
+    nl64h-requires
+    returns
+    returns-2)

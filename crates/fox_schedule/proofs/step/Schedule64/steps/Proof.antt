@@ -1,0 +1,26 @@
+-- `step::Schedule64::steps` meets its contract.
+-- Assumes nothing.
+use borrow.Author.Needs.{needs}
+use mathlib.Core.Path.{sym, ap}
+use Rattle.fox_schedule.specs.Step.{steps64}
+use Rattle.fox_schedule.proofs.step.Schedule64.steps.Statement.{statement}
+use Rattle.fox_schedule.proofs.step.Schedule64.steps.Tie as tie
+use Rattle.fox_schedule.proofs.step.Schedule64.steps.Reads as reads
+use Rattle.fox_schedule.proofs.step.Schedule64.steps.Lts as lts
+
+enum-told : tie.Need-enum-told
+enum-told c = search needs
+
+enum-told-2 : tie.Need-enum-told-2
+enum-told-2 c = search needs
+
+returns : tie.Need-returns
+unfolding steps64
+returns c = sym (ap steps64 (c .enum-told .given .1))
+
+returns-2 : tie.Need-returns-2
+unfolding steps64
+returns-2 c = sym (ap steps64 (c .enum-told2 .given .1))
+
+pub steps-spec : {M : Type 1} → statement M
+steps-spec = tie.close (tie.spec enum-told enum-told-2 returns returns-2)

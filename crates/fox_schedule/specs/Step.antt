@@ -1,0 +1,33 @@
+-- What a schedule of the code makes: the round key where the register stands at reg.
+-- Assumes nothing.
+use mathlib.Core.Path.{_≡_}
+use Prim.Native.Nat.{ℕ}
+use mathlib.Core.List.{List}
+use lib.ListN.{length}
+use Rattle.fox_keying.specs.Register.{groups, dkey}
+use Rattle.fox_keying.specs.Held.{bytes16, bytes32}
+use Rattle.fox_nonlinear.specs.Nonlinear.{NL64, NL64h, NL128}
+use Rattle.fox_schedule.specs.Schedule.{ek64, key64, key128}
+use Rattle.fox_schedule.specs.declared.step.Schedule64.{Schedule64}
+use Rattle.fox_schedule.specs.declared.step.Schedule64.the-variants.{Usual, Long}
+use Rattle.fox_schedule.specs.declared.step.Schedule128.{Schedule128}
+
+unfoldable pub made64 : Schedule64 → ℕ → ℕ
+made64 (Usual m flip) reg = NL64 flip (dkey (bytes16 m) reg)
+made64 (Long m flip) reg = NL64h flip (dkey (bytes32 m) reg)
+
+-- register steps from one round key to the next
+unfoldable pub steps64 : Schedule64 → ℕ
+steps64 (Usual m flip) = 6
+steps64 (Long m flip) = 11
+
+unfoldable pub made128 : Schedule128 → ℕ → ℕ
+made128 s reg = NL128 (s .flip) (dkey (bytes32 (s .key)) reg)
+
+-- the schedule of a key makes the round keys of that key
+pub record Scheduled64 (key : List ℕ) (s : Schedule64) : Type 0 where
+  pub made : (reg : ℕ) → made64 s reg ≡ key64 key reg
+  pub steps : steps64 s ≡ groups (ek64 (length key))
+
+pub record Scheduled128 (key : List ℕ) (s : Schedule128) : Type 0 where
+  pub made : (reg : ℕ) → made128 s reg ≡ key128 key reg
