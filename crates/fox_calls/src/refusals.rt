@@ -32,6 +32,7 @@ fn long_key(key_len: usize) -> bool
     key_len > 32
 }
 
+// The tests are taken in the order of their numbers, so that a call with several faults is answered by the lowest.
 pub fn for_key(cipher: u32, rounds: u32, key_len: usize) -> u32
     ensures { λ r. ⌜ r ≡ refusalOf (forKey cipher rounds «key_len») ⌝ }
 {

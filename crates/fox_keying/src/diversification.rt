@@ -1,5 +1,5 @@
 // The diversification of a mixed key (001 §2.3.8): register values in a row, three bytes each, are added to it.
-// The bytes are taken in words of eight, so that a word begins and ends within a register value.
+// The bytes are taken in words of eight, so a word may begin or end inside a register value.
 ghost use mathlib.Core.Path.{_≡_};
 ghost use mathlib.Core.List.{_++_};
 ghost use Prim.Native.Nat.{_<_, _^_};

@@ -1,13 +1,14 @@
--- A block of bytes is the bytes of its words: four bytes joined and split again are the same four bytes, word after word.
+-- A block of bytes is the bytes of its words: four bytes joined and split again are the same four bytes, word after word. And what a part
+-- of a slice leaves that reaches to the slice's end: nothing stands after it.
 -- Assumes nothing.
-use mathlib.Core.Path.{_≡_, refl, sym, ap, ap₂, _∙_}
-use mathlib.Core.List.{List, [], _∷_, _++_, append-nil, append-assoc}
-use Prim.Native.Nat.{ℕ, zero, suc, _+_, _-_, _<_, _≤_}
+use mathlib.Core.Path.{_≡_, sym, ap, _∙_}
+use mathlib.Core.List.{List, [], _∷_, _++_, append-nil}
+use Prim.Native.Nat.{ℕ, zero, suc, _+_, _-_, _≤_}
 use native.Mathlib.Nat.{zero-lt-suc}
 use native.Mathlib.Omega.{arith}
 use borrow.Rule.Slice.PartMut.{midOf, putMid}
 use lib.ListN.{length, take, drop, getD, length-take, length-drop, take-append-drop, drop-of-length-le}
-use lib.Seq.{length-take-le, take-all, getD-drop, drop-drop, drop-cons}
+use lib.Seq.{length-take-le, getD-drop, drop-drop, drop-cons}
 use Rattle.fox_layers.specs.Words.{joined, split, Bytes}
 use Rattle.fox_layers.proofs.Laws.Words.{split-joined}
 

@@ -1,13 +1,13 @@
 -- Lists of bytes, put together and taken apart: they stay lists of bytes, eight of them are the bytes of the word that they join to, and the sum
 -- goes through parts of equal length and leaves out what only one of the lists has.
 -- Assumes nothing.
-use mathlib.Core.Path.{_≡_, refl, sym, ap, ap₂, _∙_}
+use mathlib.Core.Path.{_≡_, refl, sym, ap, _∙_}
 use mathlib.Core.List.{List, [], _∷_, _++_}
-use Prim.Native.Nat.{ℕ, zero, suc, _+_, _<_, _≤_}
+use Prim.Native.Nat.{ℕ, zero, suc, _+_, _≤_}
 use native.Mathlib.Nat.{zero-lt-suc, suc-inj, add-suc, add-zero}
 use native.Mathlib.Omega.{arith}
 use lib.ListN.{length, getD, take, drop, length-append}
-use lib.Seq.{take-add, drop-drop, drop-cons}
+use lib.Seq.{take-add, drop-cons}
 use Rattle.fox_layers.specs.Words.{_⊕_, joined, split, sum, Bytes}
 use Rattle.fox_layers.proofs.Laws.Words.{split-joined, split-xor, length-split}
 use Rattle.fox_keying.specs.declared.held.Key16.{Key16}

@@ -1,11 +1,11 @@
 -- The padded key byte by byte, a step of the mixing, and the two cases of mkey.
 -- Assumes nothing.
-use mathlib.Core.Path.{_≡_, refl, sym, ap, ap₂, _∙_}
-use mathlib.Core.List.{List, [], _∷_, _++_}
-use Prim.Native.Nat.{ℕ, zero, suc, _+_, _-_, _%_, _<_, _≤_}
+use mathlib.Core.Path.{_≡_, sym, ap, _∙_}
+use mathlib.Core.List.{List, _∷_, _++_}
+use Prim.Native.Nat.{ℕ, suc, _+_, _-_, _%_, _<_, _≤_}
 use native.Mathlib.Numerals.{add-one}
 use native.Mathlib.Omega.{arith}
-use lib.ListN.{length, getD, take, drop, set, length-append, length-take}
+use lib.ListN.{length, getD, take, drop, set, length-append}
 use lib.Seq.{take-append-add, getD-take, drop-cons, take-suc-set, append-snoc, length-take-le}
 use borrow.Author.Tests.{lt-ltb, le-ltb}
 use Rattle.fox_layers.specs.Words.{_⊕_}

@@ -1,10 +1,9 @@
 -- The register stays within 24 bits, and a step back undoes a step. So the register stepped back is the register stepped forward fewer times.
 -- Assumes nothing.
-use mathlib.Core.Path.{_≡_, refl, sym, ap, ap₂, _∙_, subst⁻¹}
+use mathlib.Core.Path.{_≡_, refl, sym, ap, _∙_}
 use mathlib.Core.Bool.{true, false, Bool}
-use mathlib.Core.List.{[], _∷_}
 use Prim.Native.Nat.{ℕ, zero, suc, _+_, _-_, _*_, _/_, _%_, _^_, _≤_, _<_}
-use native.Mathlib.Nat.{zero-add, suc-add, add-comm, one-mul, zero-lt-suc}
+use native.Mathlib.Nat.{zero-add, suc-add, add-comm, one-mul}
 use native.Mathlib.Numerals.{add-one}
 use native.Mathlib.Omega.{arith}
 use lib.Dec.{ltb, eqb}
@@ -86,7 +85,6 @@ back-cases x h true e =
     rw (clocked-below x below) (clockedBack-even (x * 2) (omega arith) ∙ omega arith)
 back-cases x h false e =
     let above = ltb-false x (2 ^ 23) e in
-    let z = x - 2 ^ 23 in
     let moved : x * 2 - 2 ^ 24 ≡ (x - 2 ^ 23) * 2 = omega arith in
     ap clockedBack (clocked-above x above ∙ ap (λ (n : ℕ). n ⊕ 0x1B) moved)
     ∙ back-above x (x - 2 ^ 23) (omega arith) (omega arith)

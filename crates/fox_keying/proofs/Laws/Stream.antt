@@ -1,12 +1,12 @@
 -- The bytes of register values in a row: parts of the row, the row of values that are each a step after the one before, and the words that its
 -- bytes make.
 -- Assumes nothing.
-use mathlib.Core.Path.{_≡_, refl, sym, ap, ap₂, _∙_}
-use mathlib.Core.List.{List, [], _∷_, _++_, append-assoc}
-use Prim.Native.Nat.{ℕ, zero, suc, _+_, _*_, _/_, _%_, _^_, _<_}
+use mathlib.Core.Path.{_≡_, sym, ap, ap₂, _∙_}
+use mathlib.Core.List.{List, _++_, append-assoc}
+use Prim.Native.Nat.{ℕ, zero, suc, _+_, _/_, _%_, _^_, _<_}
 use native.Mathlib.Nat.{zero-add, suc-add}
 use native.Mathlib.Omega.{arith}
-use lib.ListN.{length, take, drop}
+use lib.ListN.{take, drop}
 use Rattle.fox_layers.specs.Words.{joined, split}
 use Rattle.fox_layers.proofs.Laws.Words.{joined-split-low}
 use Rattle.fox_keying.specs.Register.{clocked, times, stream}

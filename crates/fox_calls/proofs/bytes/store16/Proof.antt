@@ -1,6 +1,6 @@
 -- `bytes::store16` meets its contract: two words are written over the first eight bytes and two over the last eight.
 -- Assumes nothing.
-use mathlib.Core.Path.{_≡_, ap, ap₂, _∙_}
+use mathlib.Core.Path.{ap, ap₂, _∙_}
 use mathlib.Core.List.{List, _++_}
 use Prim.Native.Nat.{ℕ}
 use lib.ListN.{take, drop}

@@ -1,13 +1,12 @@
 -- `diversification::word_332` meets its contract: the word is the number that the three parts of the list join to.
 -- Assumes nothing.
 use native.Mathlib.Omega.{arith}
-use mathlib.Core.Path.{_≡_, refl, sym}
+use mathlib.Core.Path.{refl}
 use mathlib.Core.List.{_++_}
-use Prim.Native.Nat.{_+_, _*_, _/_, _%_, _^_}
-use lib.ListN.{take, drop}
-use Rattle.fox_layers.specs.Words.{joined, split}
+use lib.ListN.{take}
+use Rattle.fox_layers.specs.Words.{split}
 use Rattle.fox_layers.proofs.Laws.Words.{joined-append, joined-split, split-bytes}
-use Rattle.fox_keying.proofs.Laws.Bytes.{bytes-append, bytes-take, bytes-drop, word-of}
+use Rattle.fox_keying.proofs.Laws.Bytes.{bytes-append, bytes-take, word-of}
 use Rattle.fox_keying.proofs.Laws.Stream.{top-two}
 use borrow.Author.Needs.{needs}
 use Rattle.fox_keying.proofs.diversification.word_332.Statement.{statement}

@@ -2,7 +2,6 @@
 -- Assumes nothing.
 use borrow.Author.Needs.{needs}
 use native.Mathlib.Omega.{arith}
-use Prim.Native.Nat.{_<_, _^_}
 use mathlib.Core.Path.{_≡_}
 use Rattle.fox_layers.specs.Words.{joined}
 use Rattle.fox_keying.specs.Register.{seed}

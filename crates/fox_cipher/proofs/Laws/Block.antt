@@ -1,0 +1,86 @@
+-- A block by cases of the cipher, and what a served call knows of its lengths.
+-- Assumes nothing.
+use mathlib.Core.Path.{_≡_, refl, sym, ap, ap₂, _∙_}
+use mathlib.Core.List.{List}
+use Prim.Native.Nat.{ℕ, _%_, _≤_}
+use native.Mathlib.Omega.{arith}
+use lib.Dec.{eqb}
+use borrow.Author.Tests.{eq-eqb, ne-eqb}
+use Rattle.fox_rounds.specs.Skeleton.{seal64, open64, seal128, open128}
+use Rattle.fox_schedule.specs.Schedule.{roundKeys64, roundKeys128}
+use Rattle.fox_calls.specs.Refusals.{blockSize, Blocked}
+use Rattle.fox_cipher.specs.Block.{state64, state128, bytes64, bytes128, sealWith, openWith, roundKeys, sealBlock, openBlock}
+
+pub size-64 : (c : ℕ) → c ≡ 64 → blockSize c ≡ 8
+unfolding blockSize
+size-64 c e = simp (eq-eqb c 64 e)
+
+pub size-128 : (c : ℕ) → (c ≡ 64 → ⊥) → blockSize c ≡ 16
+unfolding blockSize
+size-128 c n = simp (ne-eqb c 64 n)
+
+-- what the steps on a block ask, of rounds that are handed on in a byte
+pub asked-64 : {c r k b o : ℕ} → Blocked c r k b o → c ≡ 64 → (1 ≤ r % 256) × (k ≤ 32) × (b ≡ 8) × (o ≡ 8)
+asked-64 {c} s e =
+    let whole : _≡_ {A = ℕ} _ 8 = s .block ∙ size-64 c e in
+    (omega arith, s .key, whole, s .output ∙ whole)
+
+pub asked-128 : {c r k b o : ℕ} → Blocked c r k b o → (c ≡ 64 → ⊥) → (1 ≤ r % 256) × (k ≤ 32) × (b ≡ 16) × (o ≡ 16)
+asked-128 {c} s n =
+    let whole : _≡_ {A = ℕ} _ 16 = s .block ∙ size-128 c n in
+    (omega arith, s .key, whole, s .output ∙ whole)
+
+pub rounds-whole : {c r k b o : ℕ} → Blocked c r k b o → r % 256 ≡ r
+rounds-whole s = omega arith
+
+pub sealWith-64 : (c : ℕ) (ks bs : List ℕ) → c ≡ 64 → sealWith c ks bs ≡ bytes64 (seal64 ks (state64 bs))
+unfolding sealWith
+sealWith-64 c ks bs e = simp (eq-eqb c 64 e)
+
+pub sealWith-128 : (c : ℕ) (ks bs : List ℕ) → (c ≡ 64 → ⊥) → sealWith c ks bs ≡ bytes128 (seal128 ks (state128 bs))
+unfolding sealWith
+sealWith-128 c ks bs n = simp (ne-eqb c 64 n)
+
+pub openWith-64 : (c : ℕ) (ks bs : List ℕ) → c ≡ 64 → openWith c ks bs ≡ bytes64 (open64 ks (state64 bs))
+unfolding openWith
+openWith-64 c ks bs e = simp (eq-eqb c 64 e)
+
+pub openWith-128 : (c : ℕ) (ks bs : List ℕ) → (c ≡ 64 → ⊥) → openWith c ks bs ≡ bytes128 (open128 ks (state128 bs))
+unfolding openWith
+openWith-128 c ks bs n = simp (ne-eqb c 64 n)
+
+pub roundKeys-64 : (c r : ℕ) (key : List ℕ) → c ≡ 64 → roundKeys c r key ≡ roundKeys64 r key
+unfolding roundKeys
+roundKeys-64 c r key e = simp (eq-eqb c 64 e)
+
+pub roundKeys-128 : (c r : ℕ) (key : List ℕ) → (c ≡ 64 → ⊥) → roundKeys c r key ≡ roundKeys128 r key
+unfolding roundKeys
+roundKeys-128 c r key n = simp (ne-eqb c 64 n)
+
+pub sealBlock-64 : {c r n : ℕ} (key bs : List ℕ) → c ≡ 64 → n ≡ r → bytes64 (seal64 (roundKeys64 n key) (state64 bs)) ≡ sealBlock c r key bs
+unfolding sealBlock
+sealBlock-64 {c} {r} {n} key bs e whole =
+    ap (λ (m : ℕ). bytes64 (seal64 (roundKeys64 m key) (state64 bs))) whole
+    ∙ ap (λ (ks : List ℕ). bytes64 (seal64 ks (state64 bs))) (sym (roundKeys-64 c r key e))
+    ∙ sym (sealWith-64 c (roundKeys c r key) bs e)
+
+pub sealBlock-128 : {c r n : ℕ} (key bs : List ℕ) → (c ≡ 64 → ⊥) → n ≡ r → bytes128 (seal128 (roundKeys128 n key) (state128 bs)) ≡ sealBlock c r key bs
+unfolding sealBlock
+sealBlock-128 {c} {r} {n} key bs e whole =
+    ap (λ (m : ℕ). bytes128 (seal128 (roundKeys128 m key) (state128 bs))) whole
+    ∙ ap (λ (ks : List ℕ). bytes128 (seal128 ks (state128 bs))) (sym (roundKeys-128 c r key e))
+    ∙ sym (sealWith-128 c (roundKeys c r key) bs e)
+
+pub openBlock-64 : {c r n : ℕ} (key bs : List ℕ) → c ≡ 64 → n ≡ r → bytes64 (open64 (roundKeys64 n key) (state64 bs)) ≡ openBlock c r key bs
+unfolding openBlock
+openBlock-64 {c} {r} {n} key bs e whole =
+    ap (λ (m : ℕ). bytes64 (open64 (roundKeys64 m key) (state64 bs))) whole
+    ∙ ap (λ (ks : List ℕ). bytes64 (open64 ks (state64 bs))) (sym (roundKeys-64 c r key e))
+    ∙ sym (openWith-64 c (roundKeys c r key) bs e)
+
+pub openBlock-128 : {c r n : ℕ} (key bs : List ℕ) → (c ≡ 64 → ⊥) → n ≡ r → bytes128 (open128 (roundKeys128 n key) (state128 bs)) ≡ openBlock c r key bs
+unfolding openBlock
+openBlock-128 {c} {r} {n} key bs e whole =
+    ap (λ (m : ℕ). bytes128 (open128 (roundKeys128 m key) (state128 bs))) whole
+    ∙ ap (λ (ks : List ℕ). bytes128 (open128 ks (state128 bs))) (sym (roundKeys-128 c r key e))
+    ∙ sym (openWith-128 c (roundKeys c r key) bs e)

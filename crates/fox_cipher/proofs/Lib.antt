@@ -1,0 +1,2 @@
+-- The laws of the definitions in specs/, and the theorems on blocks.
+pub mod Laws

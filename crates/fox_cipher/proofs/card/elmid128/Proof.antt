@@ -1,0 +1,24 @@
+-- `card::elmid128` meets its contract.
+-- Assumes nothing.
+use borrow.Author.Needs.{needs}
+use mathlib.Core.Path.{ap, _∙_}
+use Prim.Native.Nat.{ℕ}
+use Rattle.fox_rounds.specs.Rounds.{elmid128}
+use Rattle.fox_cipher.proofs.card.elmid128.Statement.{statement}
+use Rattle.fox_cipher.proofs.card.elmid128.Tie as tie
+use Rattle.fox_cipher.proofs.card.elmid128.Reads as reads
+use Rattle.fox_cipher.proofs.card.elmid128.Lts as lts
+use Rattle.fox_rounds.proofs.fox128.Fox128.elmid.Reads as elmid-reads
+use Rattle.fox_schedule.proofs.step.Schedule128.round_key.Reads as round-key-reads
+
+round-key-requires : tie.Need-round-key-requires
+round-key-requires c κs = search needs
+
+elmid-requires : tie.Need-elmid-requires
+elmid-requires c κs = search needs
+
+returns : tie.Need-returns
+returns c = c .elmid .ensures ∙ ap (λ (k : ℕ). elmid128 k (c .before .before .args .x)) (c .before .round-key .ensures)
+
+pub elmid128-spec : {M : Type 1} → statement M
+elmid128-spec = tie.close (tie.spec round-key-requires elmid-requires returns)

@@ -1,0 +1,54 @@
+-- `card::seal128_block` meets its contract.
+-- Assumes nothing.
+use borrow.Author.Needs.{needs}
+use mathlib.Core.Path.{sym, ap, ap₂, _∙_}
+use mathlib.Core.List.{List}
+use Prim.Native.Nat.{ℕ}
+use Rattle.fox_rounds.specs.Skeleton.{seal128}
+use Rattle.fox_rounds.specs.declared.fox128.Fox128.{Fox128}
+use Rattle.fox_schedule.proofs.Laws.{roundKeys128-made}
+use Rattle.fox_cipher.specs.Block.{bytes128}
+use Rattle.fox_cipher.specs.Card.{cardKey128}
+use Rattle.fox_cipher.proofs.card.seal128_block.Statement.{statement}
+use Rattle.fox_cipher.proofs.card.seal128_block.Tie as tie
+use Rattle.fox_cipher.proofs.card.seal128_block.Reads as reads
+use Rattle.fox_cipher.proofs.card.seal128_block.Lts as lts
+use Rattle.fox_cipher.proofs.blocks.read128.Reads as read128-reads
+use Rattle.fox_cipher.proofs.blocks.write128.Reads as write128-reads
+use Rattle.fox_cipher.proofs.card.seal128.Reads as seal128-reads
+use Rattle.fox_schedule.proofs.step.Schedule128.of.Reads as of-reads
+
+of-requires : tie.Need-of-requires
+of-requires c κs = search needs
+
+read128-requires : tie.Need-read128-requires
+read128-requires c κs = search needs
+
+seal128-requires : tie.Need-seal128-requires
+seal128-requires c κs = search needs
+
+write128-requires : tie.Need-write128-requires
+write128-requires c κs = search needs
+
+same-length : tie.Need-same-length
+same-length c = search needs
+
+returns : tie.Need-returns
+unfolding cardKey128
+returns c =
+    let c1 = c .before .before in
+    let c2 = c1 .before in
+    let c3 = c2 .before .before in
+    let c4 = c3 .before in
+    let a = c4 .before .before .before .before .args in
+    c1 .write128 .ensures
+    ∙ ap bytes128
+    (c2 .seal128 .ensures
+    ∙ ap₂ (λ (ks : List ℕ) (x : Fox128). seal128 ks x)
+    (sym (roundKeys128-made (a .rounds) (a .key .now) (c4 .of .result) (c4 .of .ensures)))
+    (c3 .read128 .ensures))
+
+pub seal128-block-spec : {M : Type 1} → statement M
+seal128-block-spec =
+    tie.close
+    (tie.spec of-requires read128-requires seal128-requires write128-requires same-length returns)
