@@ -1,4 +1,2 @@
--- What the promises of fox_cipher cite: a block sealed and opened, and the prepared key.
+-- One block, sealed and opened: the definition that every way is held to.
 pub mod Block
-pub mod Prepared
-pub mod Card

@@ -1,4 +1,2 @@
-// FOX64 and FOX128 on one block: the card's way, the prepared key, and the server's way. Every call takes any input and answers by 01's refusals.
+// FOX on one block: the definition that every way of doing it is held to, and blocks of bytes as states.
 pub mod blocks;
-pub mod card;
-pub mod prepared;

@@ -1,10 +1,10 @@
 -- What a schedule of the code makes: the round key where the register stands at reg.
 -- Assumes nothing.
 use mathlib.Core.Path.{_≡_}
-use Prim.Native.Nat.{ℕ}
+use Prim.Native.Nat.{ℕ, _*_}
 use mathlib.Core.List.{List}
 use lib.ListN.{length}
-use Rattle.fox_keying.specs.Register.{groups, dkey}
+use Rattle.fox_keying.specs.Register.{LFSR, groups, dkey}
 use Rattle.fox_keying.specs.Held.{bytes16, bytes32}
 use Rattle.fox_nonlinear.specs.Nonlinear.{NL64, NL64h, NL128}
 use Rattle.fox_schedule.specs.Schedule.{ek64, key64, key128}
@@ -31,3 +31,10 @@ pub record Scheduled64 (key : List ℕ) (s : Schedule64) : Type 0 where
 
 pub record Scheduled128 (key : List ℕ) (s : Schedule128) : Type 0 where
   pub made : (reg : ℕ) → made128 s reg ≡ key128 key reg
+
+-- the round key number i, from 0 on, that a schedule makes for r rounds: the register has made i times its steps
+unfoldable pub keyAt64 : Schedule64 → ℕ → ℕ → ℕ
+keyAt64 s r i = made64 s (LFSR (i * steps64 s) r)
+
+unfoldable pub keyAt128 : Schedule128 → ℕ → ℕ → ℕ
+keyAt128 s r i = made128 s (LFSR (i * 11) r)

@@ -9,7 +9,7 @@ use lib.ListN.{length}
 use Rattle.fox_keying.specs.Register.{dkey}
 use Rattle.fox_nonlinear.specs.Nonlinear.{NL64, NL64h}
 use Rattle.fox_schedule.specs.Step.{made64, steps64}
-use Rattle.fox_schedule.proofs.Laws.{key64-usual, key64-long, groups-usual, groups-long}
+use Rattle.fox_schedule.proofs.Laws.Schedules.{key64-usual, key64-long, groups-usual, groups-long}
 use Rattle.fox_schedule.proofs.step.Schedule64.of.Statement.{statement}
 use Rattle.fox_schedule.proofs.step.Schedule64.of.Tie as tie
 use Rattle.fox_schedule.proofs.step.Schedule64.of.Reads as reads

@@ -1,0 +1,89 @@
+// One block by the card's way, from cipher, rounds, key bytes and block: every input is answered.
+ghost use mathlib.Core.Path.{_≡_};
+ghost use Prim.Native.Nat.{_≤_};
+ghost use lib.ListN.{length};
+ghost use Rattle.fox_rounds.specs.Skeleton.{seal64, open64, seal128, open128};
+ghost use Rattle.fox_schedule.specs.Schedule.{roundKeys64, roundKeys128};
+ghost use Rattle.fox_calls.specs.Refusals.{forBlock};
+ghost use Rattle.fox_calls.specs.Reply.{Reply};
+ghost use Rattle.fox_cipher.specs.Block.{state64, state128, bytes64, bytes128, sealBlock, openBlock};
+use crate::rounds::open128;
+use crate::rounds::open64;
+use crate::rounds::seal128;
+use crate::rounds::seal64;
+use fox_calls::answer::Answer;
+use fox_calls::refusals::for_block;
+use fox_cipher::blocks::read128;
+use fox_cipher::blocks::read64;
+use fox_cipher::blocks::write128;
+use fox_cipher::blocks::write64;
+use fox_schedule::step::Schedule128;
+use fox_schedule::step::Schedule64;
+
+fn seal64_block(rounds: u8, key: &[u8], block: &[u8], out: &mut [u8])
+    requires { ⌜ (1 ≤ rounds) × (length (now key) ≤ 32) × (length (now block) ≡ 8) × (length (now out) ≡ 8) ⌝ }
+    ensures { λ _. ⌜ now (out .exit) ≡ bytes64 (seal64 (roundKeys64 rounds (now (key .entry))) (state64 (now (block .entry)))) ⌝ }
+{
+    let s = Schedule64::of(key);
+    let x = read64(block);
+    write64(out, seal64(s, rounds, x));
+}
+
+fn seal128_block(rounds: u8, key: &[u8], block: &[u8], out: &mut [u8])
+    requires { ⌜ (1 ≤ rounds) × (length (now key) ≤ 32) × (length (now block) ≡ 16) × (length (now out) ≡ 16) ⌝ }
+    ensures { λ _. ⌜ now (out .exit) ≡ bytes128 (seal128 (roundKeys128 rounds (now (key .entry))) (state128 (now (block .entry)))) ⌝ }
+{
+    let s = Schedule128::of(key);
+    let x = read128(block);
+    write128(out, seal128(s, rounds, x));
+}
+
+fn open64_block(rounds: u8, key: &[u8], block: &[u8], out: &mut [u8])
+    requires { ⌜ (1 ≤ rounds) × (length (now key) ≤ 32) × (length (now block) ≡ 8) × (length (now out) ≡ 8) ⌝ }
+    ensures { λ _. ⌜ now (out .exit) ≡ bytes64 (open64 (roundKeys64 rounds (now (key .entry))) (state64 (now (block .entry)))) ⌝ }
+{
+    let s = Schedule64::of(key);
+    let x = read64(block);
+    write64(out, open64(s, rounds, x));
+}
+
+fn open128_block(rounds: u8, key: &[u8], block: &[u8], out: &mut [u8])
+    requires { ⌜ (1 ≤ rounds) × (length (now key) ≤ 32) × (length (now block) ≡ 16) × (length (now out) ≡ 16) ⌝ }
+    ensures { λ _. ⌜ now (out .exit) ≡ bytes128 (open128 (roundKeys128 rounds (now (key .entry))) (state128 (now (block .entry)))) ⌝ }
+{
+    let s = Schedule128::of(key);
+    let x = read128(block);
+    write128(out, open128(s, rounds, x));
+}
+
+pub fn seal(cipher: u32, rounds: u32, key: &[u8], block: &[u8], out: &mut [u8]) -> Answer
+    ensures { λ r. ⌜ Reply (forBlock cipher rounds (length (now (key .entry))) (length (now (block .entry))) (length (now (out .entry)))) (sealBlock cipher rounds (now (key .entry)) (now (block .entry))) (now (out .entry)) (now (out .exit)) r ⌝ }
+{
+    let refusal = for_block(cipher, rounds, key.len(), block.len(), out.len());
+    if refusal != 0 {
+        return Answer::refused(refusal);
+    }
+    let n = (rounds % 256) as u8;
+    if cipher == 64 {
+        seal64_block(n, key, block, out);
+        return Answer::served(out.len());
+    }
+    seal128_block(n, key, block, out);
+    Answer::served(out.len())
+}
+
+pub fn open(cipher: u32, rounds: u32, key: &[u8], block: &[u8], out: &mut [u8]) -> Answer
+    ensures { λ r. ⌜ Reply (forBlock cipher rounds (length (now (key .entry))) (length (now (block .entry))) (length (now (out .entry)))) (openBlock cipher rounds (now (key .entry)) (now (block .entry))) (now (out .entry)) (now (out .exit)) r ⌝ }
+{
+    let refusal = for_block(cipher, rounds, key.len(), block.len(), out.len());
+    if refusal != 0 {
+        return Answer::refused(refusal);
+    }
+    let n = (rounds % 256) as u8;
+    if cipher == 64 {
+        open64_block(n, key, block, out);
+        return Answer::served(out.len());
+    }
+    open128_block(n, key, block, out);
+    Answer::served(out.len())
+}

@@ -1,0 +1,3 @@
+// The card's way: sealing and opening one block with little memory.
+pub mod block;
+pub mod rounds;

@@ -1,0 +1,44 @@
+-- The prepared key (01): cipher, rounds, key length, and the round keys in 510 words of 64 bits, one a round for FOX64 and two for FOX128, the left
+-- first; the rest are 0.
+-- Assumes nothing.
+use mathlib.Core.Path.{_≡_}
+use Prim.Native.Nat.{ℕ, zero, suc, _-_, _*_}
+use mathlib.Core.List.{List, [], _∷_, _++_}
+use mathlib.Core.Bool.{cond}
+use lib.Dec.{eqb}
+use lib.ListN.{length, replicate}
+use Rattle.fox_rounds.specs.Rounds.{left, right}
+use Rattle.fox_rounds.specs.Skeleton.{numbered, held64, held128}
+use Rattle.fox_schedule.specs.Schedule.{roundKeys64, roundKeys128}
+use Rattle.fox_calls.specs.Refusals.{refusalOf, blockSize, forKey}
+use Rattle.fox_server.specs.declared.prepared.Prepared.{Prepared}
+use Rattle.fox_server.specs.declared.prepared.Preparation.{Preparation}
+
+-- round keys of 128 bits as words, the left half first
+unfoldable pub inHalves : List ℕ → List ℕ
+inHalves [] = []
+inHalves (k ∷ ks) = left 64 k ∷ right 64 k ∷ inHalves ks
+
+-- up to 510 words, the rest 0
+unfoldable pub filled : List ℕ → List ℕ
+filled ws = ws ++ replicate (510 - length ws) 0
+
+unfoldable pub preparedWords : ℕ → ℕ → List ℕ → List ℕ
+preparedWords cipher rounds key =
+    let other = filled (inHalves (roundKeys128 rounds key)) in
+    cond (eqb cipher 64) (filled (roundKeys64 rounds key)) other
+
+-- what preparing a key hands back, all of it: refusals 1 to 3, the count of bytes in use, and the key, which is all zeros where it is refused
+pub record Prepares (c n : ℕ) (key : List ℕ) (r : Preparation) : Type 0 where
+  pub refusal : r .answer .refusal ≡ refusalOf (forKey c n (length key))
+  pub count : r .answer .count ≡ cond (eqb (refusalOf (forKey c n (length key))) 0) (blockSize c * n) 0
+  pub cipher : r .key .cipher ≡ cond (eqb (refusalOf (forKey c n (length key))) 0) c 0
+  pub rounds : r .key .rounds ≡ cond (eqb (refusalOf (forKey c n (length key))) 0) n 0
+  pub keyLength : r .key .«key_len» ≡ cond (eqb (refusalOf (forKey c n (length key))) 0) (length key) 0
+  pub words : r .key .keys ≡ cond (eqb (refusalOf (forKey c n (length key))) 0) (preparedWords c n key) (replicate 510 0)
+
+-- the round keys that a prepared key holds, whoever filled it
+unfoldable pub heldKeys : Prepared → List ℕ
+heldKeys p =
+    let other = numbered (held128 (p .keys)) (p .rounds) 0 in
+    cond (eqb (p .cipher) 64) (numbered (held64 (p .keys)) (p .rounds) 0) other
