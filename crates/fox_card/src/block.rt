@@ -7,18 +7,18 @@ ghost use Rattle.fox_schedule.specs.Schedule.{roundKeys64, roundKeys128};
 ghost use Rattle.fox_calls.specs.Refusals.{forBlock};
 ghost use Rattle.fox_calls.specs.Reply.{Reply};
 ghost use Rattle.fox_cipher.specs.Block.{state64, state128, bytes64, bytes128, sealBlock, openBlock};
-use crate::rounds::open128;
 use crate::rounds::open64;
-use crate::rounds::seal128;
+use crate::rounds::open128;
 use crate::rounds::seal64;
+use crate::rounds::seal128;
 use fox_calls::answer::Answer;
 use fox_calls::refusals::for_block;
-use fox_cipher::blocks::read128;
 use fox_cipher::blocks::read64;
-use fox_cipher::blocks::write128;
+use fox_cipher::blocks::read128;
 use fox_cipher::blocks::write64;
-use fox_schedule::step::Schedule128;
+use fox_cipher::blocks::write128;
 use fox_schedule::step::Schedule64;
+use fox_schedule::step::Schedule128;
 
 fn seal64_block(rounds: u8, key: &[u8], block: &[u8], out: &mut [u8])
     requires { ⌜ (1 ≤ rounds) × (length (now key) ≤ 32) × (length (now block) ≡ 8) × (length (now out) ≡ 8) ⌝ }

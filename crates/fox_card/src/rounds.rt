@@ -8,10 +8,10 @@ ghost use Rattle.fox_schedule.specs.Step.{made128, keyAt64, keyAt128};
 use fox_keying::register::back;
 use fox_keying::register::forward;
 use fox_keying::register::seed;
-use fox_rounds::fox128::Fox128;
 use fox_rounds::fox64::Fox64;
-use fox_schedule::step::Schedule128;
+use fox_rounds::fox128::Fox128;
 use fox_schedule::step::Schedule64;
+use fox_schedule::step::Schedule128;
 
 pub fn seal64(s: Schedule64, rounds: u8, x: Fox64) -> Fox64
     requires { ⌜ 1 ≤ rounds ⌝ }

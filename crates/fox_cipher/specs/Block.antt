@@ -21,7 +21,8 @@ state128 block =
       ll = joined (take 4 block);
       lr = joined (take 4 (drop 4 block));
       rl = joined (take 4 (drop 8 block));
-      rr = joined (take 4 (drop 12 block)) }
+      rr = joined (take 4 (drop 12 block));
+    }
 
 -- and back
 unfoldable pub bytes64 : Fox64 → List ℕ

@@ -3,10 +3,10 @@ ghost use mathlib.Core.Path.{_≡_};
 ghost use lib.ListN.{length};
 ghost use Rattle.fox_cipher.specs.Block.{state64, state128, bytes64, bytes128};
 use fox_calls::bytes::load4;
-use fox_calls::bytes::store16;
 use fox_calls::bytes::store8;
-use fox_rounds::fox128::Fox128;
+use fox_calls::bytes::store16;
 use fox_rounds::fox64::Fox64;
+use fox_rounds::fox128::Fox128;
 
 pub fn read64(block: &[u8]) -> Fox64
     requires { ⌜ length (now block) ≡ 8 ⌝ }

@@ -2,3 +2,4 @@
 pub mod Words
 pub mod Layers
 pub mod Skeleton
+pub mod Wide

@@ -1,6 +1,7 @@
 // NL64 (001 §2.3.10, Algorithm 7): the round key of FOX64 for keys of at most 16 bytes.
 ghost use mathlib.Core.Path.{_≡_};
 ghost use mathlib.Core.List.{[], _∷_};
+ghost use Prim.Native.Nat.{_+_, _*_, _^_};
 ghost use Rattle.fox_layers.specs.Diffusion.{mu4};
 ghost use Rattle.fox_keying.specs.Held.{bytes16};
 ghost use Rattle.fox_nonlinear.specs.Nonlinear.{words, mix64, layers, NL64};
@@ -33,12 +34,18 @@ pub fn layers64(d: Key16, flip: bool) -> Words4
     }
 }
 
+// The state after the last round, as one number: that round has no "or".
+pub fn number(x: Fox64) -> u64
+    ensures { λ r. ⌜ r ≡ x .l * 2 ^ 32 + x .r ⌝ }
+{
+    pair(x.l, x.r)
+}
+
 pub fn nl64(d: Key16, flip: bool) -> u64
     ensures { λ r. ⌜ r ≡ NL64 flip (bytes16 d) ⌝ }
 {
     let t = layers64(d, flip);
     let x = Fox64::new(t.w0 ^ t.w2, t.w1 ^ t.w3);
     let x = x.lmid(d.a).or();
-    let x = x.lmid(d.b);
-    pair(x.l, x.r)
+    number(x.lmid(d.b))
 }

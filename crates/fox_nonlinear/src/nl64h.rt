@@ -4,11 +4,11 @@ ghost use mathlib.Core.List.{[], _∷_};
 ghost use Rattle.fox_layers.specs.Diffusion.{mu4};
 ghost use Rattle.fox_keying.specs.Held.{bytes32};
 ghost use Rattle.fox_nonlinear.specs.Nonlinear.{words, mix64h, layers, NL64h};
+use crate::nl64::number;
 use crate::one_word::first4;
 use crate::one_word::second4;
 use fox_keying::held::Key32;
 use fox_rounds::fox64::Fox64;
-use fox_rounds::fox128::pair;
 
 pub struct Words8 {
     pub w0: u32,
@@ -54,6 +54,5 @@ pub fn nl64h(d: Key32, flip: bool) -> u64
     let x = x.lmid(d.a).or();
     let x = x.lmid(d.b).or();
     let x = x.lmid(d.c).or();
-    let x = x.lmid(d.d);
-    pair(x.l, x.r)
+    number(x.lmid(d.d))
 }

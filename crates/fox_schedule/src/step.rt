@@ -4,18 +4,18 @@ ghost use mathlib.Core.Path.{_≡_};
 ghost use Prim.Native.Nat.{ℕ, _+_, _*_, _^_, _<_, _≤_};
 ghost use lib.ListN.{length};
 ghost use Rattle.fox_schedule.specs.Step.{made64, steps64, made128, Scheduled64, Scheduled128};
-use fox_nonlinear::nl128::Key128;
-use fox_nonlinear::nl128::nl128;
-use fox_nonlinear::nl64::nl64;
-use fox_nonlinear::nl64h::nl64h;
 use fox_keying::diversification::dkey16;
 use fox_keying::diversification::dkey32;
 use fox_keying::held::Key16;
 use fox_keying::held::Key32;
 use fox_keying::mixing::mkey16;
 use fox_keying::mixing::mkey32;
-use fox_rounds::fox128::Fox128;
+use fox_nonlinear::nl64::nl64;
+use fox_nonlinear::nl64h::nl64h;
+use fox_nonlinear::nl128::Key128;
+use fox_nonlinear::nl128::nl128;
 use fox_rounds::fox64::Fox64;
+use fox_rounds::fox128::Fox128;
 
 // KS64 or KS64h, and whether the key has ek bytes.
 pub enum Schedule64 {

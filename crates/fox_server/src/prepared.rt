@@ -1,6 +1,19 @@
-// The prepared key: cipher, rounds, key length in bytes, and the round keys.
-ghost use Rattle.fox_cipher.specs.Prepared.{Prepares};
+// The prepared key: cipher, rounds, key length in bytes, and the round keys in an array of 510 words, FOX64 one a round and FOX128 two, the left
+// first; the rest are 0. A refused one is all zeros.
+ghost use mathlib.Core.Path.{_≡_};
+ghost use Prim.Native.Nat.{_+_, _*_, _≤_};
+ghost use lib.ListN.{length, replicate};
+ghost use Rattle.fox_rounds.specs.Skeleton.{numbered};
+ghost use Rattle.fox_schedule.specs.Step.{keyAt64, keyAt128};
+ghost use Rattle.fox_server.specs.Prepared.{inHalves, filled, preparedWords, Prepares};
 use fox_calls::answer::Answer;
+use fox_calls::refusals::block_size;
+use fox_calls::refusals::for_key;
+use fox_keying::register::forward;
+use fox_keying::register::seed;
+use fox_rounds::fox128::Fox128;
+use fox_schedule::step::Schedule64;
+use fox_schedule::step::Schedule128;
 
 pub struct Prepared {
     pub cipher: u32,
@@ -9,7 +22,81 @@ pub struct Prepared {
     pub keys: [u64; 510],
 }
 
+// What preparing a key hands back: the count is the bytes of round keys in use.
 pub struct Preparation {
     pub answer: Answer,
     pub key: Prepared,
+}
+
+pub fn fill64(s: Schedule64, rounds: u8) -> [u64; 510]
+    ensures { λ r. ⌜ r ≡ filled (numbered (keyAt64 s rounds) rounds 0) ⌝ }
+{
+    let steps = s.steps();
+    let mut keys = [0u64; 510];
+    let mut reg = seed(rounds);
+    for i in 0..rounds {
+        keys[i as usize] = s.round_key(reg);
+        reg = forward(reg, steps);
+    }
+    keys
+}
+
+pub fn fill128(s: Schedule128, rounds: u8) -> [u64; 510]
+    ensures { λ r. ⌜ r ≡ filled (inHalves (numbered (keyAt128 s rounds) rounds 0)) ⌝ }
+{
+    let mut keys = [0u64; 510];
+    let mut reg = seed(rounds);
+    for i in 0..rounds {
+        let k = s.round_key(reg);
+        let at = 2 * (i as usize);
+        keys[at] = k.left;
+        keys[at + 1] = k.right;
+        reg = forward(reg, Fox128::STEPS);
+    }
+    keys
+}
+
+// The words of the prepared key of a key of at most 32 bytes.
+fn words(cipher: u32, rounds: u8, key: &[u8]) -> [u64; 510]
+    requires { ⌜ length (now key) ≤ 32 ⌝ }
+    ensures { λ r. ⌜ r ≡ preparedWords cipher rounds (now (key .entry)) ⌝ }
+{
+    if cipher == 64 {
+        fill64(Schedule64::of(key), rounds)
+    } else {
+        fill128(Schedule128::of(key), rounds)
+    }
+}
+
+// A refused prepared key.
+fn zeros() -> Prepared
+    ensures { λ r. ⌜ (r .cipher ≡ 0) × (r .rounds ≡ 0) × (r .«key_len» ≡ 0) × (r .keys ≡ replicate 510 0) ⌝ }
+{
+    Prepared {
+        cipher: 0,
+        rounds: 0,
+        key_len: 0,
+        keys: [0u64; 510],
+    }
+}
+
+pub fn prepare(cipher: u32, rounds: u32, key: &[u8]) -> Preparation
+    ensures { λ r. ⌜ Prepares cipher rounds (now (key .entry)) r ⌝ }
+{
+    let refusal = for_key(cipher, rounds, key.len());
+    if refusal != 0 {
+        let answer = Answer::refused(refusal);
+        let none = zeros();
+        return Preparation { answer, key: none };
+    }
+    let keys = words(cipher, (rounds % 256) as u8, key);
+    let answer = Answer::served(block_size(cipher) * (rounds as usize));
+    let key_len = key.len();
+    let made = Prepared {
+        cipher,
+        rounds,
+        key_len,
+        keys,
+    };
+    Preparation { answer, key: made }
 }

@@ -3,8 +3,9 @@
 use mathlib.Core.Path.{_≡_, refl, sym, ap, ap₂, _∙_}
 use mathlib.Core.List.{List, [], _∷_, _++_, reverse, reverse-cons}
 use Prim.Native.Nat.{ℕ, zero, suc, _+_, _-_, _<_, _≤_}
-use native.Mathlib.Nat.{add-zero, zero-add, add-suc, suc-add}
+use native.Mathlib.Nat.{add-zero, zero-add, add-suc, suc-add, not-suc-le-zero, le-of-suc-le-suc}
 use native.Mathlib.Omega.{arith}
+use lib.ListN.{length, getD}
 use Rattle.fox_rounds.specs.Skeleton.{numbered, through}
 
 module _ {S : Type 0} (round : ℕ → S → S) (between : S → S) (k : ℕ → ℕ) where
@@ -51,6 +52,17 @@ module _ {S : Type 0} (round : ℕ → S → S) (between : S → S) (k : ℕ →
       ∙ ap (λ (j : ℕ). through round between (numbered k j 0) x) whole
 
 module _ {A : Type 0} where
+  pub length-numbered : (k : ℕ → A) (n i : ℕ) → length (numbered k n i) ≡ n
+  unfolding numbered
+  length-numbered k zero i = refl
+  length-numbered k (suc n) i = ap suc (length-numbered k n (suc i))
+
+  pub numbered-at : (k : ℕ → A) (n i j : ℕ) (d : A) → j < n → getD (numbered k n i) j d ≡ k (i + j)
+  unfolding numbered
+  numbered-at k zero i j d h = absurd (not-suc-le-zero h)
+  numbered-at k (suc n) i zero d h = ap k (sym (add-zero i))
+  numbered-at k (suc n) i (suc j) d h = numbered-at k n (suc i) j d (le-of-suc-le-suc h) ∙ ap k (suc-add i j ∙ sym (add-suc i j))
+
   -- the numbers moved by one
   pub numbered-next : (k : ℕ → A) (n i : ℕ) → numbered k n (suc i) ≡ numbered (λ (j : ℕ). k (suc j)) n i
   unfolding numbered
@@ -65,7 +77,7 @@ module _ {A : Type 0} where
       ap₂ (λ (a : A) (ks : List A). a ∷ ks) (e i (omega arith))
       (numbered-same k l n (suc i) (λ j h. e j (omega arith)))
 
-  numbered-snoc : (k : ℕ → A) (n i : ℕ) → numbered k (suc n) i ≡ numbered k n i ++ (k (i + n) ∷ [])
+  pub numbered-snoc : (k : ℕ → A) (n i : ℕ) → numbered k (suc n) i ≡ numbered k n i ++ (k (i + n) ∷ [])
   unfolding numbered
   numbered-snoc k zero i = ap (λ (j : ℕ). k j ∷ []) (sym (add-zero i))
   numbered-snoc k (suc n) i =

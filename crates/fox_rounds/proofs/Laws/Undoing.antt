@@ -78,3 +78,28 @@ unfolding seal128 open128
 seal128-open128 ks x w =
     ap (λ (ls : List ℕ). through elmid128 or128 ls (through elmid128 io128 (reverse ks) x)) (sym (reverse-reverse ks))
     ∙ undo redone128 (reverse ks) x w
+
+-- no number of rounds leaves the width
+through-wide : {S : Type 0} {Wide : S → Type 0} {round : ℕ → S → S} {there back : S → S} → Undone Wide round there back
+    → (ks : List ℕ) (x : S) → Wide x → Wide (through round there ks x)
+unfolding through
+through-wide u [] x w = w
+through-wide u (k ∷ []) x w = u .round-wide k x w
+through-wide {round = round} {there = there} u (k ∷ l ∷ ks) x w =
+    through-wide u (l ∷ ks) (there (round k x)) (u .there-wide (round k x) (u .round-wide k x w))
+
+pub seal64-words : (ks : List ℕ) (x : Fox64) → Words64 x → Words64 (seal64 ks x)
+unfolding seal64
+seal64-words ks x w = through-wide undone64 ks x w
+
+pub open64-words : (ks : List ℕ) (x : Fox64) → Words64 x → Words64 (open64 ks x)
+unfolding open64
+open64-words ks x w = through-wide redone64 (reverse ks) x w
+
+pub seal128-words : (ks : List ℕ) (x : Fox128) → Words128 x → Words128 (seal128 ks x)
+unfolding seal128
+seal128-words ks x w = through-wide undone128 ks x w
+
+pub open128-words : (ks : List ℕ) (x : Fox128) → Words128 x → Words128 (open128 ks x)
+unfolding open128
+open128-words ks x w = through-wide redone128 (reverse ks) x w

@@ -30,7 +30,7 @@ refused-requires : tie.Need-refused-requires
 refused-requires c κs = search needs
 
 returns : tie.Need-returns
-returns c = 
+returns c =
     let at = c .before in
     let e = at .before .for-block .ensures in
     refused-reply _ _ _ _ _ (c .refused .ensures .0 ∙ e) (λ z. at .if1 .taken (e ∙ z)) (c .refused .ensures .1) refl

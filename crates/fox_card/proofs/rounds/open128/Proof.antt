@@ -61,12 +61,13 @@ loop-again : tie.Need-loop-again Inv-loop μ-loop
 unfolding keyAt128
 loop-again c =
     let at = c .before .before .before .before in
-    let a = at .before .before .before .args in
-    (search needs,
-    c .back .ensures .1,
-    reg-back (a .rounds - 1) (at .loop .i) (a .rounds) (at .before .before .before .fits .rounds .fits) (search needs) refl (at .loop .inv .2) (c .back .ensures .0),
-    going-on elmid128 io128 (λ (j : ℕ). keyAt128 (a .s) (a .rounds) (a .rounds - 1 - j)) (a .rounds - 1) (at .loop .i) (a .x) (at .loop .y) (c .before .io .result) (search needs) (at .loop .inv .3)
-    (c .before .io .ensures ∙ ap io128 (c .before .before .elmid128 .ensures ∙ ap (λ (r : ℕ). elmid128 (made128 (a .s) r) (at .loop .y)) (at .loop .inv .2))))
+    let a = at .before .before .before .args in (
+      search needs,
+      c .back .ensures .1,
+      reg-back (a .rounds - 1) (at .loop .i) (a .rounds) (at .before .before .before .fits .rounds .fits) (search needs) refl (at .loop .inv .2) (c .back .ensures .0),
+      going-on elmid128 io128 (λ (j : ℕ). keyAt128 (a .s) (a .rounds) (a .rounds - 1 - j)) (a .rounds - 1) (at .loop .i) (a .x) (at .loop .y) (c .before .io .result) (search needs) (at .loop .inv .3)
+          (c .before .io .ensures ∙ ap io128 (c .before .before .elmid128 .ensures ∙ ap (λ (r : ℕ). elmid128 (made128 (a .s) r) (at .loop .y)) (at .loop .inv .2))),
+    )
 
 elmid128-requires-2 : tie.Need-elmid128-requires-2 Inv-loop μ-loop
 elmid128-requires-2 c κs = search needs

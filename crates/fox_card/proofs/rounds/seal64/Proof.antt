@@ -58,12 +58,13 @@ loop-again : tie.Need-loop-again Inv-loop μ-loop
 unfolding keyAt64
 loop-again c =
     let at = c .before .before .before .before .before in
-    let a = at .before .before .before .args in
-    (search needs,
-    c .forward .ensures .1,
-    reg-next (at .loop .i) (a .rounds) (at .before .before .steps .ensures) (at .loop .inv .2) (c .forward .ensures .0),
-    going-on lmid64 or64 (keyAt64 (a .s) (a .rounds)) (a .rounds - 1) (at .loop .i) (a .x) (at .loop .y) (c .before .or .result) (search needs) (at .loop .inv .3)
-    (c .before .or .ensures ∙ ap or64 (c .before .before .lmid .ensures ∙ ap (λ (k : ℕ). lmid64 k (at .loop .y)) (c .before .before .before .round-key .ensures ∙ ap (made64 (a .s)) (at .loop .inv .2)))))
+    let a = at .before .before .before .args in (
+      search needs,
+      c .forward .ensures .1,
+      reg-next (at .loop .i) (a .rounds) (at .before .before .steps .ensures) (at .loop .inv .2) (c .forward .ensures .0),
+      going-on lmid64 or64 (keyAt64 (a .s) (a .rounds)) (a .rounds - 1) (at .loop .i) (a .x) (at .loop .y) (c .before .or .result) (search needs) (at .loop .inv .3)
+          (c .before .or .ensures ∙ ap or64 (c .before .before .lmid .ensures ∙ ap (λ (k : ℕ). lmid64 k (at .loop .y)) (c .before .before .before .round-key .ensures ∙ ap (made64 (a .s)) (at .loop .inv .2)))),
+    )
 
 round-key-requires-2 : tie.Need-round-key-requires-2 Inv-loop μ-loop
 round-key-requires-2 c κs = search needs

@@ -5,10 +5,6 @@ use Rattle.fox_cipher.specs.Block.{state128}
 use mathlib.Core.Path.{_∙_}
 use Rattle.fox_cipher.proofs.blocks.read128.Statement.{statement}
 use Rattle.fox_cipher.proofs.blocks.read128.Tie as tie
-use Rattle.fox_cipher.proofs.blocks.read128.Reads as reads
-use Rattle.fox_cipher.proofs.blocks.read128.Lts as lts
-use Rattle.fox_calls.proofs.bytes.load4.Reads as load4-reads
-use Rattle.fox_rounds.proofs.fox128.Fox128.new.Reads as new-reads
 
 load4-requires : tie.Need-load4-requires
 load4-requires c κs = search needs
@@ -37,7 +33,8 @@ returns c =
       ll = (c .new .ensures .0 ∙ c4 .load4 .ensures) i;
       lr = (c .new .ensures .1 ∙ c3 .load42 .ensures) i;
       rl = (c .new .ensures .2 ∙ c2 .load43 .ensures) i;
-      rr = (c .new .ensures .3 ∙ c1 .load44 .ensures) i }
+      rr = (c .new .ensures .3 ∙ c1 .load44 .ensures) i;
+    }
 
 pub read128-spec : {M : Type 1} → statement M
 read128-spec =

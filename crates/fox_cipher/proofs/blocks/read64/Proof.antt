@@ -5,10 +5,6 @@ use Rattle.fox_cipher.specs.Block.{state64}
 use mathlib.Core.Path.{_∙_}
 use Rattle.fox_cipher.proofs.blocks.read64.Statement.{statement}
 use Rattle.fox_cipher.proofs.blocks.read64.Tie as tie
-use Rattle.fox_cipher.proofs.blocks.read64.Reads as reads
-use Rattle.fox_cipher.proofs.blocks.read64.Lts as lts
-use Rattle.fox_calls.proofs.bytes.load4.Reads as load4-reads
-use Rattle.fox_rounds.proofs.fox64.Fox64.new.Reads as new-reads
 
 load4-requires : tie.Need-load4-requires
 load4-requires c κs = search needs

@@ -4,9 +4,6 @@ use borrow.Author.Needs.{needs}
 use Rattle.fox_cipher.specs.Block.{bytes128}
 use Rattle.fox_cipher.proofs.blocks.write128.Statement.{statement}
 use Rattle.fox_cipher.proofs.blocks.write128.Tie as tie
-use Rattle.fox_cipher.proofs.blocks.write128.Reads as reads
-use Rattle.fox_cipher.proofs.blocks.write128.Lts as lts
-use Rattle.fox_calls.proofs.bytes.store16.Reads as store16-reads
 
 store16-requires : tie.Need-store16-requires
 store16-requires c κs = search needs

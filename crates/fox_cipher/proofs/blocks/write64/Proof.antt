@@ -4,9 +4,6 @@ use borrow.Author.Needs.{needs}
 use Rattle.fox_cipher.specs.Block.{bytes64}
 use Rattle.fox_cipher.proofs.blocks.write64.Statement.{statement}
 use Rattle.fox_cipher.proofs.blocks.write64.Tie as tie
-use Rattle.fox_cipher.proofs.blocks.write64.Reads as reads
-use Rattle.fox_cipher.proofs.blocks.write64.Lts as lts
-use Rattle.fox_calls.proofs.bytes.store8.Reads as store8-reads
 
 store8-requires : tie.Need-store8-requires
 store8-requires c κs = search needs

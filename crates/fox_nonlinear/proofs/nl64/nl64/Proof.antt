@@ -30,8 +30,8 @@ or-requires c κs = search needs
 lmid-requires-2 : tie.Need-lmid-requires-2
 lmid-requires-2 c κs = search needs
 
-pair-requires : tie.Need-pair-requires
-pair-requires c κs = search needs
+number-requires : tie.Need-number-requires
+number-requires c κs = search needs
 
 -- the hashing layer
 abbrev hashed : List ℕ → Fox64
@@ -53,7 +53,7 @@ returns c =
     let new = c4 .new .ensures in
     let w = c7 .layers64 .result in
     let start : c4 .new .result ≡ hashed (w .w0 ∷ w .w1 ∷ w .w2 ∷ w .w3 ∷ []) = (λ i. record { l = new .0 i; r = new .1 i }) in
-    c .pair .ensures
+    c .number .ensures
     ∙ ap number64
     (c1 .lmid2 .ensures
     ∙ one-more lmid64 or64 (d .a) (d .b) [] (c3 .lmid .ensures) (c2 .or .ensures)
@@ -69,5 +69,5 @@ nl64-spec =
     lmid-requires
     or-requires
     lmid-requires-2
-    pair-requires
+    number-requires
     returns)

@@ -42,8 +42,8 @@ or-requires-3 c κs = search needs
 lmid-requires-4 : tie.Need-lmid-requires-4
 lmid-requires-4 c κs = search needs
 
-pair-requires : tie.Need-pair-requires
-pair-requires c κs = search needs
+number-requires : tie.Need-number-requires
+number-requires c κs = search needs
 
 -- the hashing layer
 abbrev hashed : List ℕ → Fox64
@@ -72,7 +72,7 @@ returns c =
     let new = c8 .new .ensures in
     let w = c13 .layers64h .result in
     let start : c8 .new .result ≡ hashed (w .w0 ∷ w .w1 ∷ w .w2 ∷ w .w3 ∷ w .w4 ∷ w .w5 ∷ w .w6 ∷ w .w7 ∷ []) = (λ i. record { l = new .0 i; r = new .1 i }) in
-    c .pair .ensures
+    c .number .ensures
     ∙ ap number64
     (c1 .lmid4 .ensures
     ∙ one-more lmid64 or64 (d .c) (d .d) [] (c3 .lmid3 .ensures) (c2 .or3 .ensures)
@@ -95,5 +95,5 @@ nl64h-spec =
     lmid-requires-3
     or-requires-3
     lmid-requires-4
-    pair-requires
+    number-requires
     returns)

@@ -12,9 +12,6 @@ use Rattle.fox_schedule.specs.Schedule.{ek128, key128}
 use Rattle.fox_schedule.specs.Step.{made128}
 use Rattle.fox_schedule.proofs.step.Schedule128.of.Statement.{statement}
 use Rattle.fox_schedule.proofs.step.Schedule128.of.Tie as tie
-use Rattle.fox_schedule.proofs.step.Schedule128.of.Reads as reads
-use Rattle.fox_schedule.proofs.step.Schedule128.of.Lts as lts
-use Rattle.fox_keying.proofs.mixing.mkey32.Reads as mkey32-reads
 
 mkey32-requires : tie.Need-mkey32-requires
 mkey32-requires c κs = search needs

@@ -6,10 +6,6 @@ use Rattle.fox_nonlinear.specs.Nonlinear.{NL128}
 use Rattle.fox_schedule.specs.Step.{made128}
 use Rattle.fox_schedule.proofs.step.Schedule128.round_key.Statement.{statement}
 use Rattle.fox_schedule.proofs.step.Schedule128.round_key.Tie as tie
-use Rattle.fox_schedule.proofs.step.Schedule128.round_key.Reads as reads
-use Rattle.fox_schedule.proofs.step.Schedule128.round_key.Lts as lts
-use Rattle.fox_keying.proofs.diversification.dkey32.Reads as dkey32-reads
-use Rattle.fox_nonlinear.proofs.nl128.nl128.Reads as nl128-reads
 
 dkey32-requires : tie.Need-dkey32-requires
 dkey32-requires c κs = search needs

@@ -12,10 +12,6 @@ use Rattle.fox_schedule.specs.Step.{made64, steps64}
 use Rattle.fox_schedule.proofs.Laws.Schedules.{key64-usual, key64-long, groups-usual, groups-long}
 use Rattle.fox_schedule.proofs.step.Schedule64.of.Statement.{statement}
 use Rattle.fox_schedule.proofs.step.Schedule64.of.Tie as tie
-use Rattle.fox_schedule.proofs.step.Schedule64.of.Reads as reads
-use Rattle.fox_schedule.proofs.step.Schedule64.of.Lts as lts
-use Rattle.fox_keying.proofs.mixing.mkey16.Reads as mkey16-reads
-use Rattle.fox_keying.proofs.mixing.mkey32.Reads as mkey32-reads
 
 mkey16-requires : tie.Need-mkey16-requires
 mkey16-requires c κs = search needs
@@ -30,8 +26,9 @@ returns c =
     let key = c1 .before .before .args .key .now in
     record {
       made = λ reg.
-      ap (λ (m : List ℕ). NL64 (eqb (length key) 16) (dkey m reg)) (c .mkey16 .ensures) ∙ sym (key64-usual key reg (c1 .if1 .taken));
-      steps = sym (groups-usual (length key) (c1 .if1 .taken)) }
+          ap (λ (m : List ℕ). NL64 (eqb (length key) 16) (dkey m reg)) (c .mkey16 .ensures) ∙ sym (key64-usual key reg (c1 .if1 .taken));
+      steps = sym (groups-usual (length key) (c1 .if1 .taken));
+    }
 
 returns-2 : tie.Need-returns-2
 unfolding made64 steps64
@@ -40,8 +37,9 @@ returns-2 c =
     let key = c1 .before .before .args .key .now in
     record {
       made = λ reg.
-      ap (λ (m : List ℕ). NL64h (eqb (length key) 32) (dkey m reg)) (c .mkey32 .ensures) ∙ sym (key64-long key reg (c1 .if1 .left));
-      steps = sym (groups-long (length key) (c1 .if1 .left)) }
+          ap (λ (m : List ℕ). NL64h (eqb (length key) 32) (dkey m reg)) (c .mkey32 .ensures) ∙ sym (key64-long key reg (c1 .if1 .left));
+      steps = sym (groups-long (length key) (c1 .if1 .left));
+    }
 
 pub of-spec : {M : Type 1} → statement M
 of-spec = tie.close (tie.spec mkey16-requires mkey32-requires returns returns-2)

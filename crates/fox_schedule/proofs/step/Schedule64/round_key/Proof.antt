@@ -7,12 +7,6 @@ use Rattle.fox_schedule.specs.Step.{made64}
 use Rattle.fox_schedule.specs.declared.step.Schedule64.{Schedule64}
 use Rattle.fox_schedule.proofs.step.Schedule64.round_key.Statement.{statement}
 use Rattle.fox_schedule.proofs.step.Schedule64.round_key.Tie as tie
-use Rattle.fox_schedule.proofs.step.Schedule64.round_key.Reads as reads
-use Rattle.fox_schedule.proofs.step.Schedule64.round_key.Lts as lts
-use Rattle.fox_keying.proofs.diversification.dkey16.Reads as dkey16-reads
-use Rattle.fox_keying.proofs.diversification.dkey32.Reads as dkey32-reads
-use Rattle.fox_nonlinear.proofs.nl64.nl64.Reads as nl64-reads
-use Rattle.fox_nonlinear.proofs.nl64h.nl64h.Reads as nl64h-reads
 
 enum-known-self : tie.Need-enum-known-self
 enum-known-self c = search needs

@@ -5,8 +5,6 @@ use mathlib.Core.Path.{sym, ap}
 use Rattle.fox_schedule.specs.Step.{steps64}
 use Rattle.fox_schedule.proofs.step.Schedule64.steps.Statement.{statement}
 use Rattle.fox_schedule.proofs.step.Schedule64.steps.Tie as tie
-use Rattle.fox_schedule.proofs.step.Schedule64.steps.Reads as reads
-use Rattle.fox_schedule.proofs.step.Schedule64.steps.Lts as lts
 
 enum-told : tie.Need-enum-told
 enum-told c = search needs

@@ -1,0 +1,108 @@
+-- `block::open` meets its contract.
+-- Assumes nothing.
+use borrow.Author.Needs.{needs}
+use mathlib.Core.Path.{_≡_, refl, sym, ap, _∙_}
+use mathlib.Core.List.{List}
+use Prim.Native.Nat.{ℕ}
+use native.Mathlib.Omega.{arith}
+use lib.ListN.{length}
+use Rattle.fox_rounds.specs.Skeleton.{open64, open128}
+use Rattle.fox_calls.specs.Refusals.{refusalOf, forBlock, Blocked}
+use Rattle.fox_calls.proofs.Laws.Refusals.{blocked}
+use Rattle.fox_calls.proofs.Laws.Reply.{served-reply, refused-reply}
+use Rattle.fox_cipher.specs.Block.{state64, state128, bytes64, bytes128}
+use Rattle.fox_cipher.proofs.Laws.Block.{asked-64, asked-128, openWith-64, openWith-128}
+use Rattle.fox_server.specs.Prepared.{heldKeys}
+use Rattle.fox_server.proofs.Laws.Held.{heldKeys-64, heldKeys-128}
+use Rattle.fox_server.proofs.block.open.Statement.{statement}
+use Rattle.fox_server.proofs.block.open.Tie as tie
+
+-- past the refusals
+module _ (c : tie.Else1) where
+  zero : refusalOf (forBlock (c .before .before .before .before .args .p .cipher) (c .before .before .before .before .args .p .rounds) (c .before .before .before .before .args .p .«key_len») (length (c .before .before .before .before .args .block .now)) (length (c .before .before .before .before .args .out .now))) ≡ 0
+  zero = sym (c .before .for-block .ensures) ∙ c .if1 .left
+
+  served : Blocked (c .before .before .before .before .args .p .cipher) (c .before .before .before .before .args .p .rounds) (c .before .before .before .before .args .p .«key_len») (length (c .before .before .before .before .args .block .now)) (length (c .before .before .before .before .args .out .now))
+  served = blocked _ _ _ _ _ zero
+
+for-block-requires : tie.Need-for-block-requires
+for-block-requires c κs = search needs
+
+refused-requires : tie.Need-refused-requires
+refused-requires c κs = search needs
+
+returns : tie.Need-returns
+returns c =
+    let at = c .before in
+    let e = at .before .for-block .ensures in
+    refused-reply _ _ _ _ _ (c .refused .ensures .0 ∙ e) (λ z. at .if1 .taken (e ∙ z)) (c .refused .ensures .1) refl
+
+cast-rounds : tie.Need-cast-rounds
+cast-rounds c = search needs
+
+open64-block-requires : tie.Need-open64-block-requires
+open64-block-requires c κs =
+    let test = c .before .before in
+    let at = test .before .before .before .before in
+    let sizes = asked-64 (served at) (test .if2 .taken) in
+    (omega (arith, served at .low), served at .high, sizes .2, sizes .3)
+
+served-requires : tie.Need-served-requires
+served-requires c κs = search needs
+
+same-length : tie.Need-same-length
+same-length c = search needs
+
+returns-2 : tie.Need-returns-2
+returns-2 c =
+    let block = c .before .before .before in
+    let test = block .before .before .before in
+    let at = test .before .before .before .before in
+    let a = at .before .before .before .before .args in
+    let bs = a .block .now in
+    served-reply _ _ _ _ _ (zero at) (c .served .ensures .0) (c .served .ensures .1 ∙ block .open64-block .kept .1 .1 .1 .0)
+    (block .open64-block .ensures
+    ∙ ap (λ (ks : List ℕ). bytes64 (open64 ks (state64 bs))) (sym (heldKeys-64 (a .p) (test .if2 .taken)))
+    ∙ sym (openWith-64 (a .p .cipher) (heldKeys (a .p)) bs (test .if2 .taken)))
+
+open128-block-requires : tie.Need-open128-block-requires
+open128-block-requires c κs =
+    let test = c .before .before in
+    let at = test .before .before .before .before in
+    let sizes = asked-128 (served at) (test .if2 .left) in
+    (omega (arith, served at .low), served at .high, sizes .2, sizes .3)
+
+served-requires-2 : tie.Need-served-requires-2
+served-requires-2 c κs = search needs
+
+same-length-2 : tie.Need-same-length-2
+same-length-2 c = search needs
+
+returns-3 : tie.Need-returns-3
+returns-3 c =
+    let block = c .before .before .before in
+    let test = block .before .before .before in
+    let at = test .before .before .before .before in
+    let a = at .before .before .before .before .args in
+    let bs = a .block .now in
+    served-reply _ _ _ _ _ (zero at) (c .served2 .ensures .0) (c .served2 .ensures .1 ∙ block .open128-block .kept .1 .1 .1 .0)
+    (block .open128-block .ensures
+    ∙ ap (λ (ks : List ℕ). bytes128 (open128 ks (state128 bs))) (sym (heldKeys-128 (a .p) (test .if2 .left)))
+    ∙ sym (openWith-128 (a .p .cipher) (heldKeys (a .p)) bs (test .if2 .left)))
+
+pub open-spec : {M : Type 1} → statement M
+open-spec =
+    tie.close
+    (tie.spec
+    for-block-requires
+    refused-requires
+    returns
+    cast-rounds
+    open64-block-requires
+    served-requires
+    same-length
+    returns-2
+    open128-block-requires
+    served-requires-2
+    same-length-2
+    returns-3)

@@ -1,0 +1,47 @@
+-- `block::seal128_block` meets its contract.
+-- Assumes nothing.
+use borrow.Author.Needs.{needs}
+use mathlib.Core.Path.{ap, _∙_}
+use Rattle.fox_rounds.specs.Skeleton.{numbered, seal128, held128}
+use Rattle.fox_cipher.specs.Block.{bytes128}
+use Rattle.fox_server.proofs.block.seal128_block.Statement.{statement}
+use Rattle.fox_server.proofs.block.seal128_block.Tie as tie
+
+sbox-requires : tie.Need-sbox-requires
+sbox-requires c κs = search needs
+
+tbsm-requires : tie.Need-tbsm-requires
+tbsm-requires c κs = search needs
+
+read128-requires : tie.Need-read128-requires
+read128-requires c κs = search needs
+
+seal128-requires : tie.Need-seal128-requires
+seal128-requires c κs = search needs
+
+write128-requires : tie.Need-write128-requires
+write128-requires c κs = search needs
+
+same-length : tie.Need-same-length
+same-length c = search needs
+
+returns : tie.Need-returns
+returns c =
+    let w = c .before .before in
+    let s = w .before .before in
+    let r = s .before .before .before .before .before .before .before .before .before .before .before in
+    let a = r .before .before .before .before .before .args in
+    w .write128 .ensures
+    ∙ ap bytes128 (s .seal128 .ensures ∙ ap (seal128 (numbered (held128 (a .keys .now)) (a .rounds) 0)) (r .read128 .ensures))
+
+pub seal128-block-spec : {M : Type 1} → statement M
+seal128-block-spec =
+    tie.close
+    (tie.spec
+    sbox-requires
+    tbsm-requires
+    read128-requires
+    seal128-requires
+    write128-requires
+    same-length
+    returns)

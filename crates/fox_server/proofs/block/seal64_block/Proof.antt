@@ -1,0 +1,47 @@
+-- `block::seal64_block` meets its contract.
+-- Assumes nothing.
+use borrow.Author.Needs.{needs}
+use mathlib.Core.Path.{ap, _∙_}
+use Rattle.fox_rounds.specs.Skeleton.{numbered, seal64, held64}
+use Rattle.fox_cipher.specs.Block.{bytes64}
+use Rattle.fox_server.proofs.block.seal64_block.Statement.{statement}
+use Rattle.fox_server.proofs.block.seal64_block.Tie as tie
+
+sbox-requires : tie.Need-sbox-requires
+sbox-requires c κs = search needs
+
+tbsm-requires : tie.Need-tbsm-requires
+tbsm-requires c κs = search needs
+
+read64-requires : tie.Need-read64-requires
+read64-requires c κs = search needs
+
+seal64-requires : tie.Need-seal64-requires
+seal64-requires c κs = search needs
+
+write64-requires : tie.Need-write64-requires
+write64-requires c κs = search needs
+
+same-length : tie.Need-same-length
+same-length c = search needs
+
+returns : tie.Need-returns
+returns c =
+    let w = c .before .before in
+    let s = w .before .before in
+    let r = s .before .before .before .before .before .before .before in
+    let a = r .before .before .before .before .before .args in
+    w .write64 .ensures
+    ∙ ap bytes64 (s .seal64 .ensures ∙ ap (seal64 (numbered (held64 (a .keys .now)) (a .rounds) 0)) (r .read64 .ensures))
+
+pub seal64-block-spec : {M : Type 1} → statement M
+seal64-block-spec =
+    tie.close
+    (tie.spec
+    sbox-requires
+    tbsm-requires
+    read64-requires
+    seal64-requires
+    write64-requires
+    same-length
+    returns)

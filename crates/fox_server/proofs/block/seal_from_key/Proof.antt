@@ -1,0 +1,54 @@
+-- `block::seal_from_key` meets its contract.
+-- Assumes nothing.
+use borrow.Author.Needs.{needs}
+use mathlib.Core.Path.{refl, sym, _∙_}
+use Rattle.fox_calls.proofs.Laws.Refusals.{forBlock-key}
+use Rattle.fox_calls.proofs.Laws.Reply.{refused-reply}
+use Rattle.fox_cipher.specs.Block.{sealWith, sealBlock}
+use Rattle.fox_server.proofs.Laws.Prepares.{from-prepared}
+use Rattle.fox_server.proofs.block.seal_from_key.Statement.{statement}
+use Rattle.fox_server.proofs.block.seal_from_key.Tie as tie
+
+for-block-requires : tie.Need-for-block-requires
+for-block-requires c κs = search needs
+
+refused-requires : tie.Need-refused-requires
+refused-requires c κs = search needs
+
+returns : tie.Need-returns
+returns c =
+    let at = c .before in
+    let e = at .before .for-block .ensures in
+    refused-reply _ _ _ _ _ (c .refused .ensures .0 ∙ e) (λ z. at .if1 .taken (e ∙ z)) (c .refused .ensures .1) refl
+
+prepare-requires : tie.Need-prepare-requires
+prepare-requires c κs = search needs
+
+seal-requires : tie.Need-seal-requires
+seal-requires c κs = search needs
+
+same-length : tie.Need-same-length
+same-length c = search needs
+
+returns-2 : tie.Need-returns-2
+unfolding sealBlock
+returns-2 c =
+    let call = c .before .before in
+    let made = call .before .before .before in
+    let test = made .before in
+    let a = test .before .before .before .before .before .args in
+    let zero = sym (test .before .for-block .ensures) ∙ test .if1 .left in
+    from-prepared sealWith (a .cipher) (a .rounds) (a .key .now) (a .block .now) (a .out .now) _ (made .prepare .result) (call .seal .result)
+    (forBlock-key _ _ _ _ _ zero) (made .prepare .ensures) (call .seal .ensures)
+
+pub seal-from-key-spec : {M : Type 1} → statement M
+seal-from-key-spec =
+    tie.close
+    (tie.spec
+    for-block-requires
+    refused-requires
+    returns
+    prepare-requires
+    seal-requires
+    same-length
+    returns-2)

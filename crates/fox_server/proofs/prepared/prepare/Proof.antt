@@ -1,0 +1,79 @@
+-- `prepared::prepare` meets its contract.
+-- Assumes nothing.
+use borrow.Author.Needs.{needs}
+use mathlib.Core.Path.{_≡_, refl, sym, ap, ap₂, _∙_}
+use Prim.Native.Nat.{ℕ, _*_, _%_}
+use native.Mathlib.Omega.{arith}
+use lib.ListN.{length}
+use Rattle.fox_calls.specs.Refusals.{refusalOf, forKey, Keyed}
+use Rattle.fox_calls.proofs.Laws.Refusals.{keyed}
+use Rattle.fox_server.specs.Prepared.{preparedWords}
+use Rattle.fox_server.proofs.Laws.Prepares.{served-key, refused-key, in-use}
+use Rattle.fox_server.proofs.prepared.prepare.Statement.{statement}
+use Rattle.fox_server.proofs.prepared.prepare.Tie as tie
+
+-- past the refusals
+module _ (c : tie.Else1) where
+  zero : refusalOf (forKey (c .before .before .before .args .cipher) (c .before .before .before .args .rounds) (length (c .before .before .before .args .key .now))) ≡ 0
+  zero = sym (c .before .for-key .ensures) ∙ c .if1 .left
+
+  served : Keyed (c .before .before .before .args .cipher) (c .before .before .before .args .rounds) (length (c .before .before .before .args .key .now))
+  served = keyed _ _ _ zero
+
+for-key-requires : tie.Need-for-key-requires
+for-key-requires c κs = search needs
+
+refused-requires : tie.Need-refused-requires
+refused-requires c κs = search needs
+
+zeros-requires : tie.Need-zeros-requires
+zeros-requires c κs = search needs
+
+returns : tie.Need-returns
+returns c =
+    let refused = c .before in
+    let test = refused .before in
+    let e = test .before .for-key .ensures in
+    let z = c .zeros .ensures in
+    refused-key _ _ _ _ (λ n. test .if1 .taken (e ∙ n)) (refused .refused .ensures .0 ∙ e) (refused .refused .ensures .1) (z .0) (z .1) (z .2) (z .3)
+
+cast-words : tie.Need-cast-words
+cast-words c = search needs
+
+words-requires : tie.Need-words-requires
+words-requires c κs = served c .key
+
+block-size-requires : tie.Need-block-size-requires
+block-size-requires c κs = search needs
+
+mul-served : tie.Need-mul-served
+mul-served c =
+    let test = c .before .before in
+    record { fits = in-use _ _ (c .block-size .ensures) (served test .high) }
+
+served-requires : tie.Need-served-requires
+served-requires c κs = search needs
+
+returns-2 : tie.Need-returns-2
+returns-2 c =
+    let words = c .before .before in
+    let test = words .before in
+    let a = test .before .before .before .args in
+    let whole : a .rounds % 256 ≡ a .rounds = omega (arith, served test .low, served test .high) in
+    served-key _ _ _ _ (zero test) (c .served .ensures .0) (c .served .ensures .1 ∙ ap (λ (b : ℕ). b * a .rounds) (c .before .block-size .ensures)) refl refl refl
+    (words .words .ensures ∙ ap (λ (n : ℕ). preparedWords (a .cipher) n (a .key .now)) whole)
+
+pub prepare-spec : {M : Type 1} → statement M
+prepare-spec =
+    tie.close
+    (tie.spec
+    for-key-requires
+    refused-requires
+    zeros-requires
+    returns
+    cast-words
+    words-requires
+    block-size-requires
+    mul-served
+    served-requires
+    returns-2)
