@@ -1,11 +1,11 @@
 // Runs one row by every way, and names the ways that differ from what the row says.
 use crate::rows::Case;
 use fox_calls::answer::Answer;
-use fox_cipher::card;
-use fox_cipher::prepared;
-use fox_cipher::prepared::Preparation;
-use fox_cipher::prepared::Prepared;
-use fox_cipher::server;
+use fox_card::block as card;
+use fox_server::prepared;
+use fox_server::prepared::Preparation;
+use fox_server::prepared::Prepared;
+use fox_server::block as server;
 
 const PAINT: u8 = 0xA5;
 
