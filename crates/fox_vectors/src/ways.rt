@@ -2,10 +2,10 @@
 use crate::rows::Case;
 use fox_calls::answer::Answer;
 use fox_card::block as card;
+use fox_server::block as server;
 use fox_server::prepared;
 use fox_server::prepared::Preparation;
 use fox_server::prepared::Prepared;
-use fox_server::block as server;
 
 const PAINT: u8 = 0xA5;
 

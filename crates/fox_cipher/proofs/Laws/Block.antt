@@ -2,14 +2,23 @@
 -- Assumes nothing.
 use mathlib.Core.Path.{_≡_, refl, sym, ap, ap₂, _∙_}
 use mathlib.Core.List.{List}
+use mathlib.Core.Bool.{Bool, true, false}
 use Prim.Native.Nat.{ℕ, _%_, _≤_}
 use native.Mathlib.Omega.{arith}
 use lib.Dec.{eqb}
-use borrow.Author.Tests.{eq-eqb, ne-eqb}
+use borrow.Author.Tests.{eq-eqb, ne-eqb, eqb-true, eqb-false}
 use Rattle.fox_rounds.specs.Skeleton.{seal64, open64, seal128, open128}
 use Rattle.fox_schedule.specs.Schedule.{roundKeys64, roundKeys128}
 use Rattle.fox_calls.specs.Refusals.{blockSize, Blocked}
 use Rattle.fox_cipher.specs.Block.{state64, state128, bytes64, bytes128, sealWith, openWith, roundKeys, sealBlock, openBlock}
+
+-- a number is 64 or not
+case : (c : ℕ) {A : Type 0} (t : Bool) → eqb c 64 ≡ t → (c ≡ 64 → A) → ((c ≡ 64 → ⊥) → A) → A
+case c true d is isnt = is (eqb-true c 64 d)
+case c false d is isnt = isnt (eqb-false c 64 d)
+
+pub by-cipher : (c : ℕ) {A : Type 0} → (c ≡ 64 → A) → ((c ≡ 64 → ⊥) → A) → A
+by-cipher c is isnt = case c (eqb c 64) refl is isnt
 
 pub size-64 : (c : ℕ) → c ≡ 64 → blockSize c ≡ 8
 unfolding blockSize

@@ -2,13 +2,12 @@
 -- Assumes nothing.
 use mathlib.Core.Path.{_≡_, refl, sym, ap, ap₂, _∙_}
 use mathlib.Core.List.{List, [], _∷_, _++_}
-use mathlib.Core.Bool.{Bool, true, false}
 use Prim.Native.Nat.{ℕ, zero, suc, _+_, _-_, _*_, _^_, _<_, _≤_}
 use native.Mathlib.Nat.{le-of-suc-le-suc, not-suc-le-zero, zero-add}
 use native.Mathlib.Omega.{arith}
 use lib.Dec.{eqb}
 use lib.ListN.{length, getD, replicate, List·getD-append}
-use borrow.Author.Tests.{eq-eqb, ne-eqb, eqb-true, eqb-false}
+use borrow.Author.Tests.{eq-eqb, ne-eqb}
 use Rattle.fox_rounds.specs.Rounds.{left, right}
 use Rattle.fox_rounds.specs.Skeleton.{numbered, held64, held128}
 use Rattle.fox_rounds.proofs.Laws.Halves.{pair}
@@ -16,7 +15,7 @@ use Rattle.fox_rounds.proofs.Laws.Skeleton.{length-numbered, numbered-next, num
 use Rattle.fox_nonlinear.proofs.Laws.Wide.{NL128-lt}
 use Rattle.fox_schedule.specs.Schedule.{key128, roundKey64, roundKey128, roundKeys64, roundKeys128}
 use Rattle.fox_cipher.specs.Block.{roundKeys}
-use Rattle.fox_cipher.proofs.Laws.Block.{roundKeys-64, roundKeys-128}
+use Rattle.fox_cipher.proofs.Laws.Block.{by-cipher, roundKeys-64, roundKeys-128}
 use Rattle.fox_server.specs.Prepared.{inHalves, filled, preparedWords, heldKeys}
 use Rattle.fox_server.specs.declared.prepared.Prepared.{Prepared}
 use Rattle.fox_server.proofs.Laws.Filled.{length-inHalves}
@@ -28,7 +27,7 @@ listed [] = refl
 listed (k ∷ ks) =
     ap (λ (ls : List ℕ). k ∷ ls) (numbered-next (λ (i : ℕ). getD (k ∷ ks) i 0) (length ks) 0 ∙ listed ks)
 
-filled-at : (ws : List ℕ) (i : ℕ) → i < length ws → getD (filled ws) i 0 ≡ getD ws i 0
+pub filled-at : (ws : List ℕ) (i : ℕ) → i < length ws → getD (filled ws) i 0 ≡ getD ws i 0
 unfolding filled
 filled-at ws i h = List·getD-append ws (replicate (510 - length ws) 0) 0 i h
 
@@ -40,7 +39,7 @@ held64-filled ks n e =
     (λ i h. filled-at ks i (omega arith))
     ∙ listed ks
 
-left-at : (ks : List ℕ) (i : ℕ) → i < length ks → getD (inHalves ks) (2 * i) 0 ≡ left 64 (getD ks i 0)
+pub left-at : (ks : List ℕ) (i : ℕ) → i < length ks → getD (inHalves ks) (2 * i) 0 ≡ left 64 (getD ks i 0)
 unfolding inHalves
 left-at [] i h = absurd (not-suc-le-zero h)
 left-at (k ∷ ks) zero h = refl
@@ -48,7 +47,7 @@ left-at (k ∷ ks) (suc i) h =
     let next : 2 * suc i ≡ suc (suc (2 * i)) = omega arith in
     ap (λ (j : ℕ). getD (left 64 k ∷ right 64 k ∷ inHalves ks) j 0) next ∙ left-at ks i (le-of-suc-le-suc h)
 
-right-at : (ks : List ℕ) (i : ℕ) → i < length ks → getD (inHalves ks) (2 * i + 1) 0 ≡ right 64 (getD ks i 0)
+pub right-at : (ks : List ℕ) (i : ℕ) → i < length ks → getD (inHalves ks) (2 * i + 1) 0 ≡ right 64 (getD ks i 0)
 unfolding inHalves
 right-at [] i h = absurd (not-suc-le-zero h)
 right-at (k ∷ ks) zero h = refl
@@ -87,7 +86,7 @@ unfolding heldKeys
 heldKeys-128 p n = simp (ne-eqb (p .cipher) 64 n)
 
 -- the round keys of FOX128 fit two words
-roundKey128-lt : (r : ℕ) (key : List ℕ) (i : ℕ) → roundKey128 r key i < 2 ^ 128
+pub roundKey128-lt : (r : ℕ) (key : List ℕ) (i : ℕ) → roundKey128 r key i < 2 ^ 128
 unfolding roundKey128 key128
 roundKey128-lt r key i = NL128-lt _ _
 
@@ -105,18 +104,17 @@ held-128 r key =
 -- a prepared key with the words of a key holds the round keys of the definition
 pub held-prepared : (p : Prepared) (key : List ℕ) → p .keys ≡ preparedWords (p .cipher) (p .rounds) key
     → heldKeys p ≡ roundKeys (p .cipher) (p .rounds) key
-held-prepared p key e = by-cipher (eqb (p .cipher) 64) refl
-  where
-    by-cipher : (t : Bool) → eqb (p .cipher) 64 ≡ t → heldKeys p ≡ roundKeys (p .cipher) (p .rounds) key
-    by-cipher true d =
-        let is : p .cipher ≡ 64 = eqb-true (p .cipher) 64 d in
-        heldKeys-64 p is
-        ∙ ap (λ (ws : List ℕ). numbered (held64 ws) (p .rounds) 0) (e ∙ preparedWords-64 (p .cipher) (p .rounds) key is)
-        ∙ held-64 (p .rounds) key
-        ∙ sym (roundKeys-64 (p .cipher) (p .rounds) key is)
-    by-cipher false d =
-        let not-so : p .cipher ≡ 64 → ⊥ = eqb-false (p .cipher) 64 d in
-        heldKeys-128 p not-so
-        ∙ ap (λ (ws : List ℕ). numbered (held128 ws) (p .rounds) 0) (e ∙ preparedWords-128 (p .cipher) (p .rounds) key not-so)
-        ∙ held-128 (p .rounds) key
-        ∙ sym (roundKeys-128 (p .cipher) (p .rounds) key not-so)
+held-prepared p key e =
+    let c = p .cipher in
+    let r = p .rounds in
+    by-cipher c
+    (λ is.
+    heldKeys-64 p is
+    ∙ ap (λ (ws : List ℕ). numbered (held64 ws) r 0) (e ∙ preparedWords-64 c r key is)
+    ∙ held-64 r key
+    ∙ sym (roundKeys-64 c r key is))
+    (λ isnt.
+    heldKeys-128 p isnt
+    ∙ ap (λ (ws : List ℕ). numbered (held128 ws) r 0) (e ∙ preparedWords-128 c r key isnt)
+    ∙ held-128 r key
+    ∙ sym (roundKeys-128 c r key isnt))

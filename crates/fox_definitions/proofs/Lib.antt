@@ -1,0 +1,2 @@
+-- The definitions on the specification's vectors.
+pub mod Vectors
