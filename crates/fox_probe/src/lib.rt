@@ -1,10 +1,22 @@
-// One exported function for each inner function whose instructions are counted (tests/instructions.sh): it hands on what it was lent, so
-// that the code under its symbol is the inner function's. No product uses this crate.
+// Exported functions whose instructions and stack the gate measures (tests/instructions.sh, tests/measure.c). No product uses this crate.
 ghost use mathlib.Core.Path.{_≡_};
 ghost use mathlib.Core.List.{[], _∷_};
+ghost use Prim.Native.Nat.{_≤_};
+ghost use lib.ListN.{length};
 ghost use Rattle.fox_layers.specs.Words.{split};
 ghost use Rattle.fox_layers.specs.Tables.{gathered};
+ghost use Rattle.fox_calls.specs.Refusals.{forBlock};
+ghost use Rattle.fox_cipher.specs.Block.{sealBlock, openBlock};
+ghost use Rattle.fox_probe.specs.Again.{again64, again128};
+ghost use Rattle.fox_probe.specs.Handed.{Handed};
+use fox_card::block;
 use fox_layers::tables;
+use fox_layers::tables::joined4;
+use fox_layers::tables::joined8;
+use fox_layers::tables::whole_box;
+use fox_rounds::fox128::Fox128;
+use fox_rounds::fox64::Fox64;
+use fox_rounds::lent;
 
 #[no_mangle]
 pub extern "C" fn fox_probe_sigma_mu4<'a>(
@@ -34,4 +46,75 @@ pub extern "C" fn fox_probe_sigma_mu8<'a>(
     ensures { λ r. ⌜ r ≡ gathered (now (a .entry) ∷ now (b .entry) ∷ now (c .entry) ∷ now (d .entry) ∷ now (e .entry) ∷ now (f .entry) ∷ now (g .entry) ∷ now (h .entry) ∷ []) (split 8 w) ⌝ }
 {
     tables::sigma_mu8(a, b, c, d, e, f, g, h, w)
+}
+
+fn again64(keys: &[u64; 510], rounds: usize, blocks: u32, x: Fox64) -> Fox64
+    requires { ⌜ (1 ≤ rounds) × (rounds ≤ 255) ⌝ }
+    ensures { λ r. ⌜ r ≡ again64 (now (keys .entry)) rounds blocks x ⌝ }
+{
+    let s = whole_box::sbox();
+    let t = joined4::tbsm();
+    let mut y = x;
+    for i in 0..blocks {
+        y = lent::seal64(&s, &t.a, &t.b, &t.c, &t.d, keys, rounds, y);
+    }
+    y
+}
+
+fn again128(keys: &[u64; 510], rounds: usize, blocks: u32, x: Fox128) -> Fox128
+    requires { ⌜ (1 ≤ rounds) × (rounds ≤ 255) ⌝ }
+    ensures { λ r. ⌜ r ≡ again128 (now (keys .entry)) rounds blocks x ⌝ }
+{
+    let s = whole_box::sbox();
+    let t = joined8::tbsm();
+    let mut y = x;
+    for i in 0..blocks {
+        y = lent::seal128(&s, &t.a, &t.b, &t.c, &t.d, &t.e, &t.f, &t.g, &t.h, keys, rounds, y);
+    }
+    y
+}
+
+// One block sealed so many times by the first 16 round keys of those lent: the left word.
+#[no_mangle]
+pub extern "C" fn fox_probe_again64(keys: &[u64; 510], blocks: u32, l: u32, r: u32) -> u32
+    ensures { λ w. ⌜ w ≡ again64 (now (keys .entry)) 16 blocks (record { l = l; r = r }) .l ⌝ }
+{
+    let y = again64(keys, 16, blocks, Fox64::new(l, r));
+    y.l
+}
+
+#[no_mangle]
+pub extern "C" fn fox_probe_again128(keys: &[u64; 510], blocks: u32, a: u32, b: u32, c: u32, d: u32) -> u32
+    ensures { λ w. ⌜ w ≡ again128 (now (keys .entry)) 16 blocks (record { ll = a; lr = b; rl = c; rr = d }) .ll ⌝ }
+{
+    let y = again128(keys, 16, blocks, Fox128::new(a, b, c, d));
+    y.ll
+}
+
+#[no_mangle]
+pub extern "C" fn fox_probe_card_seal(
+    cipher: u32,
+    rounds: u32,
+    key: &[u8],
+    block: &[u8],
+    out: &mut [u8],
+) -> u32
+    ensures { λ r. ⌜ Handed (forBlock cipher rounds (length (now (key .entry))) (length (now (block .entry))) (length (now (out .entry)))) (sealBlock cipher rounds (now (key .entry)) (now (block .entry))) (now (out .entry)) (now (out .exit)) r ⌝ }
+{
+    let answer = block::seal(cipher, rounds, key, block, out);
+    answer.refusal
+}
+
+#[no_mangle]
+pub extern "C" fn fox_probe_card_open(
+    cipher: u32,
+    rounds: u32,
+    key: &[u8],
+    block: &[u8],
+    out: &mut [u8],
+) -> u32
+    ensures { λ r. ⌜ Handed (forBlock cipher rounds (length (now (key .entry))) (length (now (block .entry))) (length (now (out .entry)))) (openBlock cipher rounds (now (key .entry)) (now (block .entry))) (now (out .entry)) (now (out .exit)) r ⌝ }
+{
+    let answer = block::open(cipher, rounds, key, block, out);
+    answer.refusal
 }

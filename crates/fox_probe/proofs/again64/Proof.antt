@@ -1,0 +1,76 @@
+-- `again64` meets its contract.
+-- Assumes nothing.
+use borrow.Author.Needs.{needs}
+use mathlib.Core.Path.{_≡_, refl, sym, ap, _∙_}
+use Prim.Native.Nat.{ℕ, _+_, _-_, _≤_}
+use native.Mathlib.Omega.{arith}
+use Rattle.fox_rounds.specs.Lent.{Lent4}
+use Rattle.fox_rounds.specs.Skeleton.{numbered, seal64, held64}
+use Rattle.fox_keying.specs.Register.{times}
+use Rattle.fox_keying.proofs.Laws.Register.{times-suc}
+use Rattle.fox_probe.specs.Again.{again64}
+use Rattle.fox_probe.proofs.again64.Statement.{statement}
+use Rattle.fox_probe.proofs.again64.Tie as tie
+use Rattle.fox_probe.proofs.again64.Reads as reads
+use Rattle.fox_probe.proofs.again64.Lts as lts
+use Rattle.fox_layers.proofs.tables.joined4.tbsm.Reads as tbsm-reads
+use Rattle.fox_layers.proofs.tables.whole_box.sbox.Reads as sbox-reads
+use Rattle.fox_rounds.proofs.lent.seal64.Reads as seal64-reads
+
+abbrev Inv-loop : tie.InvT-loop
+Inv-loop keys rounds blocks s t y₀ i₀ y i = (i ≤ blocks) × (y ≡ again64 keys rounds i y₀)
+
+abbrev μ-loop : tie.MeasureT-loop
+μ-loop keys rounds blocks s t y₀ i₀ y i = blocks - i
+
+sbox-requires : tie.Need-sbox-requires Inv-loop μ-loop
+sbox-requires c κs = search needs
+
+tbsm-requires : tie.Need-tbsm-requires Inv-loop μ-loop
+tbsm-requires c κs = search needs
+
+loop-holds : tie.Need-loop-holds Inv-loop μ-loop
+unfolding again64 times
+loop-holds c = (search needs, refl)
+
+seal64-requires : tie.Need-seal64-requires Inv-loop μ-loop
+seal64-requires c κs =
+    let tables = c .before .before .before .before .before .before .before .before in
+    let asked = tables .before .before .pre in
+    (record { s = tables .before .sbox .ensures; a = tables .tbsm .ensures .a; b = tables .tbsm .ensures .b; c = tables .tbsm .ensures .c; d = tables .tbsm .ensures .d }, (asked .0, omega (arith, asked .1)))
+
+add-i : tie.Need-add-i Inv-loop μ-loop
+add-i c = search needs
+
+loop-less : tie.Need-loop-less Inv-loop μ-loop
+loop-less c = search needs
+
+loop-again : tie.Need-loop-again Inv-loop μ-loop
+unfolding again64
+loop-again c =
+    let at = c .before .before .before .before .before .before .before .before in
+    let a = at .before .before .before .args in
+    let one = seal64 (numbered (held64 (a .keys .now)) (a .rounds) 0) in
+    (omega (arith, c .before .before .before .before .before .before .before .loop-test .taken), c .seal64 .ensures ∙ ap one (at .loop .inv .1) ∙ sym (times-suc (at .loop .i) one (a .x)))
+
+returns : tie.Need-returns Inv-loop μ-loop
+returns c =
+    let at = c .before in
+    let a = at .before .before .before .args in
+    let all : at .loop .i ≡ a .blocks = omega arith in
+    at .loop .inv .1 ∙ ap (λ (n : ℕ). again64 (a .keys .now) (a .rounds) n (a .x)) all
+
+pub again64-spec : {M : Type 1} → statement M
+again64-spec =
+    tie.close
+    (tie.spec
+    Inv-loop
+    μ-loop
+    sbox-requires
+    tbsm-requires
+    loop-holds
+    seal64-requires
+    add-i
+    loop-less
+    loop-again
+    returns)

@@ -1,0 +1,3 @@
+-- What the exports cite besides the definitions below them.
+pub mod Again
+pub mod Handed
