@@ -7,10 +7,10 @@ ghost use Rattle.fox_schedule.specs.Schedule.{roundKeys64, roundKeys128};
 ghost use Rattle.fox_calls.specs.Refusals.{forBlock};
 ghost use Rattle.fox_calls.specs.Reply.{Reply};
 ghost use Rattle.fox_cipher.specs.Block.{state64, state128, bytes64, bytes128, sealBlock, openBlock};
-use crate::rounds::open64;
-use crate::rounds::open128;
-use crate::rounds::seal64;
-use crate::rounds::seal128;
+use crate::rounds64::open64;
+use crate::rounds64::seal64;
+use crate::rounds128::open128;
+use crate::rounds128::seal128;
 use fox_calls::answer::Answer;
 use fox_calls::refusals::for_block;
 use fox_cipher::blocks::read64;
@@ -26,7 +26,8 @@ fn seal64_block(rounds: u8, key: &[u8], block: &[u8], out: &mut [u8])
 {
     let s = Schedule64::of(key);
     let x = read64(block);
-    write64(out, seal64(s, rounds, x));
+    let sealed = seal64(s, rounds, x);
+    write64(out, sealed);
 }
 
 fn seal128_block(rounds: u8, key: &[u8], block: &[u8], out: &mut [u8])
@@ -35,7 +36,8 @@ fn seal128_block(rounds: u8, key: &[u8], block: &[u8], out: &mut [u8])
 {
     let s = Schedule128::of(key);
     let x = read128(block);
-    write128(out, seal128(s, rounds, x));
+    let sealed = seal128(s, rounds, x);
+    write128(out, sealed);
 }
 
 fn open64_block(rounds: u8, key: &[u8], block: &[u8], out: &mut [u8])
@@ -44,7 +46,8 @@ fn open64_block(rounds: u8, key: &[u8], block: &[u8], out: &mut [u8])
 {
     let s = Schedule64::of(key);
     let x = read64(block);
-    write64(out, open64(s, rounds, x));
+    let opened = open64(s, rounds, x);
+    write64(out, opened);
 }
 
 fn open128_block(rounds: u8, key: &[u8], block: &[u8], out: &mut [u8])
@@ -53,7 +56,8 @@ fn open128_block(rounds: u8, key: &[u8], block: &[u8], out: &mut [u8])
 {
     let s = Schedule128::of(key);
     let x = read128(block);
-    write128(out, open128(s, rounds, x));
+    let opened = open128(s, rounds, x);
+    write128(out, opened);
 }
 
 pub fn seal(cipher: u32, rounds: u32, key: &[u8], block: &[u8], out: &mut [u8]) -> Answer

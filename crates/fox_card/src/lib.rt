@@ -1,3 +1,4 @@
 // The card's way: sealing and opening one block with little memory.
 pub mod block;
-pub mod rounds;
+pub mod rounds128;
+pub mod rounds64;

@@ -14,9 +14,10 @@ use fox_layers::tables;
 use fox_layers::tables::joined4;
 use fox_layers::tables::joined8;
 use fox_layers::tables::whole_box;
-use fox_rounds::fox128::Fox128;
 use fox_rounds::fox64::Fox64;
-use fox_rounds::lent;
+use fox_rounds::fox128::Fox128;
+use fox_rounds::lent64;
+use fox_rounds::lent128;
 
 #[no_mangle]
 pub extern "C" fn fox_probe_sigma_mu4<'a>(
@@ -56,7 +57,7 @@ fn again64(keys: &[u64; 510], rounds: usize, blocks: u32, x: Fox64) -> Fox64
     let t = joined4::tbsm();
     let mut y = x;
     for i in 0..blocks {
-        y = lent::seal64(&s, &t.a, &t.b, &t.c, &t.d, keys, rounds, y);
+        y = lent64::seal64(&s, &t.a, &t.b, &t.c, &t.d, keys, rounds, y);
     }
     y
 }
@@ -69,7 +70,20 @@ fn again128(keys: &[u64; 510], rounds: usize, blocks: u32, x: Fox128) -> Fox128
     let t = joined8::tbsm();
     let mut y = x;
     for i in 0..blocks {
-        y = lent::seal128(&s, &t.a, &t.b, &t.c, &t.d, &t.e, &t.f, &t.g, &t.h, keys, rounds, y);
+        y = lent128::seal128(
+            &s,
+            &t.a,
+            &t.b,
+            &t.c,
+            &t.d,
+            &t.e,
+            &t.f,
+            &t.g,
+            &t.h,
+            keys,
+            rounds,
+            y,
+        );
     }
     y
 }
@@ -84,7 +98,14 @@ pub extern "C" fn fox_probe_again64(keys: &[u64; 510], blocks: u32, l: u32, r: u
 }
 
 #[no_mangle]
-pub extern "C" fn fox_probe_again128(keys: &[u64; 510], blocks: u32, a: u32, b: u32, c: u32, d: u32) -> u32
+pub extern "C" fn fox_probe_again128(
+    keys: &[u64; 510],
+    blocks: u32,
+    a: u32,
+    b: u32,
+    c: u32,
+    d: u32,
+) -> u32
     ensures { λ w. ⌜ w ≡ again128 (now (keys .entry)) 16 blocks (record { ll = a; lr = b; rl = c; rr = d }) .ll ⌝ }
 {
     let y = again128(keys, 16, blocks, Fox128::new(a, b, c, d));

@@ -19,7 +19,8 @@ use fox_cipher::blocks::write128;
 use fox_layers::tables::joined4;
 use fox_layers::tables::joined8;
 use fox_layers::tables::whole_box;
-use fox_rounds::lent;
+use fox_rounds::lent64;
+use fox_rounds::lent128;
 
 fn seal64_block(keys: &[u64; 510], rounds: usize, block: &[u8], out: &mut [u8])
     requires { ⌜ (1 ≤ rounds) × (rounds ≤ 255) × (length (now block) ≡ 8) × (length (now out) ≡ 8) ⌝ }
@@ -28,8 +29,8 @@ fn seal64_block(keys: &[u64; 510], rounds: usize, block: &[u8], out: &mut [u8])
     let s = whole_box::sbox();
     let t = joined4::tbsm();
     let x = read64(block);
-    let y = lent::seal64(&s, &t.a, &t.b, &t.c, &t.d, keys, rounds, x);
-    write64(out, y);
+    let sealed = lent64::seal64(&s, &t.a, &t.b, &t.c, &t.d, keys, rounds, x);
+    write64(out, sealed);
 }
 
 fn seal128_block(keys: &[u64; 510], rounds: usize, block: &[u8], out: &mut [u8])
@@ -39,7 +40,7 @@ fn seal128_block(keys: &[u64; 510], rounds: usize, block: &[u8], out: &mut [u8])
     let s = whole_box::sbox();
     let t = joined8::tbsm();
     let x = read128(block);
-    let y = lent::seal128(
+    let sealed = lent128::seal128(
         &s,
         &t.a,
         &t.b,
@@ -53,7 +54,7 @@ fn seal128_block(keys: &[u64; 510], rounds: usize, block: &[u8], out: &mut [u8])
         rounds,
         x,
     );
-    write128(out, y);
+    write128(out, sealed);
 }
 
 fn open64_block(keys: &[u64; 510], rounds: usize, block: &[u8], out: &mut [u8])
@@ -63,8 +64,8 @@ fn open64_block(keys: &[u64; 510], rounds: usize, block: &[u8], out: &mut [u8])
     let s = whole_box::sbox();
     let t = joined4::tbsm();
     let x = read64(block);
-    let y = lent::open64(&s, &t.a, &t.b, &t.c, &t.d, keys, rounds, x);
-    write64(out, y);
+    let opened = lent64::open64(&s, &t.a, &t.b, &t.c, &t.d, keys, rounds, x);
+    write64(out, opened);
 }
 
 fn open128_block(keys: &[u64; 510], rounds: usize, block: &[u8], out: &mut [u8])
@@ -74,7 +75,7 @@ fn open128_block(keys: &[u64; 510], rounds: usize, block: &[u8], out: &mut [u8])
     let s = whole_box::sbox();
     let t = joined8::tbsm();
     let x = read128(block);
-    let y = lent::open128(
+    let opened = lent128::open128(
         &s,
         &t.a,
         &t.b,
@@ -88,7 +89,7 @@ fn open128_block(keys: &[u64; 510], rounds: usize, block: &[u8], out: &mut [u8])
         rounds,
         x,
     );
-    write128(out, y);
+    write128(out, opened);
 }
 
 // From a prepared key: one that a caller filled himself gets the answer of the round keys that it holds.

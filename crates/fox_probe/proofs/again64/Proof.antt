@@ -11,11 +11,6 @@ use Rattle.fox_keying.proofs.Laws.Register.{times-suc}
 use Rattle.fox_probe.specs.Again.{again64}
 use Rattle.fox_probe.proofs.again64.Statement.{statement}
 use Rattle.fox_probe.proofs.again64.Tie as tie
-use Rattle.fox_probe.proofs.again64.Reads as reads
-use Rattle.fox_probe.proofs.again64.Lts as lts
-use Rattle.fox_layers.proofs.tables.joined4.tbsm.Reads as tbsm-reads
-use Rattle.fox_layers.proofs.tables.whole_box.sbox.Reads as sbox-reads
-use Rattle.fox_rounds.proofs.lent.seal64.Reads as seal64-reads
 
 abbrev Inv-loop : tie.InvT-loop
 Inv-loop keys rounds blocks s t y₀ i₀ y i = (i ≤ blocks) × (y ≡ again64 keys rounds i y₀)

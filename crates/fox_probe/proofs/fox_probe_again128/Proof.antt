@@ -6,10 +6,6 @@ use Rattle.fox_rounds.specs.declared.fox128.Fox128.{Fox128}
 use Rattle.fox_probe.specs.Again.{again128}
 use Rattle.fox_probe.proofs.fox_probe_again128.Statement.{statement}
 use Rattle.fox_probe.proofs.fox_probe_again128.Tie as tie
-use Rattle.fox_probe.proofs.fox_probe_again128.Reads as reads
-use Rattle.fox_probe.proofs.fox_probe_again128.Lts as lts
-use Rattle.fox_probe.proofs.again128.Reads as again128-reads
-use Rattle.fox_rounds.proofs.fox128.Fox128.new.Reads as new-reads
 
 new-requires : tie.Need-new-requires
 new-requires c κs = search needs

@@ -6,10 +6,6 @@ use Rattle.fox_rounds.specs.declared.fox64.Fox64.{Fox64}
 use Rattle.fox_probe.specs.Again.{again64}
 use Rattle.fox_probe.proofs.fox_probe_again64.Statement.{statement}
 use Rattle.fox_probe.proofs.fox_probe_again64.Tie as tie
-use Rattle.fox_probe.proofs.fox_probe_again64.Reads as reads
-use Rattle.fox_probe.proofs.fox_probe_again64.Lts as lts
-use Rattle.fox_probe.proofs.again64.Reads as again64-reads
-use Rattle.fox_rounds.proofs.fox64.Fox64.new.Reads as new-reads
 
 new-requires : tie.Need-new-requires
 new-requires c κs = search needs

@@ -31,8 +31,8 @@ returns : tie.Need-returns
 unfolding keyAt64
 returns c =
     let c1 = c .before .before in
-    let c2 = c1 .before in
-    let c3 = c2 .before .before in
+    let c2 = c1 .before .before in
+    let c3 = c2 .before in
     let c4 = c3 .before in
     let a = c4 .before .before .before .before .args in
     c1 .write64 .ensures

@@ -1,0 +1,20 @@
+-- `rounds128::elmid128` meets its contract.
+-- Assumes nothing.
+use borrow.Author.Needs.{needs}
+use mathlib.Core.Path.{ap, _∙_}
+use Prim.Native.Nat.{ℕ}
+use Rattle.fox_rounds.specs.Rounds.{elmid128}
+use Rattle.fox_card.proofs.rounds128.elmid128.Statement.{statement}
+use Rattle.fox_card.proofs.rounds128.elmid128.Tie as tie
+
+round-key-requires : tie.Need-round-key-requires
+round-key-requires c κs = search needs
+
+elmid-requires : tie.Need-elmid-requires
+elmid-requires c κs = search needs
+
+returns : tie.Need-returns
+returns c = c .elmid .ensures ∙ ap (λ (k : ℕ). elmid128 k (c .before .before .args .x)) (c .before .round-key .ensures)
+
+pub elmid128-spec : {M : Type 1} → statement M
+elmid128-spec = tie.close (tie.spec round-key-requires elmid-requires returns)
