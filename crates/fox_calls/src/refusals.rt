@@ -1,11 +1,17 @@
 // The refusals of a key and of a block: the first that applies, and 0 where none does.
 ghost use mathlib.Core.Path.{_≡_};
 ghost use Rattle.fox_calls.specs.Refusals.{refusalOf, blockSize, noCipher, noRounds, longKey, forKey, forBlock};
+use fox_rounds::fox64::Fox64;
+use fox_rounds::fox128::Fox128;
 
 pub fn block_size(cipher: u32) -> usize
     ensures { λ r. ⌜ r ≡ blockSize cipher ⌝ }
 {
-    if cipher == 64 { 8 } else { 16 }
+    if cipher == 64 {
+        Fox64::BLOCK
+    } else {
+        Fox128::BLOCK
+    }
 }
 
 fn no_cipher(cipher: u32) -> bool

@@ -35,7 +35,7 @@ fn load8(s: &[u8], at: usize) -> u64
     )
 }
 
-pub fn load16(s: &[u8]) -> Key16
+pub(crate) fn load16(s: &[u8]) -> Key16
     requires { ⌜ 16 ≤ length (now s) ⌝ }
     ensures { λ r. ⌜ bytes16 r ≡ take 16 (now (s .entry)) ⌝ }
 {
@@ -45,7 +45,7 @@ pub fn load16(s: &[u8]) -> Key16
     }
 }
 
-pub fn load32(s: &[u8]) -> Key32
+pub(crate) fn load32(s: &[u8]) -> Key32
     requires { ⌜ 32 ≤ length (now s) ⌝ }
     ensures { λ r. ⌜ bytes32 r ≡ take 32 (now (s .entry)) ⌝ }
 {

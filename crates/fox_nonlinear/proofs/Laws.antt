@@ -1,5 +1,4 @@
 -- Laws beside definitions: what a proof cites in place of a definition's text.
 pub mod Words
 pub mod Layers
-pub mod Skeleton
 pub mod Wide

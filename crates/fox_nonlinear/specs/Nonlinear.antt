@@ -84,11 +84,11 @@ NL64h flip dkey =
     number64 (seal64 (words 8 4 dkey) hashed)
 
 -- §2.3.12: the hashing layer takes words of 64 bits, and the round takes their halves
-unfoldable pub state128 : ℕ → ℕ → Fox128
-state128 a b =
+unfoldable pub parts128 : ℕ → ℕ → Fox128
+parts128 a b =
     record { ll = left 32 a; lr = right 32 a; rl = left 32 b; rr = right 32 b }
 
 unfoldable pub NL128 : Bool → List ℕ → ℕ
 NL128 flip dkey =
     let t = layers 8 4 mu8 mix128 flip (words 8 4 dkey) in
-    number128 (seal128 (words 16 2 dkey) (state128 (getD t 0 0 ⊕ getD t 2 0) (getD t 1 0 ⊕ getD t 3 0)))
+    number128 (seal128 (words 16 2 dkey) (parts128 (getD t 0 0 ⊕ getD t 2 0) (getD t 1 0 ⊕ getD t 3 0)))

@@ -2,4 +2,4 @@
 pub mod nl128;
 pub mod nl64;
 pub mod nl64h;
-pub mod one_word;
+mod one_word;

@@ -4,18 +4,18 @@ ghost use mathlib.Core.List.{[], _∷_};
 ghost use Prim.Native.Nat.{_+_, _*_, _^_};
 ghost use Rattle.fox_layers.specs.Diffusion.{mu8};
 ghost use Rattle.fox_keying.specs.Held.{bytes32};
-ghost use Rattle.fox_nonlinear.specs.Nonlinear.{words, mix128, layers, state128, NL128};
+ghost use Rattle.fox_nonlinear.specs.Nonlinear.{words, mix128, layers, parts128, NL128};
 use crate::one_word::first8;
 use crate::one_word::second8;
 use fox_keying::held::Key32;
 use fox_rounds::fox128::Fox128;
 use fox_rounds::fox128::pair;
 
-pub struct Longs4 {
-    pub w0: u64,
-    pub w1: u64,
-    pub w2: u64,
-    pub w3: u64,
+struct Longs4 {
+    w0: u64,
+    w1: u64,
+    w2: u64,
+    w3: u64,
 }
 
 // A round key of 128 bits.
@@ -25,7 +25,7 @@ pub struct Key128 {
 }
 
 // Up to the hashing layer.
-pub fn layers128(d: Key32, flip: bool) -> Longs4
+fn layers128(d: Key32, flip: bool) -> Longs4
     ensures { λ r. ⌜ r .w0 ∷ r .w1 ∷ r .w2 ∷ r .w3 ∷ [] ≡ layers 8 4 mu8 mix128 flip (words 8 4 (bytes32 d)) ⌝ }
 {
     let x0 = first8(d.a);
@@ -41,8 +41,8 @@ pub fn layers128(d: Key32, flip: bool) -> Longs4
 }
 
 // The hashing layer gives words of 64 bits, and a round takes their halves.
-pub fn state(a: u64, b: u64) -> Fox128
-    ensures { λ x. ⌜ x ≡ state128 a b ⌝ }
+fn state(a: u64, b: u64) -> Fox128
+    ensures { λ x. ⌜ x ≡ parts128 a b ⌝ }
 {
     Fox128 {
         ll: (a / 0x1_0000_0000) as u32,

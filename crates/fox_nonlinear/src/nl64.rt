@@ -11,15 +11,15 @@ use fox_keying::held::Key16;
 use fox_rounds::fox64::Fox64;
 use fox_rounds::fox128::pair;
 
-pub struct Words4 {
-    pub w0: u32,
-    pub w1: u32,
-    pub w2: u32,
-    pub w3: u32,
+struct Words4 {
+    w0: u32,
+    w1: u32,
+    w2: u32,
+    w3: u32,
 }
 
 // Up to the hashing layer.
-pub fn layers64(d: Key16, flip: bool) -> Words4
+fn layers64(d: Key16, flip: bool) -> Words4
     ensures { λ r. ⌜ r .w0 ∷ r .w1 ∷ r .w2 ∷ r .w3 ∷ [] ≡ layers 4 4 mu4 mix64 flip (words 4 4 (bytes16 d)) ⌝ }
 {
     let x0 = first4((d.a / 0x1_0000_0000) as u32);
@@ -35,7 +35,7 @@ pub fn layers64(d: Key16, flip: bool) -> Words4
 }
 
 // The state after the last round, as one number: that round has no "or".
-pub fn number(x: Fox64) -> u64
+pub(crate) fn number(x: Fox64) -> u64
     ensures { λ r. ⌜ r ≡ x .l * 2 ^ 32 + x .r ⌝ }
 {
     pair(x.l, x.r)

@@ -10,19 +10,19 @@ use crate::one_word::second4;
 use fox_keying::held::Key32;
 use fox_rounds::fox64::Fox64;
 
-pub struct Words8 {
-    pub w0: u32,
-    pub w1: u32,
-    pub w2: u32,
-    pub w3: u32,
-    pub w4: u32,
-    pub w5: u32,
-    pub w6: u32,
-    pub w7: u32,
+struct Words8 {
+    w0: u32,
+    w1: u32,
+    w2: u32,
+    w3: u32,
+    w4: u32,
+    w5: u32,
+    w6: u32,
+    w7: u32,
 }
 
 // Up to the hashing layer.
-pub fn layers64h(d: Key32, flip: bool) -> Words8
+fn layers64h(d: Key32, flip: bool) -> Words8
     ensures { λ r. ⌜ r .w0 ∷ r .w1 ∷ r .w2 ∷ r .w3 ∷ r .w4 ∷ r .w5 ∷ r .w6 ∷ r .w7 ∷ []
         ≡ layers 4 8 mu4 mix64h flip (words 4 8 (bytes32 d)) ⌝ }
 {

@@ -11,20 +11,20 @@ use fox_layers::small_boxes::sigma4;
 use fox_layers::small_boxes::sigma8;
 
 // Up to the mixing.
-pub fn first4(w: u32) -> u32
+pub(crate) fn first4(w: u32) -> u32
     ensures { λ r. ⌜ r ≡ mu4 (sigma 4 w) ⌝ }
 {
     mu4(sigma4(w))
 }
 
-pub fn first8(w: u64) -> u64
+pub(crate) fn first8(w: u64) -> u64
     ensures { λ r. ⌜ r ≡ mu8 (sigma 8 w) ⌝ }
 {
     mu8(sigma8(w))
 }
 
 // From the mixing on: the sum of three words, the pad's word, the flip, the substitution.
-pub fn second4(x: u32, y: u32, z: u32, pad: u32, flip: bool) -> u32
+pub(crate) fn second4(x: u32, y: u32, z: u32, pad: u32, flip: bool) -> u32
     ensures { λ r. ⌜ r ≡ sigma 4 (cond flip (flipped 4 ((x ⊕ y ⊕ z) ⊕ pad)) ((x ⊕ y ⊕ z) ⊕ pad)) ⌝ }
 {
     let w = x ^ (y ^ z) ^ pad;
@@ -35,7 +35,7 @@ pub fn second4(x: u32, y: u32, z: u32, pad: u32, flip: bool) -> u32
     }
 }
 
-pub fn second8(x: u64, y: u64, z: u64, pad: u64, flip: bool) -> u64
+pub(crate) fn second8(x: u64, y: u64, z: u64, pad: u64, flip: bool) -> u64
     ensures { λ r. ⌜ r ≡ sigma 8 (cond flip (flipped 8 ((x ⊕ y ⊕ z) ⊕ pad)) ((x ⊕ y ⊕ z) ⊕ pad)) ⌝ }
 {
     let w = x ^ (y ^ z) ^ pad;

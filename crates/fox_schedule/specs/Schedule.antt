@@ -23,9 +23,9 @@ unfoldable pub key64 : List ℕ → ℕ → ℕ
 key64 key reg =
     let ek = ek64 (length key) in
     let d = dkey (mkey ek key) reg in
-    let long = NL64h (eqb (length key) ek) d in
-    let usual = NL64 (eqb (length key) ek) d in
-    cond (leb (length key) 16) usual long
+    let ks64 = NL64 (eqb (length key) ek) d in
+    let ks64h = NL64h (eqb (length key) ek) d in
+    cond (leb (length key) 16) ks64 ks64h
 
 -- Algorithm 4
 unfoldable pub key128 : List ℕ → ℕ → ℕ

@@ -9,17 +9,17 @@ use Rattle.fox_keying.specs.Held.{bytes16, bytes32}
 use Rattle.fox_nonlinear.specs.Nonlinear.{NL64, NL64h, NL128}
 use Rattle.fox_schedule.specs.Schedule.{ek64, key64, key128}
 use Rattle.fox_schedule.specs.declared.step.Schedule64.{Schedule64}
-use Rattle.fox_schedule.specs.declared.step.Schedule64.the-variants.{Usual, Long}
+use Rattle.fox_schedule.specs.declared.step.Schedule64.the-variants.{Ks64, Ks64h}
 use Rattle.fox_schedule.specs.declared.step.Schedule128.{Schedule128}
 
 unfoldable pub made64 : Schedule64 → ℕ → ℕ
-made64 (Usual m flip) reg = NL64 flip (dkey (bytes16 m) reg)
-made64 (Long m flip) reg = NL64h flip (dkey (bytes32 m) reg)
+made64 (Ks64 m flip) reg = NL64 flip (dkey (bytes16 m) reg)
+made64 (Ks64h m flip) reg = NL64h flip (dkey (bytes32 m) reg)
 
 -- register steps from one round key to the next
 unfoldable pub steps64 : Schedule64 → ℕ
-steps64 (Usual m flip) = 6
-steps64 (Long m flip) = 11
+steps64 (Ks64 m flip) = 6
+steps64 (Ks64h m flip) = 11
 
 unfoldable pub made128 : Schedule128 → ℕ → ℕ
 made128 s reg = NL128 (s .flip) (dkey (bytes32 (s .key)) reg)

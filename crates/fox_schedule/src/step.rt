@@ -19,8 +19,8 @@ use fox_rounds::fox128::Fox128;
 
 // KS64 or KS64h, and whether the key has ek bytes.
 pub enum Schedule64 {
-    Usual(Key16, bool),
-    Long(Key32, bool),
+    Ks64(Key16, bool),
+    Ks64h(Key32, bool),
 }
 
 impl Schedule64 {
@@ -29,9 +29,9 @@ impl Schedule64 {
         ensures { λ s. ⌜ Scheduled64 (now (key .entry)) s ⌝ }
     {
         if key.len() <= Fox64::EK {
-            Schedule64::Usual(mkey16(key), key.len() == Fox64::EK)
+            Schedule64::Ks64(mkey16(key), key.len() == Fox64::EK)
         } else {
-            Schedule64::Long(mkey32(key), key.len() == Fox64::EK_LONG)
+            Schedule64::Ks64h(mkey32(key), key.len() == Fox64::EK_LONG)
         }
     }
 
@@ -40,8 +40,8 @@ impl Schedule64 {
         ensures { λ r. ⌜ r ≡ steps64 self ⌝ }
     {
         match self {
-            Schedule64::Usual(_, _) => Fox64::STEPS,
-            Schedule64::Long(_, _) => Fox64::STEPS_LONG,
+            Schedule64::Ks64(_, _) => Fox64::STEPS,
+            Schedule64::Ks64h(_, _) => Fox64::STEPS_LONG,
         }
     }
 
@@ -50,8 +50,8 @@ impl Schedule64 {
         ensures { λ r. ⌜ r ≡ made64 self reg ⌝ }
     {
         match self {
-            Schedule64::Usual(m, flip) => nl64(dkey16(m, reg), flip),
-            Schedule64::Long(m, flip) => nl64h(dkey32(m, reg), flip),
+            Schedule64::Ks64(m, flip) => nl64(dkey16(m, reg), flip),
+            Schedule64::Ks64h(m, flip) => nl64h(dkey32(m, reg), flip),
         }
     }
 }

@@ -28,7 +28,7 @@ pub struct Preparation {
     pub key: Prepared,
 }
 
-pub fn fill64(s: Schedule64, rounds: u8) -> [u64; 510]
+fn fill64(s: Schedule64, rounds: u8) -> [u64; 510]
     ensures { λ r. ⌜ r ≡ filled (numbered (keyAt64 s rounds) rounds 0) ⌝ }
 {
     let steps = s.steps();
@@ -41,7 +41,7 @@ pub fn fill64(s: Schedule64, rounds: u8) -> [u64; 510]
     keys
 }
 
-pub fn fill128(s: Schedule128, rounds: u8) -> [u64; 510]
+fn fill128(s: Schedule128, rounds: u8) -> [u64; 510]
     ensures { λ r. ⌜ r ≡ filled (inHalves (numbered (keyAt128 s rounds) rounds 0)) ⌝ }
 {
     let mut keys = [0u64; 510];

@@ -4,22 +4,12 @@
 use mathlib.Core.Path.{_≡_, sym, ap, _∙_}
 use mathlib.Core.List.{List, [], _∷_, _++_, append-nil}
 use Prim.Native.Nat.{ℕ, zero, suc, _+_, _-_, _≤_}
-use native.Mathlib.Nat.{zero-lt-suc}
 use native.Mathlib.Omega.{arith}
 use borrow.Rule.Slice.PartMut.{midOf, putMid}
 use lib.ListN.{length, take, drop, getD, length-take, length-drop, take-append-drop, drop-of-length-le}
 use lib.Seq.{length-take-le, getD-drop, drop-drop, drop-cons}
 use Rattle.fox_layers.specs.Words.{joined, split, Bytes}
-use Rattle.fox_layers.proofs.Laws.Words.{split-joined}
-
-pub take-bytes : (n : ℕ) (bs : List ℕ) → Bytes bs → Bytes (take n bs)
-take-bytes zero bs h i = zero-lt-suc 255
-take-bytes (suc n) [] h i = zero-lt-suc 255
-take-bytes (suc n) (b ∷ bs) h zero = h 0
-take-bytes (suc n) (b ∷ bs) h (suc i) = take-bytes n bs (λ k. h (suc k)) i
-
-pub drop-bytes : (n : ℕ) (bs : List ℕ) → Bytes bs → Bytes (drop n bs)
-drop-bytes n bs h i = rw (getD-drop n bs i 0) (h (n + i))
+use Rattle.fox_layers.proofs.Laws.Words.{split-joined, take-bytes, drop-bytes}
 
 -- four bytes read one by one
 pub four : (bs : List ℕ) (at : ℕ) → at + 4 ≤ length bs → take 4 (drop at bs) ≡ getD bs at 0 ∷ getD bs (at + 1) 0 ∷ getD bs (at + 2) 0 ∷ getD bs (at + 3) 0 ∷ []

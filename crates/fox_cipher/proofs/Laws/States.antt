@@ -7,11 +7,11 @@ use native.Mathlib.Omega.{arith}
 use lib.ListN.{length, take, drop, length-drop}
 use lib.Seq.{length-take-le}
 use Rattle.fox_layers.specs.Words.{joined, split, Bytes}
-use Rattle.fox_layers.proofs.Laws.Words.{joined-lt, joined-split}
+use Rattle.fox_layers.proofs.Laws.Words.{joined-lt, joined-split, take-bytes, drop-bytes}
 use Rattle.fox_rounds.specs.declared.fox64.Fox64.{Fox64}
 use Rattle.fox_rounds.specs.declared.fox128.Fox128.{Fox128}
 use Rattle.fox_rounds.proofs.Laws.Rounds.{Words64, Words128}
-use Rattle.fox_calls.proofs.Laws.Blocks.{take-bytes, drop-bytes, words-8, words-16}
+use Rattle.fox_calls.proofs.Laws.Blocks.{words-8, words-16}
 use Rattle.fox_cipher.specs.Block.{state64, state128, bytes64, bytes128}
 
 pub state64-bytes64 : (x : Fox64) → Words64 x → state64 (bytes64 x) ≡ x

@@ -14,22 +14,6 @@ use Rattle.fox_keying.specs.declared.held.Key16.{Key16}
 use Rattle.fox_keying.specs.declared.held.Key32.{Key32}
 use Rattle.fox_keying.specs.Held.{bytes16, bytes32}
 
-pub bytes-append : (xs ys : List ℕ) → Bytes xs → Bytes ys → Bytes (xs ++ ys)
-bytes-append [] ys hx hy i = hy i
-bytes-append (x ∷ xs) ys hx hy zero = hx 0
-bytes-append (x ∷ xs) ys hx hy (suc i) = bytes-append xs ys (λ k. hx (suc k)) hy i
-
-pub bytes-take : (n : ℕ) (xs : List ℕ) → Bytes xs → Bytes (take n xs)
-bytes-take zero xs h i = zero-lt-suc 255
-bytes-take (suc n) [] h i = zero-lt-suc 255
-bytes-take (suc n) (x ∷ xs) h zero = h 0
-bytes-take (suc n) (x ∷ xs) h (suc i) = bytes-take n xs (λ k. h (suc k)) i
-
-pub bytes-drop : (n : ℕ) (xs : List ℕ) → Bytes xs → Bytes (drop n xs)
-bytes-drop zero xs h i = h i
-bytes-drop (suc n) [] h i = zero-lt-suc 255
-bytes-drop (suc n) (x ∷ xs) h i = bytes-drop n xs (λ k. h (suc k)) i
-
 -- a word that is joined of eight bytes has these bytes
 pub word-of : (r : ℕ) (xs : List ℕ) → Bytes xs → length xs ≡ 8 → r ≡ joined xs → split 8 r ≡ xs
 word-of r xs h n e = ap (split 8) e ∙ ap (λ (k : ℕ). split k (joined xs)) (sym n) ∙ split-joined xs h

@@ -7,7 +7,7 @@ use native.Mathlib.Nat.{add-comm, add-assoc, zero-add, zero-mul, mul-assoc, add-
 use native.Mathlib.Omega.{arith}
 use lib.Arith.{digits-lt}
 use lib.Pow.{pow-add, pow-pos, mod-pow-add, high}
-use lib.ListN.{length, length-append}
+use lib.ListN.{length, take, drop, length-append}
 use lib.Bits.{xor-block, xor-shr, xor-mod, xor-lt}
 use Rattle.fox_layers.specs.Words.{_⊕_, joined, split, Bytes, sum}
 
@@ -103,6 +103,22 @@ pub map-bytes : {A : Type 0} (f : A → ℕ) → ((a : A) → f a < 256) → (xs
 map-bytes f h [] i = zero-lt-suc 255
 map-bytes f h (x ∷ xs) zero = h x
 map-bytes f h (x ∷ xs) (suc i) = map-bytes f h xs i
+
+pub take-bytes : (n : ℕ) (xs : List ℕ) → Bytes xs → Bytes (take n xs)
+take-bytes zero xs h i = zero-lt-suc 255
+take-bytes (suc n) [] h i = zero-lt-suc 255
+take-bytes (suc n) (x ∷ xs) h zero = h 0
+take-bytes (suc n) (x ∷ xs) h (suc i) = take-bytes n xs (λ k. h (suc k)) i
+
+pub drop-bytes : (n : ℕ) (xs : List ℕ) → Bytes xs → Bytes (drop n xs)
+drop-bytes zero xs h i = h i
+drop-bytes (suc n) [] h i = zero-lt-suc 255
+drop-bytes (suc n) (x ∷ xs) h i = drop-bytes n xs (λ k. h (suc k)) i
+
+pub append-bytes : (xs ys : List ℕ) → Bytes xs → Bytes ys → Bytes (xs ++ ys)
+append-bytes [] ys hx hy i = hy i
+append-bytes (x ∷ xs) ys hx hy zero = hx 0
+append-bytes (x ∷ xs) ys hx hy (suc i) = append-bytes xs ys (λ k. hx (suc k)) hy i
 
 pub sum-bytes : (xs ys : List ℕ) → Bytes xs → Bytes ys → Bytes (sum xs ys)
 unfolding sum

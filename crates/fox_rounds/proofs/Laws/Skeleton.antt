@@ -51,6 +51,12 @@ module _ {S : Type 0} (round : ℕ → S → S) (between : S → S) (k : ℕ →
       ∙ g
       ∙ ap (λ (j : ℕ). through round between (numbered k j 0) x) whole
 
+-- a round and what follows it, as code does them one after the other, before the rounds that are left
+pub one-more : {S : Type 0} (round : ℕ → S → S) (between : S → S) (k l : ℕ) (ks : List ℕ) {x y z : S}
+    → y ≡ round k x → z ≡ between y → through round between (l ∷ ks) z ≡ through round between (k ∷ l ∷ ks) x
+unfolding through
+one-more round between k l ks done next = ap (through round between (l ∷ ks)) (next ∙ ap between done)
+
 module _ {A : Type 0} where
   pub length-numbered : (k : ℕ → A) (n i : ℕ) → length (numbered k n i) ≡ n
   unfolding numbered

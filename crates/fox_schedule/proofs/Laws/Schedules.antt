@@ -18,24 +18,24 @@ use Rattle.fox_schedule.specs.declared.step.Schedule64.{Schedule64}
 use Rattle.fox_schedule.specs.declared.step.Schedule128.{Schedule128}
 
 -- KS64
-pub key64-usual : (key : List ℕ) (reg : ℕ) → length key ≤ 16
+pub key64-ks64 : (key : List ℕ) (reg : ℕ) → length key ≤ 16
     → key64 key reg ≡ NL64 (eqb (length key) 16) (dkey (mkey 16 key) reg)
 unfolding key64 ek64
-key64-usual key reg h = simp (le-leb _ _ h)
+key64-ks64 key reg h = simp (le-leb _ _ h)
 
 -- KS64h
-pub key64-long : (key : List ℕ) (reg : ℕ) → 16 < length key
+pub key64-ks64h : (key : List ℕ) (reg : ℕ) → 16 < length key
     → key64 key reg ≡ NL64h (eqb (length key) 32) (dkey (mkey 32 key) reg)
 unfolding key64 ek64
-key64-long key reg h = simp (lt-leb _ _ h)
+key64-ks64h key reg h = simp (lt-leb _ _ h)
 
-pub groups-usual : (len : ℕ) → len ≤ 16 → groups (ek64 len) ≡ 6
+pub groups-ks64 : (len : ℕ) → len ≤ 16 → groups (ek64 len) ≡ 6
 unfolding groups ek64
-groups-usual len h = simp (le-leb _ _ h)
+groups-ks64 len h = simp (le-leb _ _ h)
 
-pub groups-long : (len : ℕ) → 16 < len → groups (ek64 len) ≡ 11
+pub groups-ks64h : (len : ℕ) → 16 < len → groups (ek64 len) ≡ 11
 unfolding groups ek64
-groups-long len h = simp (lt-leb _ _ h)
+groups-ks64h len h = simp (lt-leb _ _ h)
 
 -- the round keys in a row, numbered from 0
 pub roundKeys64-made : (r : ℕ) (key : List ℕ) (s : Schedule64) → Scheduled64 key s

@@ -9,7 +9,7 @@ use Rattle.fox_keying.specs.Register.{seed, clocked, clockedBack, times, LFSR}
 use Rattle.fox_keying.proofs.Laws.Register.{LFSR-forward, LFSR-back}
 use Rattle.fox_schedule.specs.Step.{steps64}
 use Rattle.fox_schedule.specs.declared.step.Schedule64.{Schedule64}
-use Rattle.fox_schedule.specs.declared.step.Schedule64.the-variants.{Usual, Long}
+use Rattle.fox_schedule.specs.declared.step.Schedule64.the-variants.{Ks64, Ks64h}
 
 pub reg-first : (g r reg : ℕ) → reg ≡ seed r → reg ≡ LFSR (0 * g) r
 unfolding LFSR times
@@ -45,8 +45,8 @@ reg-back n i r {g} small h e at made =
 
 steps-few : (s : Schedule64) → steps64 s ≤ 11
 unfolding steps64
-steps-few (Usual m flip) = lit≤ tt
-steps-few (Long m flip) = lit≤ tt
+steps-few (Ks64 m flip) = lit≤ tt
+steps-few (Ks64h m flip) = lit≤ tt
 
 -- the steps to the last round key, of which there are at most 2,805, fit a word
 pub few-steps : (n : ℕ) (s : Schedule64) {steps : ℕ} → n < 256 → steps ≡ steps64 s → n * steps < 2 ^ 32

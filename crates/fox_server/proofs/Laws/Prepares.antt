@@ -8,20 +8,14 @@ use native.Mathlib.Nat.{mul-le-mul-right}
 use native.Mathlib.Omega.{arith}
 use lib.Dec.{eqb, lit≤}
 use lib.ListN.{length, replicate}
-use borrow.Author.Tests.{eq-eqb, ne-eqb}
 use Rattle.fox_calls.specs.Refusals.{Refusal, refusalOf, blockSize, forKey, forBlock}
 use Rattle.fox_calls.specs.Reply.{Reply}
 use Rattle.fox_calls.specs.declared.answer.Answer.{Answer}
+use Rattle.fox_calls.proofs.Laws.Reply.{chosen, passed-over}
 use Rattle.fox_cipher.specs.Block.{roundKeys}
 use Rattle.fox_server.specs.Prepared.{preparedWords, Prepares, heldKeys}
 use Rattle.fox_server.specs.declared.prepared.Preparation.{Preparation}
 use Rattle.fox_server.proofs.Laws.Held.{held-prepared}
-
-chosen : {A : Type 0} (n : ℕ) (a b : A) → n ≡ 0 → a ≡ cond (eqb n 0) a b
-chosen n a b e = simp (eq-eqb n 0 e)
-
-passed-over : {A : Type 0} (n : ℕ) (a b : A) → (n ≡ 0 → ⊥) → b ≡ cond (eqb n 0) a b
-passed-over n a b e = simp (ne-eqb n 0 e)
 
 module _ (c n : ℕ) (key : List ℕ) (r : Preparation) where
   pub served-key : refusalOf (forKey c n (length key)) ≡ 0 → r .answer .refusal ≡ 0 → r .answer .count ≡ blockSize c * n → r .key .cipher ≡ c → r .key .rounds ≡ n

@@ -5,8 +5,8 @@ use mathlib.Core.Path.{refl}
 use mathlib.Core.List.{_++_}
 use lib.ListN.{take, drop}
 use Rattle.fox_layers.specs.Words.{split}
-use Rattle.fox_layers.proofs.Laws.Words.{joined-append, joined-split, split-bytes}
-use Rattle.fox_keying.proofs.Laws.Bytes.{bytes-append, bytes-take, bytes-drop, word-of}
+use Rattle.fox_layers.proofs.Laws.Words.{joined-append, joined-split, split-bytes, append-bytes, take-bytes, drop-bytes}
+use Rattle.fox_keying.proofs.Laws.Bytes.{word-of}
 use Rattle.fox_keying.proofs.Laws.Stream.{low-one, top-one}
 use borrow.Author.Needs.{needs}
 use Rattle.fox_keying.proofs.diversification.word_1331.Statement.{statement}
@@ -45,9 +45,9 @@ returns c =
     let z = split 3 (a .z) in
     let t = take 1 (split 3 (a .t)) in
     word-of _ (x ++ y ++ z ++ t)
-    (bytes-append (x ++ y ++ z) t
-    (bytes-append (x ++ y) z (bytes-append x y (bytes-drop 2 (split 3 (a .x)) (split-bytes 3 (a .x))) (split-bytes 3 (a .y))) (split-bytes 3 (a .z)))
-    (bytes-take 1 (split 3 (a .t)) (split-bytes 3 (a .t))))
+    (append-bytes (x ++ y ++ z) t
+    (append-bytes (x ++ y) z (append-bytes x y (drop-bytes 2 (split 3 (a .x)) (split-bytes 3 (a .x))) (split-bytes 3 (a .y))) (split-bytes 3 (a .z)))
+    (take-bytes 1 (split 3 (a .t)) (split-bytes 3 (a .t))))
     refl
     (omega (
       arith,

@@ -5,8 +5,8 @@ use mathlib.Core.Path.{refl}
 use mathlib.Core.List.{_++_}
 use lib.ListN.{drop}
 use Rattle.fox_layers.specs.Words.{split}
-use Rattle.fox_layers.proofs.Laws.Words.{joined-append, joined-split, split-bytes}
-use Rattle.fox_keying.proofs.Laws.Bytes.{bytes-append, bytes-drop, word-of}
+use Rattle.fox_layers.proofs.Laws.Words.{joined-append, joined-split, split-bytes, append-bytes, drop-bytes}
+use Rattle.fox_keying.proofs.Laws.Bytes.{word-of}
 use Rattle.fox_keying.proofs.Laws.Stream.{low-two}
 use borrow.Author.Needs.{needs}
 use Rattle.fox_keying.proofs.diversification.word_233.Statement.{statement}
@@ -35,7 +35,7 @@ returns c =
     let y = split 3 (a .y) in
     let z = split 3 (a .z) in
     word-of _ (x ++ y ++ z)
-    (bytes-append (x ++ y) z (bytes-append x y (bytes-drop 1 (split 3 (a .x)) (split-bytes 3 (a .x))) (split-bytes 3 (a .y))) (split-bytes 3 (a .z)))
+    (append-bytes (x ++ y) z (append-bytes x y (drop-bytes 1 (split 3 (a .x)) (split-bytes 3 (a .x))) (split-bytes 3 (a .y))) (split-bytes 3 (a .z)))
     refl
     (omega
     (arith, joined-append (x ++ y) z, joined-append x y, low-two (a .x), joined-split 3 (a .y) (c .pre .1), joined-split 3 (a .z) (c .pre .2)))

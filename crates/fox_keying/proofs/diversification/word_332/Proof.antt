@@ -5,8 +5,8 @@ use mathlib.Core.Path.{refl}
 use mathlib.Core.List.{_++_}
 use lib.ListN.{take}
 use Rattle.fox_layers.specs.Words.{split}
-use Rattle.fox_layers.proofs.Laws.Words.{joined-append, joined-split, split-bytes}
-use Rattle.fox_keying.proofs.Laws.Bytes.{bytes-append, bytes-take, word-of}
+use Rattle.fox_layers.proofs.Laws.Words.{joined-append, joined-split, split-bytes, append-bytes, take-bytes}
+use Rattle.fox_keying.proofs.Laws.Bytes.{word-of}
 use Rattle.fox_keying.proofs.Laws.Stream.{top-two}
 use borrow.Author.Needs.{needs}
 use Rattle.fox_keying.proofs.diversification.word_332.Statement.{statement}
@@ -34,8 +34,8 @@ returns c =
     let y = split 3 (c .args .y) in
     let z = take 2 (split 3 (c .args .z)) in
     word-of _ (x ++ y ++ z)
-    (bytes-append (x ++ y) z (bytes-append x y (split-bytes 3 (c .args .x)) (split-bytes 3 (c .args .y)))
-    (bytes-take 2 (split 3 (c .args .z)) (split-bytes 3 (c .args .z))))
+    (append-bytes (x ++ y) z (append-bytes x y (split-bytes 3 (c .args .x)) (split-bytes 3 (c .args .y)))
+    (take-bytes 2 (split 3 (c .args .z)) (split-bytes 3 (c .args .z))))
     refl
     (omega (
       arith,

@@ -3,7 +3,8 @@
 use mathlib.Core.Path.{sym, ap, _∙_}
 use lib.ListN.{length, take, drop}
 use Rattle.fox_layers.specs.Words.{joined}
-use Rattle.fox_keying.proofs.Laws.Bytes.{bytes-take, bytes-drop, word-of, take-eight}
+use Rattle.fox_layers.proofs.Laws.Words.{take-bytes, drop-bytes}
+use Rattle.fox_keying.proofs.Laws.Bytes.{word-of, take-eight}
 use borrow.Author.Needs.{needs}
 use Rattle.fox_keying.proofs.held.load8.Statement.{statement}
 use Rattle.fox_keying.proofs.held.load8.Tie as tie
@@ -63,7 +64,7 @@ returns c =
     let s = a .s .now in
     let eight = take-eight s (a .at) (start .pre) in
     word-of (c .join8 .result) (take 8 (drop (a .at) s))
-    (bytes-take 8 (drop (a .at) s) (bytes-drop (a .at) s (λ i. c .before .shared-slice-known9 .given i .fits)))
+    (take-bytes 8 (drop (a .at) s) (drop-bytes (a .at) s (λ i. c .before .shared-slice-known9 .given i .fits)))
     (ap length eight)
     (c .join8 .ensures ∙ ap joined (sym eight))
 

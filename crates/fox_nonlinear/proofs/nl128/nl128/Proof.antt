@@ -9,9 +9,9 @@ use Rattle.fox_layers.specs.Words.{_⊕_}
 use Rattle.fox_rounds.specs.declared.fox128.Fox128.{Fox128}
 use Rattle.fox_rounds.specs.Rounds.{elmid128, or128}
 use Rattle.fox_rounds.specs.Skeleton.{through, seal128}
-use Rattle.fox_nonlinear.specs.Nonlinear.{number128, state128, NL128}
+use Rattle.fox_nonlinear.specs.Nonlinear.{number128, parts128, NL128}
 use Rattle.fox_nonlinear.proofs.Laws.Words.{pairs32}
-use Rattle.fox_nonlinear.proofs.Laws.Skeleton.{one-more}
+use Rattle.fox_rounds.proofs.Laws.Skeleton.{one-more}
 use Rattle.fox_nonlinear.proofs.nl128.nl128.Statement.{statement}
 use Rattle.fox_nonlinear.proofs.nl128.nl128.Tie as tie
 
@@ -38,7 +38,7 @@ pair-requires-2 c κs = search needs
 
 -- the hashing layer
 abbrev hashed : List ℕ → Fox128
-hashed t = state128 (getD t 0 0 ⊕ getD t 2 0) (getD t 1 0 ⊕ getD t 3 0)
+hashed t = parts128 (getD t 0 0 ⊕ getD t 2 0) (getD t 1 0 ⊕ getD t 3 0)
 
 returns : tie.Need-returns
 unfolding number128 through seal128 NL128

@@ -4,7 +4,7 @@ use borrow.Author.Needs.{needs}
 use mathlib.Core.Path.{sym}
 use Rattle.fox_rounds.specs.Rounds.{right}
 use Rattle.fox_rounds.proofs.Laws.Halves.{left-div}
-use Rattle.fox_nonlinear.specs.Nonlinear.{state128}
+use Rattle.fox_nonlinear.specs.Nonlinear.{parts128}
 use Rattle.fox_nonlinear.proofs.nl128.state.Statement.{statement}
 use Rattle.fox_nonlinear.proofs.nl128.state.Tie as tie
 
@@ -21,7 +21,7 @@ cast-t10 : tie.Need-cast-t10
 cast-t10 c = search needs
 
 returns : tie.Need-returns
-unfolding state128 right
+unfolding parts128 right
 returns c =
     let a = c .args .a in
     let b = c .args .b in

@@ -11,7 +11,7 @@ use Rattle.fox_rounds.specs.Rounds.{lmid64, or64}
 use Rattle.fox_rounds.specs.Skeleton.{through, seal64}
 use Rattle.fox_nonlinear.specs.Nonlinear.{number64, NL64}
 use Rattle.fox_nonlinear.proofs.Laws.Words.{words16}
-use Rattle.fox_nonlinear.proofs.Laws.Skeleton.{one-more}
+use Rattle.fox_rounds.proofs.Laws.Skeleton.{one-more}
 use Rattle.fox_nonlinear.proofs.nl64.nl64.Statement.{statement}
 use Rattle.fox_nonlinear.proofs.nl64.nl64.Tie as tie
 

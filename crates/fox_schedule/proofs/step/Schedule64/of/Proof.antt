@@ -9,7 +9,7 @@ use lib.ListN.{length}
 use Rattle.fox_keying.specs.Register.{dkey}
 use Rattle.fox_nonlinear.specs.Nonlinear.{NL64, NL64h}
 use Rattle.fox_schedule.specs.Step.{made64, steps64}
-use Rattle.fox_schedule.proofs.Laws.Schedules.{key64-usual, key64-long, groups-usual, groups-long}
+use Rattle.fox_schedule.proofs.Laws.Schedules.{key64-ks64, key64-ks64h, groups-ks64, groups-ks64h}
 use Rattle.fox_schedule.proofs.step.Schedule64.of.Statement.{statement}
 use Rattle.fox_schedule.proofs.step.Schedule64.of.Tie as tie
 
@@ -26,8 +26,8 @@ returns c =
     let key = c1 .before .before .args .key .now in
     record {
       made = λ reg.
-          ap (λ (m : List ℕ). NL64 (eqb (length key) 16) (dkey m reg)) (c .mkey16 .ensures) ∙ sym (key64-usual key reg (c1 .if1 .taken));
-      steps = sym (groups-usual (length key) (c1 .if1 .taken));
+          ap (λ (m : List ℕ). NL64 (eqb (length key) 16) (dkey m reg)) (c .mkey16 .ensures) ∙ sym (key64-ks64 key reg (c1 .if1 .taken));
+      steps = sym (groups-ks64 (length key) (c1 .if1 .taken));
     }
 
 returns-2 : tie.Need-returns-2
@@ -37,8 +37,8 @@ returns-2 c =
     let key = c1 .before .before .args .key .now in
     record {
       made = λ reg.
-          ap (λ (m : List ℕ). NL64h (eqb (length key) 32) (dkey m reg)) (c .mkey32 .ensures) ∙ sym (key64-long key reg (c1 .if1 .left));
-      steps = sym (groups-long (length key) (c1 .if1 .left));
+          ap (λ (m : List ℕ). NL64h (eqb (length key) 32) (dkey m reg)) (c .mkey32 .ensures) ∙ sym (key64-ks64h key reg (c1 .if1 .left));
+      steps = sym (groups-ks64h (length key) (c1 .if1 .left));
     }
 
 pub of-spec : {M : Type 1} → statement M
