@@ -4,9 +4,8 @@ ghost use Prim.Native.Nat.{_≤_};
 ghost use lib.ListN.{length};
 ghost use Rattle.fox_rounds.specs.Skeleton.{seal64, open64, seal128, open128};
 ghost use Rattle.fox_schedule.specs.Schedule.{roundKeys64, roundKeys128};
-ghost use Rattle.fox_calls.specs.Refusals.{forBlock};
-ghost use Rattle.fox_calls.specs.Reply.{Reply};
-ghost use Rattle.fox_cipher.specs.Block.{state64, state128, bytes64, bytes128, sealBlock, openBlock};
+ghost use Rattle.fox_cipher.specs.Block.{state64, state128, bytes64, bytes128};
+ghost use Rattle.fox_cipher.specs.Calls.{Seals, Opens};
 use crate::rounds64::open64;
 use crate::rounds64::seal64;
 use crate::rounds128::open128;
@@ -61,7 +60,7 @@ fn open128_block(rounds: u8, key: &[u8], block: &[u8], out: &mut [u8])
 }
 
 pub fn seal(cipher: u32, rounds: u32, key: &[u8], block: &[u8], out: &mut [u8]) -> Answer
-    ensures { λ r. ⌜ Reply (forBlock cipher rounds (length (now (key .entry))) (length (now (block .entry))) (length (now (out .entry)))) (sealBlock cipher rounds (now (key .entry)) (now (block .entry))) (now (out .entry)) (now (out .exit)) r ⌝ }
+    ensures { λ r. ⌜ Seals cipher rounds (now (key .entry)) (now (block .entry)) (now (out .entry)) (now (out .exit)) r ⌝ }
 {
     let refusal = for_block(cipher, rounds, key.len(), block.len(), out.len());
     if refusal != 0 {
@@ -77,7 +76,7 @@ pub fn seal(cipher: u32, rounds: u32, key: &[u8], block: &[u8], out: &mut [u8]) 
 }
 
 pub fn open(cipher: u32, rounds: u32, key: &[u8], block: &[u8], out: &mut [u8]) -> Answer
-    ensures { λ r. ⌜ Reply (forBlock cipher rounds (length (now (key .entry))) (length (now (block .entry))) (length (now (out .entry)))) (openBlock cipher rounds (now (key .entry)) (now (block .entry))) (now (out .entry)) (now (out .exit)) r ⌝ }
+    ensures { λ r. ⌜ Opens cipher rounds (now (key .entry)) (now (block .entry)) (now (out .entry)) (now (out .exit)) r ⌝ }
 {
     let refusal = for_block(cipher, rounds, key.len(), block.len(), out.len());
     if refusal != 0 {

@@ -6,10 +6,10 @@ use mathlib.Core.Bool.{cond}
 use lib.Dec.{eqb}
 use lib.ListN.{take, drop}
 use Rattle.fox_layers.specs.Words.{joined, split}
-use Rattle.fox_rounds.specs.Skeleton.{seal64, open64, seal128, open128}
+use Rattle.fox_rounds.specs.Skeleton.{numbered, seal64, open64, seal128, open128}
 use Rattle.fox_rounds.specs.declared.fox64.Fox64.{Fox64}
 use Rattle.fox_rounds.specs.declared.fox128.Fox128.{Fox128}
-use Rattle.fox_schedule.specs.Schedule.{roundKeys64, roundKeys128}
+use Rattle.fox_schedule.specs.Schedule.{roundKey64, roundKey128}
 
 -- a block's bytes as the words of a state
 unfoldable pub state64 : List ℕ → Fox64
@@ -42,11 +42,15 @@ openWith cipher rks block =
     let other = bytes128 (open128 rks (state128 block)) in
     cond (eqb cipher 64) (bytes64 (open64 rks (state64 block))) other
 
--- the round keys of a key, rk of index 0 first
+-- the round key number i, from 1 on, of a key
+unfoldable pub roundKey : ℕ → ℕ → List ℕ → ℕ → ℕ
+roundKey cipher rounds key i =
+    let other = roundKey128 rounds key i in
+    cond (eqb cipher 64) (roundKey64 rounds key i) other
+
+-- all of them
 unfoldable pub roundKeys : ℕ → ℕ → List ℕ → List ℕ
-roundKeys cipher rounds key =
-    let other = roundKeys128 rounds key in
-    cond (eqb cipher 64) (roundKeys64 rounds key) other
+roundKeys cipher rounds key = numbered (roundKey cipher rounds key) rounds 1
 
 unfoldable pub sealBlock : ℕ → ℕ → List ℕ → List ℕ → List ℕ
 sealBlock cipher rounds key block = sealWith cipher (roundKeys cipher rounds key) block

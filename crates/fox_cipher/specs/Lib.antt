@@ -1,2 +1,3 @@
 -- One block, sealed and opened: the definition that every way is held to.
 pub mod Block
+pub mod Calls

@@ -1,13 +1,14 @@
 -- What a schedule of the code makes: the round key where the register stands at reg.
 -- Assumes nothing.
 use mathlib.Core.Path.{_≡_}
-use Prim.Native.Nat.{ℕ, _*_}
+use Prim.Native.Nat.{ℕ, _*_, _<_, _≤_}
 use mathlib.Core.List.{List}
+use lib.Dec.{eqb}
 use lib.ListN.{length}
-use Rattle.fox_keying.specs.Register.{LFSR, groups, dkey}
+use Rattle.fox_keying.specs.Padding.{mkey}
+use Rattle.fox_keying.specs.Register.{LFSR, dkey}
 use Rattle.fox_keying.specs.Held.{bytes16, bytes32}
 use Rattle.fox_nonlinear.specs.Nonlinear.{NL64, NL64h, NL128}
-use Rattle.fox_schedule.specs.Schedule.{ek64, key64, key128}
 use Rattle.fox_schedule.specs.declared.step.Schedule64.{Schedule64}
 use Rattle.fox_schedule.specs.declared.step.Schedule64.the-variants.{Ks64, Ks64h}
 use Rattle.fox_schedule.specs.declared.step.Schedule128.{Schedule128}
@@ -24,13 +25,14 @@ steps64 (Ks64h m flip) = 11
 unfoldable pub made128 : Schedule128 → ℕ → ℕ
 made128 s reg = NL128 (s .flip) (dkey (bytes32 (s .key)) reg)
 
--- the schedule of a key makes the round keys of that key
-pub record Scheduled64 (key : List ℕ) (s : Schedule64) : Type 0 where
-  pub made : (reg : ℕ) → made64 s reg ≡ key64 key reg
-  pub steps : steps64 s ≡ groups (ek64 (length key))
+-- the schedule of a key: which of the two it is, the mixed key, and whether the key has ek bytes
+unfoldable pub Scheduled64 : List ℕ → Schedule64 → Type 0
+Scheduled64 key (Ks64 m flip) = (length key ≤ 16) × (bytes16 m ≡ mkey 16 key) × (flip ≡ eqb (length key) 16)
+Scheduled64 key (Ks64h m flip) = (16 < length key) × (bytes32 m ≡ mkey 32 key) × (flip ≡ eqb (length key) 32)
 
 pub record Scheduled128 (key : List ℕ) (s : Schedule128) : Type 0 where
-  pub made : (reg : ℕ) → made128 s reg ≡ key128 key reg
+  pub mixed : bytes32 (s .key) ≡ mkey 32 key
+  pub flipped : s .flip ≡ eqb (length key) 32
 
 -- the round key number i, from 0 on, that a schedule makes for r rounds: the register has made i times its steps
 unfoldable pub keyAt64 : Schedule64 → ℕ → ℕ → ℕ

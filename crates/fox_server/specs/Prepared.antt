@@ -2,7 +2,7 @@
 -- first; the rest are 0.
 -- Assumes nothing.
 use mathlib.Core.Path.{_≡_}
-use Prim.Native.Nat.{ℕ, zero, suc, _-_, _*_}
+use Prim.Native.Nat.{ℕ, _-_, _*_}
 use mathlib.Core.List.{List, [], _∷_, _++_}
 use mathlib.Core.Bool.{cond}
 use lib.Dec.{eqb}
@@ -28,14 +28,19 @@ preparedWords cipher rounds key =
     let other = filled (inHalves (roundKeys128 rounds key)) in
     cond (eqb cipher 64) (filled (roundKeys64 rounds key)) other
 
--- what preparing a key hands back, all of it: refusals 1 to 3, the count of bytes in use, and the key, which is all zeros where it is refused
-pub record Prepares (c n : ℕ) (key : List ℕ) (r : Preparation) : Type 0 where
-  pub refusal : r .answer .refusal ≡ refusalOf (forKey c n (length key))
-  pub count : r .answer .count ≡ cond (eqb (refusalOf (forKey c n (length key))) 0) (blockSize c * n) 0
-  pub cipher : r .key .cipher ≡ cond (eqb (refusalOf (forKey c n (length key))) 0) c 0
-  pub rounds : r .key .rounds ≡ cond (eqb (refusalOf (forKey c n (length key))) 0) n 0
-  pub keyLength : r .key .«key_len» ≡ cond (eqb (refusalOf (forKey c n (length key))) 0) (length key) 0
-  pub words : r .key .keys ≡ cond (eqb (refusalOf (forKey c n (length key))) 0) (preparedWords c n key) (replicate 510 0)
+-- the prepared key of a key
+unfoldable pub preparedKey : ℕ → ℕ → List ℕ → Prepared
+preparedKey cipher rounds key = record { cipher = cipher; rounds = rounds; «key_len» = length key; keys = preparedWords cipher rounds key }
+
+-- a refused one: all zeros
+unfoldable pub noKey : Prepared
+noKey = record { cipher = 0; rounds = 0; «key_len» = 0; keys = replicate 510 0 }
+
+-- what preparing a key hands back, all of it: refusals 1 to 3, the count of bytes in use, and the key
+pub record Prepares (c n : ℕ) (bytes : List ℕ) (r : Preparation) : Type 0 where
+  pub refusal : r .answer .refusal ≡ refusalOf (forKey c n (length bytes))
+  pub count : r .answer .count ≡ cond (eqb (refusalOf (forKey c n (length bytes))) 0) (blockSize c * n) 0
+  pub key : r .key ≡ cond (eqb (refusalOf (forKey c n (length bytes))) 0) (preparedKey c n bytes) noKey
 
 -- the round keys that a prepared key holds, whoever filled it
 unfoldable pub heldKeys : Prepared → List ℕ

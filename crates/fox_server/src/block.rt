@@ -4,9 +4,8 @@ ghost use mathlib.Core.Path.{_≡_};
 ghost use Prim.Native.Nat.{_≤_};
 ghost use lib.ListN.{length};
 ghost use Rattle.fox_rounds.specs.Skeleton.{numbered, seal64, open64, seal128, open128, held64, held128};
-ghost use Rattle.fox_calls.specs.Refusals.{forBlock};
-ghost use Rattle.fox_calls.specs.Reply.{Reply};
-ghost use Rattle.fox_cipher.specs.Block.{state64, state128, bytes64, bytes128, sealWith, openWith, sealBlock, openBlock};
+ghost use Rattle.fox_cipher.specs.Block.{state64, state128, bytes64, bytes128};
+ghost use Rattle.fox_cipher.specs.Calls.{Seals, Opens, SealsWith, OpensWith};
 ghost use Rattle.fox_server.specs.Prepared.{heldKeys};
 use crate::prepared::Prepared;
 use crate::prepared::prepare;
@@ -94,7 +93,7 @@ fn open128_block(keys: &[u64; 510], rounds: usize, block: &[u8], out: &mut [u8])
 
 // From a prepared key: one that a caller filled himself gets the answer of the round keys that it holds.
 pub fn seal(p: Prepared, block: &[u8], out: &mut [u8]) -> Answer
-    ensures { λ r. ⌜ Reply (forBlock (p .cipher) (p .rounds) (p .«key_len») (length (now (block .entry))) (length (now (out .entry)))) (sealWith (p .cipher) (heldKeys p) (now (block .entry))) (now (out .entry)) (now (out .exit)) r ⌝ }
+    ensures { λ r. ⌜ SealsWith (p .cipher) (p .rounds) (p .«key_len») (heldKeys p) (now (block .entry)) (now (out .entry)) (now (out .exit)) r ⌝ }
 {
     let refusal = for_block(p.cipher, p.rounds, p.key_len, block.len(), out.len());
     if refusal != 0 {
@@ -112,7 +111,7 @@ pub fn seal(p: Prepared, block: &[u8], out: &mut [u8]) -> Answer
 
 // From a prepared key: one that a caller filled himself gets the answer of the round keys that it holds.
 pub fn open(p: Prepared, block: &[u8], out: &mut [u8]) -> Answer
-    ensures { λ r. ⌜ Reply (forBlock (p .cipher) (p .rounds) (p .«key_len») (length (now (block .entry))) (length (now (out .entry)))) (openWith (p .cipher) (heldKeys p) (now (block .entry))) (now (out .entry)) (now (out .exit)) r ⌝ }
+    ensures { λ r. ⌜ OpensWith (p .cipher) (p .rounds) (p .«key_len») (heldKeys p) (now (block .entry)) (now (out .entry)) (now (out .exit)) r ⌝ }
 {
     let refusal = for_block(p.cipher, p.rounds, p.key_len, block.len(), out.len());
     if refusal != 0 {
@@ -130,7 +129,7 @@ pub fn open(p: Prepared, block: &[u8], out: &mut [u8]) -> Answer
 
 // From key bytes, preparing within the call.
 pub fn seal_from_key(cipher: u32, rounds: u32, key: &[u8], block: &[u8], out: &mut [u8]) -> Answer
-    ensures { λ r. ⌜ Reply (forBlock cipher rounds (length (now (key .entry))) (length (now (block .entry))) (length (now (out .entry)))) (sealBlock cipher rounds (now (key .entry)) (now (block .entry))) (now (out .entry)) (now (out .exit)) r ⌝ }
+    ensures { λ r. ⌜ Seals cipher rounds (now (key .entry)) (now (block .entry)) (now (out .entry)) (now (out .exit)) r ⌝ }
 {
     let refusal = for_block(cipher, rounds, key.len(), block.len(), out.len());
     if refusal != 0 {
@@ -143,7 +142,7 @@ pub fn seal_from_key(cipher: u32, rounds: u32, key: &[u8], block: &[u8], out: &m
 
 // From key bytes, preparing within the call.
 pub fn open_from_key(cipher: u32, rounds: u32, key: &[u8], block: &[u8], out: &mut [u8]) -> Answer
-    ensures { λ r. ⌜ Reply (forBlock cipher rounds (length (now (key .entry))) (length (now (block .entry))) (length (now (out .entry)))) (openBlock cipher rounds (now (key .entry)) (now (block .entry))) (now (out .entry)) (now (out .exit)) r ⌝ }
+    ensures { λ r. ⌜ Opens cipher rounds (now (key .entry)) (now (block .entry)) (now (out .entry)) (now (out .exit)) r ⌝ }
 {
     let refusal = for_block(cipher, rounds, key.len(), block.len(), out.len());
     if refusal != 0 {

@@ -2,10 +2,10 @@
 // first; the rest are 0. A refused one is all zeros.
 ghost use mathlib.Core.Path.{_≡_};
 ghost use Prim.Native.Nat.{_+_, _*_, _≤_};
-ghost use lib.ListN.{length, replicate};
+ghost use lib.ListN.{length};
 ghost use Rattle.fox_rounds.specs.Skeleton.{numbered};
 ghost use Rattle.fox_schedule.specs.Step.{keyAt64, keyAt128};
-ghost use Rattle.fox_server.specs.Prepared.{inHalves, filled, preparedWords, Prepares};
+ghost use Rattle.fox_server.specs.Prepared.{inHalves, filled, preparedWords, noKey, Prepares};
 use fox_calls::answer::Answer;
 use fox_calls::refusals::block_size;
 use fox_calls::refusals::for_key;
@@ -70,7 +70,7 @@ fn words(cipher: u32, rounds: u8, key: &[u8]) -> [u64; 510]
 
 // A refused prepared key.
 fn zeros() -> Prepared
-    ensures { λ r. ⌜ (r .cipher ≡ 0) × (r .rounds ≡ 0) × (r .«key_len» ≡ 0) × (r .keys ≡ replicate 510 0) ⌝ }
+    ensures { λ r. ⌜ r ≡ noKey ⌝ }
 {
     Prepared {
         cipher: 0,

@@ -8,9 +8,10 @@ use native.Mathlib.Omega.{arith}
 use lib.Dec.{eqb}
 use borrow.Author.Tests.{eq-eqb, ne-eqb, eqb-true, eqb-false}
 use Rattle.fox_rounds.specs.Skeleton.{seal64, open64, seal128, open128}
-use Rattle.fox_schedule.specs.Schedule.{roundKeys64, roundKeys128}
+use Rattle.fox_rounds.proofs.Laws.Skeleton.{numbered-same}
+use Rattle.fox_schedule.specs.Schedule.{roundKey64, roundKey128, roundKeys64, roundKeys128}
 use Rattle.fox_calls.specs.Refusals.{blockSize, Blocked}
-use Rattle.fox_cipher.specs.Block.{state64, state128, bytes64, bytes128, sealWith, openWith, roundKeys, sealBlock, openBlock}
+use Rattle.fox_cipher.specs.Block.{state64, state128, bytes64, bytes128, sealWith, openWith, roundKey, roundKeys, sealBlock, openBlock}
 
 -- a number is 64 or not
 case : (c : ℕ) {A : Type 0} (t : Bool) → eqb c 64 ≡ t → (c ≡ 64 → A) → ((c ≡ 64 → ⊥) → A) → A
@@ -58,13 +59,21 @@ pub openWith-128 : (c : ℕ) (ks bs : List ℕ) → (c ≡ 64 → ⊥) → openW
 unfolding openWith
 openWith-128 c ks bs n = simp (ne-eqb c 64 n)
 
+pub roundKey-64 : (c r : ℕ) (key : List ℕ) (i : ℕ) → c ≡ 64 → roundKey c r key i ≡ roundKey64 r key i
+unfolding roundKey
+roundKey-64 c r key i e = simp (eq-eqb c 64 e)
+
+pub roundKey-128 : (c r : ℕ) (key : List ℕ) (i : ℕ) → (c ≡ 64 → ⊥) → roundKey c r key i ≡ roundKey128 r key i
+unfolding roundKey
+roundKey-128 c r key i n = simp (ne-eqb c 64 n)
+
 pub roundKeys-64 : (c r : ℕ) (key : List ℕ) → c ≡ 64 → roundKeys c r key ≡ roundKeys64 r key
-unfolding roundKeys
-roundKeys-64 c r key e = simp (eq-eqb c 64 e)
+unfolding roundKeys roundKeys64
+roundKeys-64 c r key e = numbered-same (roundKey c r key) (roundKey64 r key) r 1 (λ i h. roundKey-64 c r key i e)
 
 pub roundKeys-128 : (c r : ℕ) (key : List ℕ) → (c ≡ 64 → ⊥) → roundKeys c r key ≡ roundKeys128 r key
-unfolding roundKeys
-roundKeys-128 c r key n = simp (ne-eqb c 64 n)
+unfolding roundKeys roundKeys128
+roundKeys-128 c r key n = numbered-same (roundKey c r key) (roundKey128 r key) r 1 (λ i h. roundKey-128 c r key i n)
 
 pub sealBlock-64 : {c r n : ℕ} (key bs : List ℕ) → c ≡ 64 → n ≡ r → bytes64 (seal64 (roundKeys64 n key) (state64 bs)) ≡ sealBlock c r key bs
 unfolding sealBlock

@@ -7,7 +7,7 @@ use native.Mathlib.Omega.{arith}
 use lib.ListN.{length}
 use Rattle.fox_calls.specs.Refusals.{refusalOf, forKey, Keyed}
 use Rattle.fox_calls.proofs.Laws.Refusals.{keyed}
-use Rattle.fox_server.specs.Prepared.{preparedWords}
+use Rattle.fox_server.specs.Prepared.{preparedWords, preparedKey}
 use Rattle.fox_server.proofs.Laws.Prepares.{served-key, refused-key, in-use}
 use Rattle.fox_server.proofs.prepared.prepare.Statement.{statement}
 use Rattle.fox_server.proofs.prepared.prepare.Tie as tie
@@ -34,8 +34,7 @@ returns c =
     let refused = c .before in
     let test = refused .before in
     let e = test .before .for-key .ensures in
-    let z = c .zeros .ensures in
-    refused-key _ _ _ _ (λ n. test .if1 .taken (e ∙ n)) (refused .refused .ensures .0 ∙ e) (refused .refused .ensures .1) (z .0) (z .1) (z .2) (z .3)
+    refused-key _ _ _ _ (λ n. test .if1 .taken (e ∙ n)) (refused .refused .ensures .0 ∙ e) (refused .refused .ensures .1) (c .zeros .ensures)
 
 cast-words : tie.Need-cast-words
 cast-words c = search needs
@@ -55,13 +54,16 @@ served-requires : tie.Need-served-requires
 served-requires c κs = search needs
 
 returns-2 : tie.Need-returns-2
+unfolding preparedKey
 returns-2 c =
     let words = c .before .before in
     let test = words .before in
     let a = test .before .before .before .args in
     let whole : a .rounds % 256 ≡ a .rounds = omega (arith, served test .low, served test .high) in
-    served-key _ _ _ _ (zero test) (c .served .ensures .0) (c .served .ensures .1 ∙ ap (λ (b : ℕ). b * a .rounds) (c .before .block-size .ensures)) refl refl refl
-    (words .words .ensures ∙ ap (λ (n : ℕ). preparedWords (a .cipher) n (a .key .now)) whole)
+    let keys = words .words .ensures ∙ ap (λ (n : ℕ). preparedWords (a .cipher) n (a .key .now)) whole in
+    served-key _ _ _ _ (zero test) (c .served .ensures .0)
+    (c .served .ensures .1 ∙ ap (λ (b : ℕ). b * a .rounds) (c .before .block-size .ensures))
+    (λ i. record { cipher = a .cipher; rounds = a .rounds; «key_len» = length (a .key .now); keys = keys i })
 
 pub prepare-spec : {M : Type 1} → statement M
 prepare-spec =

@@ -1,15 +1,8 @@
--- `step::Schedule64::of` meets its contract.
+-- `step::Schedule64::of` meets its contract: the key's length decides between the two schedules as Fig. 8 does, and is compared with that schedule's ek.
 -- Assumes nothing.
 use borrow.Author.Needs.{needs}
-use mathlib.Core.Path.{sym, ap, _∙_}
-use mathlib.Core.List.{List}
-use Prim.Native.Nat.{ℕ}
-use lib.Dec.{eqb}
-use lib.ListN.{length}
-use Rattle.fox_keying.specs.Register.{dkey}
-use Rattle.fox_nonlinear.specs.Nonlinear.{NL64, NL64h}
-use Rattle.fox_schedule.specs.Step.{made64, steps64}
-use Rattle.fox_schedule.proofs.Laws.Schedules.{key64-ks64, key64-ks64h, groups-ks64, groups-ks64h}
+use mathlib.Core.Path.{refl}
+use Rattle.fox_schedule.specs.Step.{Scheduled64}
 use Rattle.fox_schedule.proofs.step.Schedule64.of.Statement.{statement}
 use Rattle.fox_schedule.proofs.step.Schedule64.of.Tie as tie
 
@@ -20,26 +13,12 @@ mkey32-requires : tie.Need-mkey32-requires
 mkey32-requires c κs = search needs
 
 returns : tie.Need-returns
-unfolding made64 steps64
-returns c =
-    let c1 = c .before in
-    let key = c1 .before .before .args .key .now in
-    record {
-      made = λ reg.
-          ap (λ (m : List ℕ). NL64 (eqb (length key) 16) (dkey m reg)) (c .mkey16 .ensures) ∙ sym (key64-ks64 key reg (c1 .if1 .taken));
-      steps = sym (groups-ks64 (length key) (c1 .if1 .taken));
-    }
+unfolding Scheduled64
+returns c = (c .before .if1 .taken, c .mkey16 .ensures, refl)
 
 returns-2 : tie.Need-returns-2
-unfolding made64 steps64
-returns-2 c =
-    let c1 = c .before in
-    let key = c1 .before .before .args .key .now in
-    record {
-      made = λ reg.
-          ap (λ (m : List ℕ). NL64h (eqb (length key) 32) (dkey m reg)) (c .mkey32 .ensures) ∙ sym (key64-ks64h key reg (c1 .if1 .left));
-      steps = sym (groups-ks64h (length key) (c1 .if1 .left));
-    }
+unfolding Scheduled64
+returns-2 c = (c .before .if1 .left, c .mkey32 .ensures, refl)
 
 pub of-spec : {M : Type 1} → statement M
 of-spec = tie.close (tie.spec mkey16-requires mkey32-requires returns returns-2)
