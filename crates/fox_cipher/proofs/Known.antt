@@ -2,8 +2,7 @@
 -- 1, 2, 4, 8; the register for 16 rounds after 0, 1, 2 and 3 steps; the beginning of the mixed key of the empty key, at both ek, and of the key 0011223344556677.
 -- Assumes nothing.
 use mathlib.Core.Path.{_≡_, refl}
-use mathlib.Core.List.{List, [], _∷_, _++_}
-use Prim.Native.Nat.{ℕ}
+use mathlib.Core.List.{[], _∷_, _++_}
 use lib.ListN.{take}
 use Rattle.fox_layers.specs.Words.{joined, split, summed}
 use Rattle.fox_layers.specs.Field.{polynomial, rest, product}

@@ -2,7 +2,7 @@
 -- Assumes nothing.
 use Prim.Native.Nat.{ℕ, zero, suc, _+_, _-_, _*_, _^_}
 use mathlib.Core.List.{List, [], _∷_, map}
-use mathlib.Core.Bool.{Bool, true, false, cond}
+use mathlib.Core.Bool.{Bool, cond}
 use lib.ListN.{getD, take, drop}
 use Rattle.fox_layers.specs.Words.{_⊕_, joined, sum}
 use Rattle.fox_layers.specs.Substitution.{sigma}

@@ -1,6 +1,6 @@
 -- A block sealed again and again by the round keys that an array holds.
 -- Assumes nothing.
-use Prim.Native.Nat.{ℕ, _+_, _*_, _^_}
+use Prim.Native.Nat.{ℕ}
 use mathlib.Core.List.{List}
 use Rattle.fox_rounds.specs.Skeleton.{numbered, seal64, seal128, held64, held128}
 use Rattle.fox_rounds.specs.declared.fox64.Fox64.{Fox64}

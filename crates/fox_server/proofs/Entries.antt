@@ -12,7 +12,7 @@ use Rattle.fox_rounds.specs.Skeleton.{numbered}
 use Rattle.fox_rounds.proofs.Laws.Halves.{pair}
 use Rattle.fox_rounds.proofs.Laws.Skeleton.{length-numbered, numbered-at}
 use Rattle.fox_schedule.specs.Schedule.{roundKey64, roundKey128, roundKeys64, roundKeys128}
-use Rattle.fox_server.specs.Prepared.{inHalves, filled, preparedWords}
+use Rattle.fox_server.specs.Prepared.{inHalves, preparedWords}
 use Rattle.fox_server.proofs.Laws.Filled.{length-inHalves}
 use Rattle.fox_server.proofs.Laws.Held.{preparedWords-64, preparedWords-128, filled-at, left-at, right-at, roundKey128-lt}
 

@@ -3,11 +3,11 @@
 -- Assumes nothing.
 use mathlib.Core.Path.{_≡_, sym, ap, _∙_}
 use mathlib.Core.List.{List, [], _∷_, _++_, append-nil}
-use Prim.Native.Nat.{ℕ, zero, suc, _+_, _-_, _≤_}
+use Prim.Native.Nat.{ℕ, suc, _+_, _-_, _≤_}
 use native.Mathlib.Omega.{arith}
 use borrow.Rule.Slice.PartMut.{midOf, putMid}
 use lib.ListN.{length, take, drop, getD, length-take, length-drop, take-append-drop, drop-of-length-le}
-use lib.Seq.{length-take-le, getD-drop, drop-drop, drop-cons}
+use lib.Seq.{length-take-le, drop-drop, drop-cons}
 use Rattle.fox_layers.specs.Words.{joined, split, Bytes}
 use Rattle.fox_layers.proofs.Laws.Words.{split-joined, take-bytes, drop-bytes}
 

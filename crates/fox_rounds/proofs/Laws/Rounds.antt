@@ -1,17 +1,15 @@
 -- "or" and "io" undo each other on words of 32 bits; a round without them undoes itself, whatever its round function is, since the sum that the round
 -- function is given does not change. No step leaves 32 bits.
 -- Assumes nothing.
-use mathlib.Core.Path.{_≡_, refl, sym, ap, ap₂, _∙_, subst}
-use mathlib.Core.List.{List, map}
+use mathlib.Core.Path.{_≡_, sym, ap, ap₂, _∙_, subst}
+use mathlib.Core.List.{map}
 use Prim.Native.Nat.{ℕ, _+_, _*_, _^_, _<_}
-use native.Mathlib.Omega.{arith}
 use lib.Arith.{digits-lt}
-use lib.Pow.{pow-add}
-use lib.ListN.{length, length-map}
+use lib.ListN.{length-map}
 use Rattle.fox_layers.specs.Words.{_⊕_, joined, split}
 use Rattle.fox_layers.specs.Substitution.{sbox, sigma}
-use Rattle.fox_layers.specs.Diffusion.{mu4, mu8}
-use Rattle.fox_layers.proofs.Laws.Xor.{xor-comm, xor-assoc, xor-cancel, xor-cancel-right, xor-medial, xor-same, xor-zero, xor-lt}
+use Rattle.fox_layers.specs.Diffusion.{mu4}
+use Rattle.fox_layers.proofs.Laws.Xor.{xor-comm, xor-cancel, xor-cancel-right, xor-medial, xor-same, xor-zero, xor-lt}
 use Rattle.fox_layers.proofs.Laws.Words.{joined-lt, length-split, split-bytes}
 use Rattle.fox_layers.proofs.Laws.Tables.{map-sbox-bytes}
 use Rattle.fox_rounds.specs.Rounds.{left, right, or, io, f, f32, f64, lmid64, or64, io64, plus128, elmid128, or128, io128}

@@ -1,6 +1,6 @@
 -- The register as it is moved from round key to round key: forward from the seed, and back from where the last round key stands.
 -- Assumes nothing.
-use mathlib.Core.Path.{_≡_, refl, sym, ap, ap₂, _∙_}
+use mathlib.Core.Path.{_≡_, sym, ap, ap₂, _∙_}
 use Prim.Native.Nat.{ℕ, _+_, _-_, _*_, _^_, _<_, _≤_}
 use native.Mathlib.Nat.{zero-mul, add-mul, one-mul, mul-le-mul-left}
 use native.Mathlib.Omega.{arith}

@@ -2,7 +2,6 @@
 -- Assumes nothing.
 use borrow.Author.Needs.{needs}
 use mathlib.Core.Path.{_≡_, refl, sym, _∙_}
-use Prim.Native.Nat.{ℕ}
 use lib.ListN.{length}
 use Rattle.fox_calls.specs.Refusals.{refusalOf, forBlock, Blocked}
 use Rattle.fox_calls.proofs.Laws.Refusals.{blocked}

@@ -4,14 +4,12 @@ use borrow.Author.Needs.{needs}
 use mathlib.Core.Path.{_≡_, refl, sym, ap, _∙_}
 use mathlib.Core.List.{List}
 use Prim.Native.Nat.{ℕ, _-_, _*_, _^_, _≤_, _<_}
-use native.Mathlib.Omega.{arith}
 use Rattle.fox_rounds.specs.Rounds.{elmid128, io128}
 use Rattle.fox_rounds.specs.Skeleton.{through, open128}
 use Rattle.fox_rounds.proofs.Laws.Skeleton.{Going, going-first, going-on, going-last, reversed}
 use Rattle.fox_keying.specs.Register.{LFSR}
-use Rattle.fox_schedule.specs.Step.{made128}
-use Rattle.fox_schedule.specs.Step.{keyAt128}
-use Rattle.fox_schedule.proofs.Laws.Walk.{reg-first, reg-next, reg-last, reg-back}
+use Rattle.fox_schedule.specs.Step.{made128, keyAt128}
+use Rattle.fox_schedule.proofs.Laws.Walk.{reg-last, reg-back}
 use Rattle.fox_card.proofs.rounds128.open128.Statement.{statement}
 use Rattle.fox_card.proofs.rounds128.open128.Tie as tie
 

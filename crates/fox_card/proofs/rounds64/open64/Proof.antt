@@ -4,14 +4,12 @@ use borrow.Author.Needs.{needs}
 use mathlib.Core.Path.{_≡_, sym, ap, _∙_}
 use mathlib.Core.List.{List}
 use Prim.Native.Nat.{ℕ, _-_, _*_, _^_, _≤_, _<_}
-use native.Mathlib.Omega.{arith}
 use Rattle.fox_rounds.specs.Rounds.{lmid64, io64}
 use Rattle.fox_rounds.specs.Skeleton.{through, open64}
 use Rattle.fox_rounds.proofs.Laws.Skeleton.{Going, going-first, going-on, going-last, reversed}
 use Rattle.fox_keying.specs.Register.{LFSR}
-use Rattle.fox_schedule.specs.Step.{made64, steps64}
-use Rattle.fox_schedule.specs.Step.{keyAt64}
-use Rattle.fox_schedule.proofs.Laws.Walk.{reg-first, reg-next, reg-last, reg-back, few-steps}
+use Rattle.fox_schedule.specs.Step.{made64, steps64, keyAt64}
+use Rattle.fox_schedule.proofs.Laws.Walk.{reg-last, reg-back, few-steps}
 use Rattle.fox_card.proofs.rounds64.open64.Statement.{statement}
 use Rattle.fox_card.proofs.rounds64.open64.Tie as tie
 

@@ -1,17 +1,14 @@
 -- `rounds64::seal64` meets its contract.
 -- Assumes nothing.
 use borrow.Author.Needs.{needs}
-use mathlib.Core.Path.{_≡_, sym, ap, _∙_}
-use mathlib.Core.List.{List}
+use mathlib.Core.Path.{_≡_, ap, _∙_}
 use Prim.Native.Nat.{ℕ, _-_, _*_, _^_, _≤_, _<_}
-use native.Mathlib.Omega.{arith}
 use Rattle.fox_rounds.specs.Rounds.{lmid64, or64}
-use Rattle.fox_rounds.specs.Skeleton.{through, seal64}
-use Rattle.fox_rounds.proofs.Laws.Skeleton.{Going, going-first, going-on, going-last, reversed}
+use Rattle.fox_rounds.specs.Skeleton.{seal64}
+use Rattle.fox_rounds.proofs.Laws.Skeleton.{Going, going-first, going-on, going-last}
 use Rattle.fox_keying.specs.Register.{LFSR}
-use Rattle.fox_schedule.specs.Step.{made64, steps64}
-use Rattle.fox_schedule.specs.Step.{keyAt64}
-use Rattle.fox_schedule.proofs.Laws.Walk.{reg-first, reg-next, reg-last, reg-back}
+use Rattle.fox_schedule.specs.Step.{made64, steps64, keyAt64}
+use Rattle.fox_schedule.proofs.Laws.Walk.{reg-first, reg-next}
 use Rattle.fox_card.proofs.rounds64.seal64.Statement.{statement}
 use Rattle.fox_card.proofs.rounds64.seal64.Tie as tie
 

@@ -6,7 +6,6 @@ use Rattle.fox_layers.specs.Diffusion.{mu4}
 use Rattle.fox_rounds.specs.Rounds.{right, f32}
 use Rattle.fox_rounds.proofs.Laws.Halves.{left-div}
 use Rattle.fox_rounds.proofs.Laws.Rounds.{f-made}
-use Rattle.fox_rounds.proofs.Laws.Halves.{left-div}
 use Rattle.fox_rounds.proofs.fox64.f32.Statement.{statement}
 use Rattle.fox_rounds.proofs.fox64.f32.Tie as tie
 

@@ -3,7 +3,6 @@
 use borrow.Author.Needs.{needs}
 use mathlib.Core.Path.{ap, _∙_}
 use Prim.Native.Nat.{_-_, _≤_}
-use native.Mathlib.Omega.{arith}
 use Rattle.fox_rounds.specs.Rounds.{lmid64, or64}
 use Rattle.fox_rounds.specs.Skeleton.{seal64, held64}
 use Rattle.fox_rounds.proofs.Laws.Skeleton.{Going, going-first, going-on, going-last}

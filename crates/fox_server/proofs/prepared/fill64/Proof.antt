@@ -1,9 +1,8 @@
 -- `prepared::fill64` meets its contract.
 -- Assumes nothing.
 use borrow.Author.Needs.{needs}
-use mathlib.Core.Path.{_≡_, refl, sym, ap, _∙_}
-use Prim.Native.Nat.{ℕ, _+_, _-_, _*_, _^_, _≤_, _<_}
-use native.Mathlib.Omega.{arith}
+use mathlib.Core.Path.{_≡_, refl, ap, _∙_}
+use Prim.Native.Nat.{ℕ, _-_, _*_, _^_, _≤_, _<_}
 use Rattle.fox_rounds.specs.Skeleton.{numbered}
 use Rattle.fox_keying.specs.Register.{LFSR}
 use Rattle.fox_schedule.specs.Step.{made64, steps64, keyAt64}

@@ -3,7 +3,7 @@
 use borrow.Author.Needs.{needs}
 use mathlib.Core.Path.{sym}
 use Rattle.fox_layers.specs.Words.{_⊕_}
-use Rattle.fox_rounds.specs.Rounds.{left, right, plus128}
+use Rattle.fox_rounds.specs.Rounds.{right, plus128}
 use Rattle.fox_rounds.proofs.Laws.Halves.{left-div}
 use Rattle.fox_rounds.proofs.fox128.Fox128.plus.Statement.{statement}
 use Rattle.fox_rounds.proofs.fox128.Fox128.plus.Tie as tie
