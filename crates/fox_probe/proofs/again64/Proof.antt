@@ -1,4 +1,4 @@
--- `again64` meets its contract.
+-- `again64` meets its contract: each turn seals once more what the turns before have made.
 -- Assumes nothing.
 use borrow.Author.Needs.{needs}
 use mathlib.Core.Path.{_≡_, refl, sym, ap, _∙_}

@@ -1,4 +1,4 @@
--- `fox_probe_again64` meets its contract.
+-- `fox_probe_again64` meets its contract: it hands on a word of what the loop makes.
 -- Assumes nothing.
 use borrow.Author.Needs.{needs}
 use mathlib.Core.Path.{ap, _∙_}

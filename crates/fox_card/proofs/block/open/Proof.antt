@@ -1,4 +1,5 @@
--- `block::open` meets its contract.
+-- `block::open` meets its contract: a refused call hands back the first refusal that applies and writes nothing; past the refusals the lengths and the
+-- rounds are those that the step for the cipher asks, and what it writes is the definition's value for that cipher.
 -- Assumes nothing.
 use borrow.Author.Needs.{needs}
 use mathlib.Core.Path.{_≡_, refl, sym, _∙_}

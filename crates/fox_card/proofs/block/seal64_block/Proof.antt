@@ -1,4 +1,4 @@
--- `block::seal64_block` meets its contract.
+-- `block::seal64_block` meets its contract: the schedule of the key makes the round keys of the definition, in their order.
 -- Assumes nothing.
 use borrow.Author.Needs.{needs}
 use mathlib.Core.Path.{sym, ap, ap₂, _∙_}

@@ -1,4 +1,4 @@
--- `rounds128::elmid128` meets its contract.
+-- `rounds128::elmid128` meets its contract: the two words of the round key are the halves of the number that the definition takes.
 -- Assumes nothing.
 use borrow.Author.Needs.{needs}
 use mathlib.Core.Path.{ap, _∙_}

@@ -1,4 +1,5 @@
--- `rounds128::seal128` meets its contract.
+-- `rounds128::seal128` meets its contract: whenever the loop's test is reached the register stands where the next round key is made, and what the rounds to
+-- come make of the state is what all rounds make of the block.
 -- Assumes nothing.
 use borrow.Author.Needs.{needs}
 use mathlib.Core.Path.{_≡_, refl, ap, _∙_}

@@ -1,4 +1,5 @@
--- `rounds64::open64` meets its contract.
+-- `rounds64::open64` meets its contract: the loop of sealing over the round keys read backwards. The register starts where the last round key is made, and
+-- each turn steps it back to where the round key before is made.
 -- Assumes nothing.
 use borrow.Author.Needs.{needs}
 use mathlib.Core.Path.{_≡_, sym, ap, _∙_}

@@ -1,4 +1,4 @@
--- `blocks::write64` meets its contract.
+-- `blocks::write64` meets its contract: the bytes stored are those of the words, in their order.
 -- Assumes nothing.
 use borrow.Author.Needs.{needs}
 use Rattle.fox_cipher.specs.Block.{bytes64}

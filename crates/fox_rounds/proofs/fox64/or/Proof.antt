@@ -1,4 +1,4 @@
--- `fox64::or` meets its contract.
+-- `fox64::or` meets its contract: the halves of a word are its quotient and its remainder by 2 to the 16, and the sum of the two has 16 bits.
 -- Assumes nothing.
 use borrow.Author.Needs.{needs}
 use mathlib.Core.Path.{sym, ap}

@@ -1,4 +1,4 @@
--- `lent128::elmid128` meets its contract.
+-- `lent128::elmid128` meets its contract: as by the card's way, with the round function over lent tables.
 -- Assumes nothing.
 use borrow.Author.Needs.{needs}
 use mathlib.Core.Path.{ap, _∙_}

@@ -1,4 +1,5 @@
--- `lent128::seal128` meets its contract.
+-- `lent128::seal128` meets its contract: whenever the loop's test is reached, what the rounds to come make of the state is what all rounds make of the
+-- block. After the loop one round is left.
 -- Assumes nothing.
 use borrow.Author.Needs.{needs}
 use mathlib.Core.Path.{ap, _∙_}

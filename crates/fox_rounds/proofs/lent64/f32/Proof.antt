@@ -1,4 +1,5 @@
--- `lent64::f32` meets its contract.
+-- `lent64::f32` meets its contract: over the tables that it asks to be lent, a look-up of substitution with diffusion and one of substitution are the
+-- definition's steps.
 -- Assumes nothing.
 use borrow.Author.Needs.{needs}
 use mathlib.Core.Path.{refl, _∙_}

@@ -1,4 +1,4 @@
--- `lent64::open64` meets its contract.
+-- `lent64::open64` meets its contract: the loop of sealing over the round keys read backwards, which is the list reversed.
 -- Assumes nothing.
 use borrow.Author.Needs.{needs}
 use mathlib.Core.Path.{_≡_, sym, ap, _∙_}

@@ -1,4 +1,5 @@
--- `block::open` meets its contract.
+-- `block::open` meets its contract: a refused call hands back the first refusal that applies and writes nothing; past the refusals the rounds and
+-- lengths are those that the step for the cipher asks, and the round keys are those that the prepared key holds.
 -- Assumes nothing.
 use borrow.Author.Needs.{needs}
 use mathlib.Core.Path.{_≡_, refl, sym, ap, _∙_}

@@ -1,4 +1,4 @@
--- `block::open128_block` meets its contract.
+-- `block::open128_block` meets its contract: the tables made here are those that the rounds ask to be lent.
 -- Assumes nothing.
 use borrow.Author.Needs.{needs}
 use mathlib.Core.Path.{ap, _∙_}

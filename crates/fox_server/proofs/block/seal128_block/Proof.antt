@@ -1,4 +1,4 @@
--- `block::seal128_block` meets its contract.
+-- `block::seal128_block` meets its contract: the tables made here are those that the rounds ask to be lent.
 -- Assumes nothing.
 use borrow.Author.Needs.{needs}
 use mathlib.Core.Path.{ap, _∙_}

@@ -1,4 +1,5 @@
--- `block::seal_from_key` meets its contract.
+-- `block::seal_from_key` meets its contract: refusals are those of the key bytes; past them the prepared key is that of the key, and holds the round keys of
+-- the definition.
 -- Assumes nothing.
 use borrow.Author.Needs.{needs}
 use mathlib.Core.Path.{refl, sym, _∙_}

@@ -1,4 +1,4 @@
--- `prepared::prepare` meets its contract.
+-- `prepared::prepare` meets its contract: a refused key is all zeros; past the refusals the rounds fit a byte, and the words are those of the key.
 -- Assumes nothing.
 use borrow.Author.Needs.{needs}
 use mathlib.Core.Path.{_≡_, sym, ap, _∙_}

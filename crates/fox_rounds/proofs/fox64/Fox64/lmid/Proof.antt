@@ -1,4 +1,4 @@
--- `fox64::Fox64::lmid` meets its contract.
+-- `fox64::Fox64::lmid` meets its contract: what the round function gives is added to both words.
 -- Assumes nothing.
 use borrow.Author.Needs.{needs}
 use Rattle.fox_layers.specs.Words.{_⊕_}

@@ -1,4 +1,4 @@
--- `fox64::Fox64::or` meets its contract.
+-- `fox64::Fox64::or` meets its contract: the words that "or" and "io" act on are the definition's, and the others stay.
 -- Assumes nothing.
 use borrow.Author.Needs.{needs}
 use Rattle.fox_rounds.specs.Rounds.{or64}

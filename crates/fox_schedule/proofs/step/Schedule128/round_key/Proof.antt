@@ -1,4 +1,4 @@
--- `step::Schedule128::round_key` meets its contract.
+-- `step::Schedule128::round_key` meets its contract: the non-linear part is given the diversified key.
 -- Assumes nothing.
 use borrow.Author.Needs.{needs}
 use mathlib.Core.Path.{ap, _∙_}

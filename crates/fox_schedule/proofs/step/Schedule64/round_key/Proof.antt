@@ -1,4 +1,4 @@
--- `step::Schedule64::round_key` meets its contract.
+-- `step::Schedule64::round_key` meets its contract: in either case the non-linear part of that schedule is given the diversified key.
 -- Assumes nothing.
 use borrow.Author.Needs.{needs}
 use mathlib.Core.Path.{sym, ap, _∙_}

@@ -1,4 +1,4 @@
--- `step::Schedule64::steps` meets its contract.
+-- `step::Schedule64::steps` meets its contract: the number of groups of either schedule.
 -- Assumes nothing.
 use borrow.Author.Needs.{needs}
 use mathlib.Core.Path.{sym, ap}
