@@ -3,9 +3,10 @@
 .PHONY: run test count fmt clean
 
 run:
-	@echo "proving and building (about a minute the first time)"
-	@rt check fox_known >/dev/null || rt check fox_known
-	@cat target/log/fox_known.stdout
+	@echo "proving and building (some three minutes the first time)"
+	@rt check fox_vectors >/dev/null || rt check fox_vectors
+	@echo "cipher, rounds, key bytes: sealed and opened by the card's way, by the server's way from a prepared key, and from key bytes"
+	@cat target/log/fox_vectors.stdout
 
 test:
 	@sh tests/gate.sh
@@ -13,6 +14,7 @@ test:
 count:
 	@rt check fox_probe >/dev/null || rt check fox_probe
 	@sh tests/instructions.sh
+	@sh tests/measure.sh
 
 fmt:
 	@rt fmt

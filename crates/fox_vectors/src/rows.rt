@@ -1,96 +1,8 @@
-// Reads a row of vectors: six cells with commas between them, `cipher,rounds,key,block,refusal,sealed`.
+// Reads a row of vectors: six cells with commas between them, `cipher,rounds,key,block,refusal,sealed`. Cells 0, 1 and 4 are decimal numbers, and
+// the others bytes in hex pairs.
 ghost use Prim.Native.Nat.{_≤_};
 ghost use lib.ListN.{length};
 ghost use Rattle.io.specs.Counts.{Counts};
-
-// What a row says besides its bytes.
-pub struct Case {
-    pub cipher: u32,
-    pub rounds: u32,
-    pub refusal: u32,
-}
-
-pub fn case_of(row: &[u8]) -> Case {
-    Case {
-        cipher: number(cell(row, 0)),
-        rounds: number(cell(row, 1)),
-        refusal: number(cell(row, 4)),
-    }
-}
-
-pub fn is_row(row: &[u8]) -> bool {
-    if commas(row) != 5 {
-        return false;
-    }
-    if !is_number(cell(row, 0)) {
-        return false;
-    }
-    if !is_number(cell(row, 1)) {
-        return false;
-    }
-    if !is_pairs(cell(row, 2)) {
-        return false;
-    }
-    if !is_pairs(cell(row, 3)) {
-        return false;
-    }
-    if !is_number(cell(row, 4)) {
-        return false;
-    }
-    is_pairs(cell(row, 5))
-}
-
-fn commas(row: &[u8]) -> usize {
-    let mut n: usize = 0;
-    let mut i: usize = 0;
-    while i < row.len() {
-        if row[i] == b',' {
-            n += 1;
-        }
-        i += 1;
-    }
-    n
-}
-
-// Cell `k`, counted from 0: what stands between two commas, or is empty past the last.
-pub fn cell(row: &[u8], k: usize) -> &[u8] {
-    let from = start_of(row, k);
-    let to = end_of(row, from, b',');
-    &row[from..to]
-}
-
-// Past the first `k` commas.
-fn start_of(row: &[u8], k: usize) -> usize
-    ensures { λ r. ⌜ r ≤ length (now (row .entry)) ⌝ }
-{
-    let mut left = k;
-    let mut i: usize = 0;
-    while i < row.len() {
-        if left == 0 {
-            return i;
-        }
-        if row[i] == b',' {
-            left -= 1;
-        }
-        i += 1;
-    }
-    i
-}
-
-// The first `mark` at `from` or after it, or the text's end.
-pub fn end_of(text: &[u8], from: usize, mark: u8) -> usize
-    requires { ⌜ from ≤ length (now text) ⌝ }
-    ensures { λ r. ⌜ (from ≤ r) × (r ≤ length (now (text .entry))) ⌝ }
-{
-    let mut i = from;
-    while i < text.len() {
-        if text[i] == mark {
-            return i;
-        }
-        i += 1;
-    }
-    i
-}
 
 // The value of a digit of either base, and 16 for any other byte.
 fn digit(b: u8) -> u8
@@ -111,17 +23,140 @@ fn digit(b: u8) -> u8
     16
 }
 
-// One to nine decimal digits, which a number of 32 bits holds.
-fn is_number(s: &[u8]) -> bool {
-    if s.len() == 0 {
-        return false;
+// The first `mark` at `from` or after it, or the text's end.
+pub(crate) fn end_of(text: &[u8], from: usize, mark: u8) -> usize
+    requires { ⌜ from ≤ length (now text) ⌝ }
+    ensures { λ r. ⌜ (from ≤ r) × (r ≤ length (now (text .entry))) ⌝ }
+{
+    let mut i = from;
+    while i < text.len() {
+        if text[i] == mark {
+            return i;
+        }
+        i += 1;
     }
-    if s.len() > 9 {
-        return false;
-    }
+    i
+}
+
+// Where cell `k` starts, counted from 0: past the first `k` commas.
+fn start_of(row: &[u8], k: usize) -> usize
+    ensures { λ r. ⌜ r ≤ length (now (row .entry)) ⌝ }
+{
+    let mut left = k;
     let mut i: usize = 0;
-    while i < s.len() {
-        if digit(s[i]) > 9 {
+    while i < row.len() {
+        if left == 0 {
+            return i;
+        }
+        if row[i] == b',' {
+            left -= 1;
+        }
+        i += 1;
+    }
+    i
+}
+
+// The number in cell `k`, of nine digits at most.
+pub(crate) fn number(row: &[u8], k: usize) -> u32 {
+    let mut value: u32 = 0;
+    let mut i = start_of(row, k);
+    while i < row.len() {
+        let d = digit(row[i]);
+        if d > 9 {
+            return value;
+        }
+        value = value % 100_000_000 * 10 + d as u32;
+        i += 1;
+    }
+    value
+}
+
+// Puts the bytes of cell `k` at the start of `out`, and answers how many. It stops at what is no pair and where `out` is full.
+pub(crate) fn bytes(row: &[u8], k: usize, out: &mut [u8]) -> usize
+    ensures { λ r. ⌜ Counts r (now (out .exit)) ⌝ }
+{
+    let mut i = start_of(row, k);
+    let mut n: usize = 0;
+    while n < out.len() {
+        if row.len() < i + 2 {
+            return n;
+        }
+        let high = digit(row[i]);
+        if high > 15 {
+            return n;
+        }
+        out[n] = high * 16 + digit(row[i + 1]) % 16;
+        n += 1;
+        i += 2;
+    }
+    n
+}
+
+fn is_numeral(k: usize) -> bool {
+    if k == 4 {
+        return true;
+    }
+    k < 2
+}
+
+// Whether a cell may have this many digits: a number one to nine, and bytes two for each of 40 at most.
+fn is_length(k: usize, digits: usize) -> bool {
+    if is_numeral(k) {
+        return digits > 0 && digits < 10;
+    }
+    digits % 2 == 0 && digits < 81
+}
+
+fn is_digit(k: usize, b: u8) -> bool {
+    if is_numeral(k) {
+        return digit(b) < 10;
+    }
+    digit(b) < 16
+}
+
+pub(crate) fn is_row(row: &[u8]) -> bool {
+    let mut k: usize = 0;
+    let mut digits: usize = 0;
+    let mut i: usize = 0;
+    while i < row.len() {
+        if row[i] == b',' {
+            if !is_length(k, digits) {
+                return false;
+            }
+            k += 1;
+            digits = 0;
+        } else {
+            if !is_digit(k, row[i]) {
+                return false;
+            }
+            digits += 1;
+        }
+        i += 1;
+    }
+    k == 5 && is_length(k, digits)
+}
+
+// Whether `out` is the bytes of cell `k`, all of them.
+pub(crate) fn spells(row: &[u8], k: usize, out: &[u8]) -> bool {
+    let mut i = start_of(row, k);
+    let mut n: usize = 0;
+    while n < out.len() {
+        if row.len() < i + 2 {
+            return false;
+        }
+        if digit(row[i]) % 16 * 16 + digit(row[i + 1]) % 16 != out[n] {
+            return false;
+        }
+        n += 1;
+        i += 2;
+    }
+    end_of(row, i, b',') == i
+}
+
+pub(crate) fn is_all(out: &[u8], b: u8) -> bool {
+    let mut i: usize = 0;
+    while i < out.len() {
+        if out[i] != b {
             return false;
         }
         i += 1;
@@ -129,62 +164,17 @@ fn is_number(s: &[u8]) -> bool {
     true
 }
 
-// What the digits of a number say; the digits past the ninth are left out.
-fn number(s: &[u8]) -> u32 {
-    let mut value: u32 = 0;
-    let mut i: usize = 0;
-    while i < s.len() {
-        if value > 99_999_999 {
-            return value;
-        }
-        value = value * 10 + digit(s[i]) as u32;
-        i += 1;
-    }
-    value
-}
-
-fn is_pairs(s: &[u8]) -> bool {
-    let mut out = [0u8; 40];
-    let n = bytes(s, &mut out);
-    if s.len() % 2 != 0 {
-        return false;
-    }
-    n == s.len() / 2
-}
-
-// Puts the bytes that hex pairs spell at the start of `out`, and answers how many. It stops at what is no pair and where `out` is full.
-pub fn bytes(s: &[u8], out: &mut [u8]) -> usize
-    ensures { λ r. ⌜ Counts r (now (out .exit)) ⌝ }
+// How many bytes cell `k` has, or the length of `space` where that is less.
+pub(crate) fn room(row: &[u8], k: usize, space: &[u8]) -> usize
+    ensures { λ r. ⌜ Counts r (now (space .entry)) ⌝ }
 {
-    let mut n: usize = 0;
-    while n < out.len() {
-        if s.len() / 2 <= n {
-            return n;
-        }
-        let high = digit(s[2 * n]);
-        let low = digit(s[2 * n + 1]);
-        if high > 15 {
-            return n;
-        }
-        if low > 15 {
-            return n;
-        }
-        out[n] = high * 16 + low;
-        n += 1;
-    }
-    n
-}
-
-// How long a row's output is: as `sealed`, or as `block` where that is empty.
-pub fn out_length(block: &[u8], sealed: &[u8]) -> usize {
-    if sealed.len() > 0 {
-        return sealed.len();
-    }
-    block.len()
+    let from = start_of(row, k);
+    let end = end_of(row, from, b',');
+    within((end - from) / 2, space)
 }
 
 // `n`, or the length of `space` where that is less.
-pub fn within(n: usize, space: &[u8]) -> usize
+fn within(n: usize, space: &[u8]) -> usize
     ensures { λ r. ⌜ Counts r (now (space .entry)) ⌝ }
 {
     if n < space.len() {

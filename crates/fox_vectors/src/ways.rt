@@ -1,218 +1,83 @@
-// Runs one row by every way, and names the ways that differ from what the row says.
-use crate::rows::Case;
+// Runs one row by every way: ways 0, 2 and 4 seal, and 1, 3 and 5 open, by the card, by the server from key bytes, and by the server from a prepared
+// key.
+use crate::lines;
+use crate::prepared_key;
+use crate::rows;
 use fox_calls::answer::Answer;
 use fox_card::block as card;
 use fox_server::block as server;
-use fox_server::prepared;
-use fox_server::prepared::Preparation;
-use fox_server::prepared::Prepared;
 
 const PAINT: u8 = 0xA5;
 
-// Whether a way differs. Where the row is served, `block` is sealed into `sealed` and back; where it is refused, both are only input.
-pub fn run(case: Case, key: &[u8], block: &[u8], sealed: &[u8], out: &mut [u8]) -> bool {
-    let d = run_card(false, case, key, block, sealed, out);
-    let e = run_prepared(d, case, key, block, sealed, out);
-    run_from_key(e, case, key, block, sealed, out)
-}
-
-fn run_card(
-    before: bool,
-    case: Case,
-    key: &[u8],
-    block: &[u8],
-    sealed: &[u8],
-    out: &mut [u8],
-) -> bool {
-    let seals = card_seal(case, key, block, sealed, out);
-    let d = told(before, seals, b" card-seal");
-    let opens = card_open(case, key, sealed, block, out);
-    told(d, opens, b" card-open")
-}
-
-fn run_from_key(
-    before: bool,
-    case: Case,
-    key: &[u8],
-    block: &[u8],
-    sealed: &[u8],
-    out: &mut [u8],
-) -> bool {
-    let seals = key_seal(case, key, block, sealed, out);
-    let d = told(before, seals, b" server-seal-from-key");
-    let opens = key_open(case, key, sealed, block, out);
-    told(d, opens, b" server-open-from-key")
-}
-
-// Names a way that differs, and answers whether one has so far.
-fn told(before: bool, agrees: bool, name: &[u8]) -> bool {
-    if agrees {
-        return before;
+// Prints the ways that differ from what the row says, and answers whether none does.
+pub(crate) fn agree(row: &[u8]) -> bool {
+    let refusal = rows::number(row, 4);
+    let mut all = true;
+    for way in 0..6 {
+        if !agrees(way, row, refusal) {
+            lines::print_way(way);
+            all = false;
+        }
     }
-    if !before {
-        io::write_all(1, b" differs");
-    }
-    io::write_all(1, name);
-    true
+    all
 }
 
-// A key that is refused is not sealed with: its refusal is all that a prepared key has to show.
-fn run_prepared(
-    before: bool,
-    case: Case,
-    key: &[u8],
-    block: &[u8],
-    sealed: &[u8],
-    out: &mut [u8],
-) -> bool {
-    let p = prepared::prepare(case.cipher, case.rounds, key);
-    let held = p.key;
-    if refuses_key(case.refusal) {
-        return told(before, is_refused(p, case.refusal), b" prepare");
+// A way that seals turns cell 3 into cell 5, and one that opens turns cell 5 into cell 3. A refused row has nothing sealed to open, so there its
+// block is opened too, and cell 5 has the output's length.
+fn agrees(way: u32, row: &[u8], refusal: u32) -> bool {
+    if refusal != 0 {
+        return tries(way, row, refusal, 3, 5);
     }
-    let d = told(before, is_prepared(p, case, key.len()), b" prepare");
-    let seals = server_seal(held, case.refusal, block, sealed, out);
-    let e = told(d, seals, b" server-seal");
-    let opens = server_open(held, case.refusal, sealed, block, out);
-    told(e, opens, b" server-open")
+    let opens = (way % 2) as usize;
+    tries(way, row, 0, 3 + 2 * opens, 5 - 2 * opens)
 }
 
-// Preparing a key meets refusals 1 to 3 alone.
-fn refuses_key(refusal: u32) -> bool {
-    if refusal == 0 {
-        return false;
-    }
-    refusal < 4
+// The output is painted first, so that it shows whether a refused call wrote to it.
+fn tries(way: u32, row: &[u8], refusal: u32, from: usize, to: usize) -> bool {
+    let mut out = [PAINT; 40];
+    let n = rows::room(row, to, &out);
+    puts(way, row, refusal, from, to, &mut out[..n])
 }
 
-fn is_refused(p: Preparation, refusal: u32) -> bool {
-    let answer = p.answer;
-    let key = p.key;
-    let words = key.keys;
+// Whether a way, run on cell `from`, puts out cell `to`, or refuses and leaves the output painted.
+fn puts(way: u32, row: &[u8], refusal: u32, from: usize, to: usize, out: &mut [u8]) -> bool {
+    let answer = call_row(way, row, from, out);
     if answer.refusal != refusal {
         return false;
     }
-    if answer.count != 0 {
-        return false;
+    if refusal != 0 {
+        return answer.count == 0 && rows::is_all(out, PAINT);
     }
-    if key.cipher != 0 {
-        return false;
-    }
-    if key.rounds != 0 {
-        return false;
-    }
-    if key.key_len != 0 {
-        return false;
-    }
-    is_zero(&words)
+    answer.count == out.len() && rows::spells(row, to, out)
 }
 
-fn is_zero(words: &[u64]) -> bool {
-    let mut i: usize = 0;
-    while i < words.len() {
-        if words[i] != 0 {
-            return false;
-        }
-        i += 1;
-    }
-    true
+fn call_row(way: u32, row: &[u8], cell: usize, out: &mut [u8]) -> Answer {
+    let mut key = [0u8; 40];
+    let k = rows::bytes(row, 2, &mut key);
+    let mut block = [0u8; 40];
+    let b = rows::bytes(row, cell, &mut block);
+    call(
+        way,
+        rows::number(row, 0),
+        rows::number(row, 1),
+        &key[..k],
+        &block[..b],
+        out,
+    )
 }
 
-fn is_prepared(p: Preparation, case: Case, key_len: usize) -> bool {
-    let answer = p.answer;
-    let key = p.key;
-    if answer.refusal != 0 {
-        return false;
+fn call(way: u32, cipher: u32, rounds: u32, key: &[u8], block: &[u8], out: &mut [u8]) -> Answer {
+    if way == 0 {
+        return card::seal(cipher, rounds, key, block, out);
     }
-    if answer.count != key_bytes(case.cipher, case.rounds) {
-        return false;
+    if way == 1 {
+        return card::open(cipher, rounds, key, block, out);
     }
-    if key.cipher != case.cipher {
-        return false;
+    if way == 2 {
+        return server::seal_from_key(cipher, rounds, key, block, out);
     }
-    if key.rounds != case.rounds {
-        return false;
+    if way == 3 {
+        return server::open_from_key(cipher, rounds, key, block, out);
     }
-    key.key_len == key_len
-}
-
-// How many bytes of round keys are in use.
-fn key_bytes(cipher: u32, rounds: u32) -> usize {
-    if cipher == 64 {
-        return 8 * rounds as usize;
-    }
-    16 * rounds as usize
-}
-
-fn card_seal(case: Case, key: &[u8], input: &[u8], want: &[u8], out: &mut [u8]) -> bool {
-    paint(out);
-    let answer = card::seal(case.cipher, case.rounds, key, input, out);
-    agrees(answer, case.refusal, out, want)
-}
-
-fn card_open(case: Case, key: &[u8], input: &[u8], want: &[u8], out: &mut [u8]) -> bool {
-    paint(out);
-    let answer = card::open(case.cipher, case.rounds, key, input, out);
-    agrees(answer, case.refusal, out, want)
-}
-
-fn server_seal(key: Prepared, refusal: u32, input: &[u8], want: &[u8], out: &mut [u8]) -> bool {
-    paint(out);
-    let answer = server::seal(key, input, out);
-    agrees(answer, refusal, out, want)
-}
-
-fn server_open(key: Prepared, refusal: u32, input: &[u8], want: &[u8], out: &mut [u8]) -> bool {
-    paint(out);
-    let answer = server::open(key, input, out);
-    agrees(answer, refusal, out, want)
-}
-
-fn key_seal(case: Case, key: &[u8], input: &[u8], want: &[u8], out: &mut [u8]) -> bool {
-    paint(out);
-    let answer = server::seal_from_key(case.cipher, case.rounds, key, input, out);
-    agrees(answer, case.refusal, out, want)
-}
-
-fn key_open(case: Case, key: &[u8], input: &[u8], want: &[u8], out: &mut [u8]) -> bool {
-    paint(out);
-    let answer = server::open_from_key(case.cipher, case.rounds, key, input, out);
-    agrees(answer, case.refusal, out, want)
-}
-
-// Fills the output, so that it shows whether a refused call wrote to it.
-fn paint(out: &mut [u8]) {
-    let mut i: usize = 0;
-    while i < out.len() {
-        out[i] = PAINT;
-        i += 1;
-    }
-}
-
-fn is_painted(out: &[u8]) -> bool {
-    let mut i: usize = 0;
-    while i < out.len() {
-        if out[i] != PAINT {
-            return false;
-        }
-        i += 1;
-    }
-    true
-}
-
-// Whether a call did what the row says: put `want` into the output, or refused and left it as it was.
-fn agrees(answer: Answer, refusal: u32, out: &[u8], want: &[u8]) -> bool {
-    if answer.refusal != refusal {
-        return false;
-    }
-    if refusal == 0 {
-        if answer.count != want.len() {
-            return false;
-        }
-        return check::same(out, want);
-    }
-    if answer.count != 0 {
-        return false;
-    }
-    is_painted(out)
+    prepared_key::call(way == 4, cipher, rounds, key, block, out)
 }

@@ -45,20 +45,17 @@ loop-less c = search needs
 loop-again : tie.Need-loop-again Inv-loop μ-loop
 loop-again c = search needs
 
-add-rows-2 : tie.Need-add-rows-2 Inv-loop μ-loop
-add-rows-2 c = search needs
+add-print-sum : tie.Need-add-print-sum Inv-loop μ-loop
+add-print-sum c = search needs
 
-malformed-requires : tie.Need-malformed-requires Inv-loop μ-loop
-malformed-requires c κs = search needs
+add-print-sum-2 : tie.Need-add-print-sum-2 Inv-loop μ-loop
+add-print-sum-2 c = search needs
 
-add-differ-2 : tie.Need-add-differ-2 Inv-loop μ-loop
-add-differ-2 c = search needs
+print-sum-requires : tie.Need-print-sum-requires Inv-loop μ-loop
+print-sum-requires c κs = search needs
 
 returns : tie.Need-returns Inv-loop μ-loop
 returns c = search needs
-
-returns-2 : tie.Need-returns-2 Inv-loop μ-loop
-returns-2 c = search needs
 
 pub run-rows-spec : {M : Type 1} → statement M
 run-rows-spec =
@@ -77,8 +74,7 @@ run-rows-spec =
     add-at
     loop-less
     loop-again
-    add-rows-2
-    malformed-requires
-    add-differ-2
-    returns
-    returns-2)
+    add-print-sum
+    add-print-sum-2
+    print-sum-requires
+    returns)

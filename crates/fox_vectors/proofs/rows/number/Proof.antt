@@ -1,4 +1,4 @@
--- `rows::number` is safe and ends: below nine digits the number grows by one more digit and still fits. The measure is what is left of the text.
+-- `rows::number` is safe and ends: eight digits and one more fit. The measure is what is left of the row.
 -- Assumes nothing.
 use Prim.Native.Nat.{_≤_, _-_}
 use borrow.Author.Needs.{needs}
@@ -7,25 +7,28 @@ use Rattle.fox_vectors.proofs.rows.number.Statement.{statement}
 use Rattle.fox_vectors.proofs.rows.number.Tie as tie
 
 abbrev Inv-loop : tie.InvT-loop
-Inv-loop s value₀ i₀ value i = (i ≤ length s) × (value ≤ 1000000006)
+Inv-loop row k value₀ i₀ value i = i ≤ length row
 
 abbrev μ-loop : tie.MeasureT-loop
-μ-loop s value₀ i₀ value i = length s - i
+μ-loop row k value₀ i₀ value i = length row - i
+
+start-of-requires : tie.Need-start-of-requires Inv-loop μ-loop
+start-of-requires c κs = search needs
 
 loop-holds : tie.Need-loop-holds Inv-loop μ-loop
 loop-holds c = search needs
-
-returns : tie.Need-returns Inv-loop μ-loop
-returns c = search needs
-
-mul-value : tie.Need-mul-value Inv-loop μ-loop
-mul-value c = search needs
 
 shared-slice-read-digit : tie.Need-shared-slice-read-digit Inv-loop μ-loop
 shared-slice-read-digit c = search needs
 
 digit-requires : tie.Need-digit-requires Inv-loop μ-loop
 digit-requires c κs = search needs
+
+returns : tie.Need-returns Inv-loop μ-loop
+returns c = search needs
+
+mul-value : tie.Need-mul-value Inv-loop μ-loop
+mul-value c = search needs
 
 cast-value : tie.Need-cast-value Inv-loop μ-loop
 cast-value c = search needs
@@ -51,11 +54,12 @@ number-spec =
     (tie.spec
     Inv-loop
     μ-loop
+    start-of-requires
     loop-holds
-    returns
-    mul-value
     shared-slice-read-digit
     digit-requires
+    returns
+    mul-value
     cast-value
     add-value
     add-i

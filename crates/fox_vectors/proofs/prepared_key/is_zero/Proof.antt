@@ -1,16 +1,16 @@
--- `ways::is_zero` is safe and ends: the measure is the number of words left.
+-- `prepared_key::is_zero` is safe and ends: the measure is the number of words left.
 -- Assumes nothing.
 use Prim.Native.Nat.{_≤_, _-_}
 use borrow.Author.Needs.{needs}
 use lib.ListN.{length}
-use Rattle.fox_vectors.proofs.ways.is_zero.Statement.{statement}
-use Rattle.fox_vectors.proofs.ways.is_zero.Tie as tie
+use Rattle.fox_vectors.proofs.prepared_key.is_zero.Statement.{statement}
+use Rattle.fox_vectors.proofs.prepared_key.is_zero.Tie as tie
 
 abbrev Inv-loop : tie.InvT-loop
-Inv-loop words i₀ i = i ≤ length words
+Inv-loop words from i₀ i = from ≤ i
 
 abbrev μ-loop : tie.MeasureT-loop
-μ-loop words i₀ i = length words - i
+μ-loop words from i₀ i = length words - i
 
 loop-holds : tie.Need-loop-holds Inv-loop μ-loop
 loop-holds c = search needs

@@ -1,16 +1,16 @@
--- `ways::is_painted` is safe and ends: the measure is what is left of the output.
+-- `rows::is_all` is safe and ends: the measure is what is left of the output.
 -- Assumes nothing.
 use Prim.Native.Nat.{_≤_, _-_}
 use borrow.Author.Needs.{needs}
 use lib.ListN.{length}
-use Rattle.fox_vectors.proofs.ways.is_painted.Statement.{statement}
-use Rattle.fox_vectors.proofs.ways.is_painted.Tie as tie
+use Rattle.fox_vectors.proofs.rows.is_all.Statement.{statement}
+use Rattle.fox_vectors.proofs.rows.is_all.Tie as tie
 
 abbrev Inv-loop : tie.InvT-loop
-Inv-loop out i₀ i = i ≤ length out
+Inv-loop out b i₀ i = i ≤ length out
 
 abbrev μ-loop : tie.MeasureT-loop
-μ-loop out i₀ i = length out - i
+μ-loop out b i₀ i = length out - i
 
 loop-holds : tie.Need-loop-holds Inv-loop μ-loop
 loop-holds c = search needs
@@ -33,8 +33,8 @@ loop-again c = search needs
 returns-2 : tie.Need-returns-2 Inv-loop μ-loop
 returns-2 c = search needs
 
-pub is-painted-spec : {M : Type 1} → statement M
-is-painted-spec =
+pub is-all-spec : {M : Type 1} → statement M
+is-all-spec =
     tie.close
     (tie.spec
     Inv-loop
