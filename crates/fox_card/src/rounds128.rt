@@ -1,5 +1,5 @@
-// FOX128 by the card's way: no list of round keys and no table above 16 entries. Sealing steps the register forward from its seed; opening steps
-// it back from where the last round key stands.
+// FOX128 by the card's way: each round key is made when its round comes. Sealing steps the register forward from its seed; opening steps it back from
+// where the last round key stands.
 ghost use mathlib.Core.Path.{_≡_};
 ghost use Prim.Native.Nat.{_≤_, _<_, _^_};
 ghost use Rattle.fox_rounds.specs.Rounds.{elmid128};

@@ -31,7 +31,8 @@ bytes64 x = split 4 (x .l) ++ split 4 (x .r)
 unfoldable pub bytes128 : Fox128 → List ℕ
 bytes128 x = split 4 (x .ll) ++ split 4 (x .lr) ++ split 4 (x .rl) ++ split 4 (x .rr)
 
--- a block sealed and opened by the round keys of a list, for cipher 64 and else for cipher 128
+-- a block sealed and opened by the round keys of a list, for cipher 64 and else for cipher 128. What cipher 128 gives stands in a let, which the prover
+-- computes only where it is taken
 unfoldable pub sealWith : ℕ → List ℕ → List ℕ → List ℕ
 sealWith cipher rks block =
     let other = bytes128 (seal128 rks (state128 block)) in

@@ -1,5 +1,5 @@
-// The round-key step: the one operation that makes a round key, on which the card's way, the server's way and the prepared key rest. A schedule is
-// the mixed key with what the non-linear part wants to know of the key's length (001 §2.3.1 to §2.3.4).
+// The round-key step, one for each cipher: whatever needs a round key, the card's way or a prepared key, has it from here. A schedule is the mixed key
+// with what the non-linear part wants to know of the key's length (001 §2.3.1 to §2.3.4).
 ghost use mathlib.Core.Path.{_≡_};
 ghost use Prim.Native.Nat.{_+_, _*_, _^_, _<_, _≤_};
 ghost use lib.ListN.{length};
