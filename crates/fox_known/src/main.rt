@@ -3,10 +3,9 @@
 ghost use Prim.Native.Nat.{_≤_};
 use fox_layers::diffusion;
 use fox_layers::small_boxes;
-use fox_layers::tables;
-use fox_layers::tables::joined4;
-use fox_layers::tables::joined8;
-use fox_layers::tables::whole_box;
+use fox_tables::joined4;
+use fox_tables::joined8;
+use fox_tables::whole_box;
 
 const WORDS: u32 = 4096;
 
@@ -56,10 +55,10 @@ fn same4<'a>(
     ensures { λ r. ⌜ r ≤ 1 ⌝ }
 {
     let x = small_boxes::sigma4(w);
-    if x != tables::sigma4(s, w) {
+    if x != fox_tables::sigma4(s, w) {
         return 0;
     }
-    if diffusion::mu4(x) != tables::sigma_mu4(a, b, c, d, w) {
+    if diffusion::mu4(x) != fox_tables::sigma_mu4(a, b, c, d, w) {
         return 0;
     }
     1
@@ -93,10 +92,10 @@ fn same8<'a>(
     ensures { λ r. ⌜ r ≤ 1 ⌝ }
 {
     let x = small_boxes::sigma8(w);
-    if x != tables::sigma8(s, w) {
+    if x != fox_tables::sigma8(s, w) {
         return 0;
     }
-    if diffusion::mu8(x) != tables::sigma_mu8(a, b, c, d, e, f, g, h, w) {
+    if diffusion::mu8(x) != fox_tables::sigma_mu8(a, b, c, d, e, f, g, h, w) {
         return 0;
     }
     1

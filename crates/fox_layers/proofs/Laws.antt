@@ -5,4 +5,3 @@ pub mod Bytewise
 pub mod Field
 pub mod Matrix
 pub mod Tables
-pub mod Quick

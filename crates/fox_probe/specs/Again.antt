@@ -2,7 +2,8 @@
 -- Assumes nothing.
 use Prim.Native.Nat.{ℕ}
 use mathlib.Core.List.{List}
-use Rattle.fox_rounds.specs.Skeleton.{numbered, seal64, seal128, held64, held128}
+use Rattle.fox_rounds.specs.Skeleton.{numbered, seal64, seal128}
+use Rattle.fox_lent.specs.Held.{held64, held128}
 use Rattle.fox_rounds.specs.declared.fox64.Fox64.{Fox64}
 use Rattle.fox_rounds.specs.declared.fox128.Fox128.{Fox128}
 use Rattle.fox_keying.specs.Register.{times}

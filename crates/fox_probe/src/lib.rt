@@ -10,14 +10,13 @@ ghost use Rattle.fox_cipher.specs.Block.{sealBlock, openBlock};
 ghost use Rattle.fox_probe.specs.Again.{again64, again128};
 ghost use Rattle.fox_probe.specs.Handed.{Handed};
 use fox_card::block;
-use fox_layers::tables;
-use fox_layers::tables::joined4;
-use fox_layers::tables::joined8;
-use fox_layers::tables::whole_box;
+use fox_lent::lent64;
+use fox_lent::lent128;
 use fox_rounds::fox64::Fox64;
 use fox_rounds::fox128::Fox128;
-use fox_rounds::lent64;
-use fox_rounds::lent128;
+use fox_tables::joined4;
+use fox_tables::joined8;
+use fox_tables::whole_box;
 
 #[no_mangle]
 pub extern "C" fn fox_probe_sigma_mu4<'a>(
@@ -29,7 +28,7 @@ pub extern "C" fn fox_probe_sigma_mu4<'a>(
 ) -> u32
     ensures { λ r. ⌜ r ≡ gathered (now (a .entry) ∷ now (b .entry) ∷ now (c .entry) ∷ now (d .entry) ∷ []) (split 4 w) ⌝ }
 {
-    tables::sigma_mu4(a, b, c, d, w)
+    fox_tables::sigma_mu4(a, b, c, d, w)
 }
 
 #[no_mangle]
@@ -46,7 +45,7 @@ pub extern "C" fn fox_probe_sigma_mu8<'a>(
 ) -> u64
     ensures { λ r. ⌜ r ≡ gathered (now (a .entry) ∷ now (b .entry) ∷ now (c .entry) ∷ now (d .entry) ∷ now (e .entry) ∷ now (f .entry) ∷ now (g .entry) ∷ now (h .entry) ∷ []) (split 8 w) ⌝ }
 {
-    tables::sigma_mu8(a, b, c, d, e, f, g, h, w)
+    fox_tables::sigma_mu8(a, b, c, d, e, f, g, h, w)
 }
 
 fn again64(keys: &[u64; 510], rounds: usize, blocks: u32, x: Fox64) -> Fox64

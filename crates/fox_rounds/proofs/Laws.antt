@@ -2,5 +2,4 @@
 pub mod Halves
 pub mod Rounds
 pub mod Skeleton
-pub mod Lent
 pub mod Undoing

@@ -1,4 +1,3 @@
 -- What the promises and laws of fox_rounds cite: 001's definitions, in its order.
 pub mod Rounds
 pub mod Skeleton
-pub mod Lent

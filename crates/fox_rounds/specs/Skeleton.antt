@@ -1,8 +1,7 @@
 -- The skeleton (001 §2.1): rounds over a list of round keys, with "or" or "io" after every round but the last.
 -- Assumes nothing.
-use Prim.Native.Nat.{ℕ, zero, suc, _+_, _*_, _^_}
+use Prim.Native.Nat.{ℕ, zero, suc}
 use mathlib.Core.List.{List, [], _∷_, reverse}
-use lib.ListN.{getD}
 use Rattle.fox_rounds.specs.Rounds.{lmid64, or64, io64, elmid128, or128, io128}
 use Rattle.fox_rounds.specs.declared.fox64.Fox64.{Fox64}
 use Rattle.fox_rounds.specs.declared.fox128.Fox128.{Fox128}
@@ -31,10 +30,3 @@ seal128 rks x = through elmid128 or128 rks x
 
 unfoldable pub open128 : List ℕ → Fox128 → Fox128
 open128 rks x = through elmid128 io128 (reverse rks) x
-
--- the round key number i, from 0 on, that an array of words of 64 bits holds: one word for FOX64, two for FOX128, the left first
-unfoldable pub held64 : List ℕ → ℕ → ℕ
-held64 ws i = getD ws i 0
-
-unfoldable pub held128 : List ℕ → ℕ → ℕ
-held128 ws i = getD ws (2 * i) 0 * 2 ^ 64 + getD ws (2 * i + 1) 0

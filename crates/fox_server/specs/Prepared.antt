@@ -8,7 +8,8 @@ use mathlib.Core.Bool.{cond}
 use lib.Dec.{eqb}
 use lib.ListN.{length, replicate}
 use Rattle.fox_rounds.specs.Rounds.{left, right}
-use Rattle.fox_rounds.specs.Skeleton.{numbered, held64, held128}
+use Rattle.fox_rounds.specs.Skeleton.{numbered}
+use Rattle.fox_lent.specs.Held.{held64, held128}
 use Rattle.fox_schedule.specs.Schedule.{roundKeys64, roundKeys128}
 use Rattle.fox_calls.specs.Refusals.{refusalOf, blockSize, forKey}
 use Rattle.fox_server.specs.declared.prepared.Prepared.{Prepared}

@@ -3,7 +3,8 @@
 ghost use mathlib.Core.Path.{_≡_};
 ghost use Prim.Native.Nat.{_≤_};
 ghost use lib.ListN.{length};
-ghost use Rattle.fox_rounds.specs.Skeleton.{numbered, seal64, open64, seal128, open128, held64, held128};
+ghost use Rattle.fox_rounds.specs.Skeleton.{numbered, seal64, open64, seal128, open128};
+ghost use Rattle.fox_lent.specs.Held.{held64, held128};
 ghost use Rattle.fox_cipher.specs.Block.{state64, state128, bytes64, bytes128};
 ghost use Rattle.fox_cipher.specs.Calls.{Seals, Opens, SealsWith, OpensWith};
 ghost use Rattle.fox_server.specs.Prepared.{heldKeys};
@@ -15,11 +16,11 @@ use fox_cipher::blocks::read64;
 use fox_cipher::blocks::read128;
 use fox_cipher::blocks::write64;
 use fox_cipher::blocks::write128;
-use fox_layers::tables::joined4;
-use fox_layers::tables::joined8;
-use fox_layers::tables::whole_box;
-use fox_rounds::lent64;
-use fox_rounds::lent128;
+use fox_lent::lent64;
+use fox_lent::lent128;
+use fox_tables::joined4;
+use fox_tables::joined8;
+use fox_tables::whole_box;
 
 fn seal64_block(keys: &[u64; 510], rounds: usize, block: &[u8], out: &mut [u8])
     requires { ⌜ (1 ≤ rounds) × (rounds ≤ 255) × (length (now block) ≡ 8) × (length (now out) ≡ 8) ⌝ }

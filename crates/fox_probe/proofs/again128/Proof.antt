@@ -4,7 +4,8 @@ use borrow.Author.Needs.{needs}
 use mathlib.Core.Path.{_≡_, refl, sym, ap, _∙_}
 use Prim.Native.Nat.{ℕ, _-_, _≤_}
 use native.Mathlib.Omega.{arith}
-use Rattle.fox_rounds.specs.Skeleton.{numbered, seal128, held128}
+use Rattle.fox_rounds.specs.Skeleton.{numbered, seal128}
+use Rattle.fox_lent.specs.Held.{held128}
 use Rattle.fox_keying.specs.Register.{times}
 use Rattle.fox_keying.proofs.Laws.Register.{times-suc}
 use Rattle.fox_probe.specs.Again.{again128}

@@ -2,7 +2,8 @@
 -- Assumes nothing.
 use borrow.Author.Needs.{needs}
 use mathlib.Core.Path.{ap, _∙_}
-use Rattle.fox_rounds.specs.Skeleton.{numbered, open64, held64}
+use Rattle.fox_rounds.specs.Skeleton.{numbered, open64}
+use Rattle.fox_lent.specs.Held.{held64}
 use Rattle.fox_cipher.specs.Block.{bytes64}
 use Rattle.fox_server.proofs.block.open64_block.Statement.{statement}
 use Rattle.fox_server.proofs.block.open64_block.Tie as tie

@@ -2,7 +2,8 @@
 -- Assumes nothing.
 use borrow.Author.Needs.{needs}
 use mathlib.Core.Path.{ap, _∙_}
-use Rattle.fox_rounds.specs.Skeleton.{numbered, seal128, held128}
+use Rattle.fox_rounds.specs.Skeleton.{numbered, seal128}
+use Rattle.fox_lent.specs.Held.{held128}
 use Rattle.fox_cipher.specs.Block.{bytes128}
 use Rattle.fox_server.proofs.block.seal128_block.Statement.{statement}
 use Rattle.fox_server.proofs.block.seal128_block.Tie as tie

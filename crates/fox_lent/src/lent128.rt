@@ -1,0 +1,126 @@
+// The rounds of FOX128 by the server's way (001 §4.2.2): tables and round keys are lent, so that neither is built or copied here.
+ghost use mathlib.Core.Path.{_≡_};
+ghost use Prim.Native.Nat.{_+_, _*_, _^_, _≤_, _<_};
+ghost use Rattle.fox_rounds.specs.Rounds.{f64, elmid128};
+ghost use Rattle.fox_rounds.specs.Skeleton.{numbered, seal128, open128};
+ghost use Rattle.fox_lent.specs.Held.{held128};
+ghost use Rattle.fox_lent.specs.Lent.{Lent8};
+use fox_rounds::fox128::Fox128;
+use fox_tables::sigma_mu8;
+use fox_tables::sigma8;
+
+pub fn f64<'a>(
+    s: &'a [u8; 256],
+    a: &'a [u64; 256],
+    b: &'a [u64; 256],
+    c: &'a [u64; 256],
+    d: &'a [u64; 256],
+    e: &'a [u64; 256],
+    f: &'a [u64; 256],
+    g: &'a [u64; 256],
+    h: &'a [u64; 256],
+    x: u64,
+    k: u64,
+    l: u64,
+) -> u64
+    requires { ⌜ Lent8 (now s) (now a) (now b) (now c) (now d) (now e) (now f) (now g) (now h) ⌝ }
+    ensures { λ r. ⌜ r ≡ f64 x (k * 2 ^ 64 + l) ⌝ }
+{
+    sigma8(s, sigma_mu8(a, b, c, d, e, f, g, h, x ^ k) ^ l) ^ k
+}
+
+pub fn elmid128<'a>(
+    s: &'a [u8; 256],
+    a: &'a [u64; 256],
+    b: &'a [u64; 256],
+    c: &'a [u64; 256],
+    d: &'a [u64; 256],
+    e: &'a [u64; 256],
+    f: &'a [u64; 256],
+    g: &'a [u64; 256],
+    h: &'a [u64; 256],
+    x: Fox128,
+    k: u64,
+    l: u64,
+) -> Fox128
+    requires { ⌜ Lent8 (now s) (now a) (now b) (now c) (now d) (now e) (now f) (now g) (now h) ⌝ }
+    ensures { λ r. ⌜ r ≡ elmid128 (k * 2 ^ 64 + l) x ⌝ }
+{
+    x.plus(f64(s, a, b, c, d, e, f, g, h, x.sums(), k, l))
+}
+
+// The round of FOX128 with the key number i of those that are lent.
+pub fn elmid128_at<'a>(
+    s: &'a [u8; 256],
+    a: &'a [u64; 256],
+    b: &'a [u64; 256],
+    c: &'a [u64; 256],
+    d: &'a [u64; 256],
+    e: &'a [u64; 256],
+    f: &'a [u64; 256],
+    g: &'a [u64; 256],
+    h: &'a [u64; 256],
+    keys: &[u64; 510],
+    i: usize,
+    x: Fox128,
+) -> Fox128
+    requires { ⌜ Lent8 (now s) (now a) (now b) (now c) (now d) (now e) (now f) (now g) (now h) ⌝ }
+    requires { ⌜ i < 255 ⌝ }
+    ensures { λ r. ⌜ r ≡ elmid128 (held128 (now (keys .entry)) i) x ⌝ }
+{
+    elmid128(s, a, b, c, d, e, f, g, h, x, keys[2 * i], keys[2 * i + 1])
+}
+
+pub fn seal128<'a>(
+    s: &'a [u8; 256],
+    a: &'a [u64; 256],
+    b: &'a [u64; 256],
+    c: &'a [u64; 256],
+    d: &'a [u64; 256],
+    e: &'a [u64; 256],
+    f: &'a [u64; 256],
+    g: &'a [u64; 256],
+    h: &'a [u64; 256],
+    keys: &[u64; 510],
+    rounds: usize,
+    x: Fox128,
+) -> Fox128
+    requires { ⌜ Lent8 (now s) (now a) (now b) (now c) (now d) (now e) (now f) (now g) (now h) ⌝ }
+    requires { ⌜ 1 ≤ rounds ⌝ }
+    requires { ⌜ rounds ≤ 255 ⌝ }
+    ensures { λ r. ⌜ r ≡ seal128 (numbered (held128 (now (keys .entry))) rounds 0) x ⌝ }
+{
+    let last = rounds - 1;
+    let mut y = x;
+    for i in 0..last {
+        y = elmid128_at(s, a, b, c, d, e, f, g, h, keys, i, y).or();
+    }
+    elmid128_at(s, a, b, c, d, e, f, g, h, keys, last, y)
+}
+
+pub fn open128<'a>(
+    s: &'a [u8; 256],
+    a: &'a [u64; 256],
+    b: &'a [u64; 256],
+    c: &'a [u64; 256],
+    d: &'a [u64; 256],
+    e: &'a [u64; 256],
+    f: &'a [u64; 256],
+    g: &'a [u64; 256],
+    h: &'a [u64; 256],
+    keys: &[u64; 510],
+    rounds: usize,
+    x: Fox128,
+) -> Fox128
+    requires { ⌜ Lent8 (now s) (now a) (now b) (now c) (now d) (now e) (now f) (now g) (now h) ⌝ }
+    requires { ⌜ 1 ≤ rounds ⌝ }
+    requires { ⌜ rounds ≤ 255 ⌝ }
+    ensures { λ r. ⌜ r ≡ open128 (numbered (held128 (now (keys .entry))) rounds 0) x ⌝ }
+{
+    let last = rounds - 1;
+    let mut y = x;
+    for j in 0..last {
+        y = elmid128_at(s, a, b, c, d, e, f, g, h, keys, last - j, y).io();
+    }
+    elmid128_at(s, a, b, c, d, e, f, g, h, keys, 0, y)
+}

@@ -1,0 +1,75 @@
+-- The joined tables by doubling and halving. A product worked out as the field defines it takes antt a hundred steps where a doubling takes a
+-- few, and twelve tables want twenty thousand products; so a table is computed in this form, which is the same list.
+-- Assumes nothing.
+use mathlib.Core.Path.{_≡_, refl, sym, ap, ap₂, _∙_, fun-ext}
+use mathlib.Core.Bool.{Bool, true, false, cond}
+use mathlib.Core.List.{List, _∷_, map}
+use Prim.Native.Nat.{ℕ, zero, suc, _+_, _≤_, _<_}
+use native.Mathlib.Omega.{arith}
+use lib.Dec.{eqb}
+use borrow.Author.Tests.{eqb-true}
+use Rattle.fox_layers.specs.Words.{_⊕_, joined}
+use Rattle.fox_layers.specs.Field.{double, halve, product}
+use Rattle.fox_layers.specs.Substitution.{sbox}
+use Rattle.fox_layers.specs.Tables.{listed, table, column, scaled, TBSM}
+use Rattle.fox_layers.proofs.Laws.Field.{product-01, product-02, product-03, product-04, product-7E, product-82, product-FC, product-FD}
+use Rattle.fox_layers.proofs.Laws.Tables.{sbox-lt}
+
+-- the product by m: a case for each coefficient of mu4 and mu8, and the definition for any other number. What a `let` names is worked out
+-- only if it is asked for.
+unfoldable pub quick : ℕ → ℕ → ℕ
+quick m x =
+    let other = product m x in
+    let pFD = halve x ⊕ x in
+    let uptoFD = cond (eqb m 0xFD) pFD other in
+    let pFC = halve x in
+    let uptoFC = cond (eqb m 0xFC) pFC uptoFD in
+    let p82 = halve x ⊕ halve (halve x) in
+    let upto82 = cond (eqb m 0x82) p82 uptoFC in
+    let p7E = halve (halve x) in
+    let upto7E = cond (eqb m 0x7E) p7E upto82 in
+    let p04 = double (double x) in
+    let upto04 = cond (eqb m 0x04) p04 upto7E in
+    let p03 = double x ⊕ x in
+    let upto03 = cond (eqb m 0x03) p03 upto04 in
+    let p02 = double x in
+    let upto02 = cond (eqb m 0x02) p02 upto03 in
+    let p01 = x in
+    cond (eqb m 0x01) p01 upto02
+
+-- one case: where m is k, the product by k will do
+one-case : (m k x y rest : ℕ) → y ≡ product k x → rest ≡ product m x → (t : Bool) → eqb m k ≡ t → cond t y rest ≡ product m x
+one-case m k x y rest here else true e = here ∙ ap (λ (n : ℕ). product n x) (sym (eqb-true m k e))
+one-case m k x y rest here else false e = else
+
+quick-product : (m x : ℕ) → x < 256 → quick m x ≡ product m x
+unfolding quick
+quick-product m x h =
+    one-case m 0x01 x _ _ (sym (product-01 x h))
+    (one-case m 0x02 x _ _ (sym (product-02 x h))
+    (one-case m 0x03 x _ _ (sym (product-03 x h))
+    (one-case m 0x04 x _ _ (sym (product-04 x h))
+    (one-case m 0x7E x _ _ (sym (product-7E x h))
+    (one-case m 0x82 x _ _ (sym (product-82 x h))
+    (one-case m 0xFC x _ _ (sym (product-FC x h))
+    (one-case m 0xFD x _ _ (sym (product-FD x h)) refl (eqb m 0xFD) refl) (eqb m 0xFC) refl) (eqb m 0x82) refl) (eqb m 0x7E) refl) (eqb m 0x04) refl) (eqb m 0x03) refl) (eqb m 0x02) refl) (eqb m 0x01) refl
+
+unfoldable pub quickScaled : List ℕ → ℕ → ℕ
+quickScaled ms x = joined (map (λ (m : ℕ). quick m x) ms)
+
+quick-scaled : (ms : List ℕ) (x : ℕ) → x < 256 → scaled ms x ≡ quickScaled ms x
+unfolding scaled quickScaled
+quick-scaled ms x h = ap (λ (f : ℕ → ℕ). joined (map f ms)) (fun-ext (λ m. sym (quick-product m x h)))
+
+-- tables of functions that agree at every byte are the same list
+listed-same : (f g : ℕ → ℕ) → ((x : ℕ) → x < 256 → f x ≡ g x) → (n i : ℕ) → i + n ≤ 256 → listed f n i ≡ listed g n i
+unfolding listed
+listed-same f g same zero i h = refl
+listed-same f g same (suc n) i h =
+    ap₂ (λ (y : ℕ) (ys : List ℕ). y ∷ ys) (same i (omega arith)) (listed-same f g same n (suc i) (omega arith))
+
+pub joined-quick : (rows : List (List ℕ)) (j : ℕ) → TBSM rows j ≡ table (λ (x : ℕ). quickScaled (column j rows) (sbox x))
+unfolding TBSM table
+joined-quick rows j =
+    listed-same (λ (x : ℕ). scaled (column j rows) (sbox x)) (λ (x : ℕ). quickScaled (column j rows) (sbox x))
+    (λ x h. quick-scaled (column j rows) (sbox x) (sbox-lt x h)) 256 0 (omega arith)
