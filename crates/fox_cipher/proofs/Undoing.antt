@@ -18,50 +18,53 @@ pub record BlockOf (c : ℕ) (block : List ℕ) : Type 0 where
   pub size : length block ≡ blockSize c
   pub bytes : Bytes block
 
+-- a call and the call that undoes it, each by way of states: the state goes there and back, and its bytes are the block's
+there-and-back : {S : Type 0} (there back : List ℕ → List ℕ) (state : List ℕ → S) (bytes : S → List ℕ) (f g : S → S) (block : List ℕ)
+    → ((bs : List ℕ) → there bs ≡ bytes (f (state bs))) → ((bs : List ℕ) → back bs ≡ bytes (g (state bs)))
+    → state (bytes (f (state block))) ≡ f (state block) → g (f (state block)) ≡ state block → bytes (state block) ≡ block → back (there block) ≡ block
+there-and-back there back state bytes f g block et eb kept undone same =
+    ap back (et block)
+    ∙ eb (bytes (f (state block)))
+    ∙ ap (λ y. bytes (g y)) kept
+    ∙ ap bytes undone
+    ∙ same
+
 module _ (c : ℕ) (ks block : List ℕ) (b : BlockOf c block) where
   open-seal-64 : c ≡ 64 → openWith c ks (sealWith c ks block) ≡ block
   open-seal-64 e =
-      let n : length block ≡ 8 = b .size ∙ size-64 c e in
+      let n = b .size ∙ size-64 c e in
       let x = state64 block in
       let w = state64-words block (b .bytes) n in
-      ap (openWith c ks) (sealWith-64 c ks block e)
-      ∙ openWith-64 c ks (bytes64 (seal64 ks x)) e
-      ∙ ap (λ y. bytes64 (open64 ks y)) (state64-bytes64 (seal64 ks x) (seal64-words ks x w))
-      ∙ ap bytes64 (open64-seal64 ks x w)
-      ∙ bytes64-state64 block (b .bytes) n
+      there-and-back (sealWith c ks) (openWith c ks) state64 bytes64 (seal64 ks) (open64 ks) block
+      (λ bs. sealWith-64 c ks bs e) (λ bs. openWith-64 c ks bs e) (state64-bytes64 (seal64 ks x) (seal64-words ks x w))
+      (open64-seal64 ks x w) (bytes64-state64 block (b .bytes) n)
 
   seal-open-64 : c ≡ 64 → sealWith c ks (openWith c ks block) ≡ block
   seal-open-64 e =
-      let n : length block ≡ 8 = b .size ∙ size-64 c e in
+      let n = b .size ∙ size-64 c e in
       let x = state64 block in
       let w = state64-words block (b .bytes) n in
-      ap (sealWith c ks) (openWith-64 c ks block e)
-      ∙ sealWith-64 c ks (bytes64 (open64 ks x)) e
-      ∙ ap (λ y. bytes64 (seal64 ks y)) (state64-bytes64 (open64 ks x) (open64-words ks x w))
-      ∙ ap bytes64 (seal64-open64 ks x w)
-      ∙ bytes64-state64 block (b .bytes) n
+      there-and-back (openWith c ks) (sealWith c ks) state64 bytes64 (open64 ks) (seal64 ks) block
+      (λ bs. openWith-64 c ks bs e) (λ bs. sealWith-64 c ks bs e) (state64-bytes64 (open64 ks x) (open64-words ks x w))
+      (seal64-open64 ks x w) (bytes64-state64 block (b .bytes) n)
 
   open-seal-128 : (c ≡ 64 → ⊥) → openWith c ks (sealWith c ks block) ≡ block
   open-seal-128 e =
-      let n : length block ≡ 16 = b .size ∙ size-128 c e in
+      let n = b .size ∙ size-128 c e in
       let x = state128 block in
       let w = state128-words block (b .bytes) n in
-      ap (openWith c ks) (sealWith-128 c ks block e)
-      ∙ openWith-128 c ks (bytes128 (seal128 ks x)) e
-      ∙ ap (λ y. bytes128 (open128 ks y)) (state128-bytes128 (seal128 ks x) (seal128-words ks x w))
-      ∙ ap bytes128 (open128-seal128 ks x w)
-      ∙ bytes128-state128 block (b .bytes) n
+      there-and-back (sealWith c ks) (openWith c ks) state128 bytes128 (seal128 ks) (open128 ks) block
+      (λ bs. sealWith-128 c ks bs e) (λ bs. openWith-128 c ks bs e) (state128-bytes128 (seal128 ks x) (seal128-words ks x w))
+      (open128-seal128 ks x w) (bytes128-state128 block (b .bytes) n)
 
   seal-open-128 : (c ≡ 64 → ⊥) → sealWith c ks (openWith c ks block) ≡ block
   seal-open-128 e =
-      let n : length block ≡ 16 = b .size ∙ size-128 c e in
+      let n = b .size ∙ size-128 c e in
       let x = state128 block in
       let w = state128-words block (b .bytes) n in
-      ap (sealWith c ks) (openWith-128 c ks block e)
-      ∙ sealWith-128 c ks (bytes128 (open128 ks x)) e
-      ∙ ap (λ y. bytes128 (seal128 ks y)) (state128-bytes128 (open128 ks x) (open128-words ks x w))
-      ∙ ap bytes128 (seal128-open128 ks x w)
-      ∙ bytes128-state128 block (b .bytes) n
+      there-and-back (openWith c ks) (sealWith c ks) state128 bytes128 (open128 ks) (seal128 ks) block
+      (λ bs. openWith-128 c ks bs e) (λ bs. sealWith-128 c ks bs e) (state128-bytes128 (open128 ks x) (open128-words ks x w))
+      (seal128-open128 ks x w) (bytes128-state128 block (b .bytes) n)
 
   -- by the round keys of any list
   pub open-seal-with : openWith c ks (sealWith c ks block) ≡ block

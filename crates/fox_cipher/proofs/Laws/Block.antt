@@ -75,30 +75,33 @@ pub roundKeys-128 : (c r : ℕ) (key : List ℕ) → (c ≡ 64 → ⊥) → roun
 unfolding roundKeys roundKeys128
 roundKeys-128 c r key n = numbered-same (roundKey c r key) (roundKey128 r key) r 1 (λ i h. roundKey-128 c r key i n)
 
-pub sealBlock-64 : {c r n : ℕ} (key bs : List ℕ) → c ≡ 64 → n ≡ r → bytes64 (seal64 (roundKeys64 n key) (state64 bs)) ≡ sealBlock c r key bs
-unfolding sealBlock
-sealBlock-64 {c} {r} {n} key bs e whole =
-    ap (λ (m : ℕ). bytes64 (seal64 (roundKeys64 m key) (state64 bs))) whole
-    ∙ ap (λ (ks : List ℕ). bytes64 (seal64 ks (state64 bs))) (sym (roundKeys-64 c r key e))
-    ∙ sym (sealWith-64 c (roundKeys c r key) bs e)
+-- a call's own words for a block by the round keys of a key, n of them, are the definition's: whole is the definition over any list of round keys, and
+-- one what it is for the cipher at hand
+by-keys : (one whole : List ℕ → List ℕ) {n r : ℕ} (made : ℕ → List ℕ) (keys : List ℕ) → n ≡ r → keys ≡ made r → ((ks : List ℕ) → whole ks ≡ one ks)
+    → one (made n) ≡ whole keys
+by-keys one whole made keys e is same = ap (λ (m : ℕ). one (made m)) e ∙ ap one (sym is) ∙ sym (same keys)
 
-pub sealBlock-128 : {c r n : ℕ} (key bs : List ℕ) → (c ≡ 64 → ⊥) → n ≡ r → bytes128 (seal128 (roundKeys128 n key) (state128 bs)) ≡ sealBlock c r key bs
-unfolding sealBlock
-sealBlock-128 {c} {r} {n} key bs e whole =
-    ap (λ (m : ℕ). bytes128 (seal128 (roundKeys128 m key) (state128 bs))) whole
-    ∙ ap (λ (ks : List ℕ). bytes128 (seal128 ks (state128 bs))) (sym (roundKeys-128 c r key e))
-    ∙ sym (sealWith-128 c (roundKeys c r key) bs e)
+module _ {c r n : ℕ} (key bs : List ℕ) where
+  pub sealBlock-64 : c ≡ 64 → n ≡ r → bytes64 (seal64 (roundKeys64 n key) (state64 bs)) ≡ sealBlock c r key bs
+  unfolding sealBlock
+  sealBlock-64 is e =
+      by-keys (λ (ks : List ℕ). bytes64 (seal64 ks (state64 bs))) (λ (ks : List ℕ). sealWith c ks bs) (λ (m : ℕ). roundKeys64 m key) (roundKeys c r key) e
+      (roundKeys-64 c r key is) (λ ks. sealWith-64 c ks bs is)
 
-pub openBlock-64 : {c r n : ℕ} (key bs : List ℕ) → c ≡ 64 → n ≡ r → bytes64 (open64 (roundKeys64 n key) (state64 bs)) ≡ openBlock c r key bs
-unfolding openBlock
-openBlock-64 {c} {r} {n} key bs e whole =
-    ap (λ (m : ℕ). bytes64 (open64 (roundKeys64 m key) (state64 bs))) whole
-    ∙ ap (λ (ks : List ℕ). bytes64 (open64 ks (state64 bs))) (sym (roundKeys-64 c r key e))
-    ∙ sym (openWith-64 c (roundKeys c r key) bs e)
+  pub sealBlock-128 : (c ≡ 64 → ⊥) → n ≡ r → bytes128 (seal128 (roundKeys128 n key) (state128 bs)) ≡ sealBlock c r key bs
+  unfolding sealBlock
+  sealBlock-128 isnt e =
+      by-keys (λ (ks : List ℕ). bytes128 (seal128 ks (state128 bs))) (λ (ks : List ℕ). sealWith c ks bs) (λ (m : ℕ). roundKeys128 m key) (roundKeys c r key) e
+      (roundKeys-128 c r key isnt) (λ ks. sealWith-128 c ks bs isnt)
 
-pub openBlock-128 : {c r n : ℕ} (key bs : List ℕ) → (c ≡ 64 → ⊥) → n ≡ r → bytes128 (open128 (roundKeys128 n key) (state128 bs)) ≡ openBlock c r key bs
-unfolding openBlock
-openBlock-128 {c} {r} {n} key bs e whole =
-    ap (λ (m : ℕ). bytes128 (open128 (roundKeys128 m key) (state128 bs))) whole
-    ∙ ap (λ (ks : List ℕ). bytes128 (open128 ks (state128 bs))) (sym (roundKeys-128 c r key e))
-    ∙ sym (openWith-128 c (roundKeys c r key) bs e)
+  pub openBlock-64 : c ≡ 64 → n ≡ r → bytes64 (open64 (roundKeys64 n key) (state64 bs)) ≡ openBlock c r key bs
+  unfolding openBlock
+  openBlock-64 is e =
+      by-keys (λ (ks : List ℕ). bytes64 (open64 ks (state64 bs))) (λ (ks : List ℕ). openWith c ks bs) (λ (m : ℕ). roundKeys64 m key) (roundKeys c r key) e
+      (roundKeys-64 c r key is) (λ ks. openWith-64 c ks bs is)
+
+  pub openBlock-128 : (c ≡ 64 → ⊥) → n ≡ r → bytes128 (open128 (roundKeys128 n key) (state128 bs)) ≡ openBlock c r key bs
+  unfolding openBlock
+  openBlock-128 isnt e =
+      by-keys (λ (ks : List ℕ). bytes128 (open128 ks (state128 bs))) (λ (ks : List ℕ). openWith c ks bs) (λ (m : ℕ). roundKeys128 m key) (roundKeys c r key) e
+      (roundKeys-128 c r key isnt) (λ ks. openWith-128 c ks bs isnt)
