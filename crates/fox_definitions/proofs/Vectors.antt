@@ -11,7 +11,7 @@ use Rattle.fox_layers.specs.Diffusion.{dot, times, mu4Rows, mu8Rows, diffused, 
 use Rattle.fox_rounds.specs.Rounds.{left, right, or, io, f, f32, f64, lmid64, or64, plus128, elmid128, or128}
 use Rattle.fox_rounds.specs.Skeleton.{numbered, through, seal64, seal128}
 use Rattle.fox_keying.specs.Padding.{pad, padded, mixed, mkey}
-use Rattle.fox_keying.specs.Register.{seed, clocked, times as again, LFSR, stream, groups, dkey}
+use Rattle.fox_keying.specs.Register.{seed, clocked, iterate, LFSR, stream, groups, dkey}
 use Rattle.fox_nonlinear.specs.Nonlinear.{words, mix64, mix128, mix64h, flipped, layers, number64, number128, NL64, NL64h, parts128, NL128}
 use Rattle.fox_schedule.specs.Schedule.{ek64, ek128, key64, key128, roundKey64, roundKey128}
 use Rattle.fox_cipher.specs.Block.{state64, state128, bytes64, bytes128, sealWith, roundKey, roundKeys, sealBlock}
@@ -27,35 +27,35 @@ unfoldable pub plain128 : List ℕ
 plain128 = 0x01 ∷ 0x23 ∷ 0x45 ∷ 0x67 ∷ 0x89 ∷ 0xAB ∷ 0xCD ∷ 0xEF ∷ 0xFE ∷ 0xDC ∷ 0xBA ∷ 0x98 ∷ 0x76 ∷ 0x54 ∷ 0x32 ∷ 0x10 ∷ []
 
 sealed64-8 : sealBlock 64 16 (take 8 key) plain64 ≡ 0x20 ∷ 0x0E ∷ 0x1F ∷ 0x58 ∷ 0x47 ∷ 0xD8 ∷ 0xA2 ∷ 0xCE ∷ []
-unfolding key plain64 plain128 joined split sum summed polynomial rest product S₁ S₂ S₃ halves whole or4 lmid4 lmor4 sbox sigma dot times mu4Rows mu8Rows diffused mu4 mu8 left right or io f f32 f64 lmid64 or64 plus128 elmid128 or128 numbered through seal64 seal128 pad padded mixed mkey seed clocked again LFSR stream groups dkey words mix64 mix128 mix64h flipped layers number64 number128 NL64 NL64h parts128 NL128 ek64 ek128 key64 key128 roundKey64 roundKey128 state64 state128 bytes64 bytes128 sealWith roundKey roundKeys sealBlock
+unfolding key plain64 plain128 joined split sum summed polynomial rest product S₁ S₂ S₃ halves whole or4 lmid4 lmor4 sbox sigma dot times mu4Rows mu8Rows diffused mu4 mu8 left right or io f f32 f64 lmid64 or64 plus128 elmid128 or128 numbered through seal64 seal128 pad padded mixed mkey seed clocked iterate LFSR stream groups dkey words mix64 mix128 mix64h flipped layers number64 number128 NL64 NL64h parts128 NL128 ek64 ek128 key64 key128 roundKey64 roundKey128 state64 state128 bytes64 bytes128 sealWith roundKey roundKeys sealBlock
 sealed64-8 = refl
 
 sealed64-16 : sealBlock 64 16 (take 16 key) plain64 ≡ 0xB8 ∷ 0x5D ∷ 0x6B ∷ 0x76 ∷ 0x6D ∷ 0xCE ∷ 0x95 ∷ 0x2E ∷ []
-unfolding key plain64 plain128 joined split sum summed polynomial rest product S₁ S₂ S₃ halves whole or4 lmid4 lmor4 sbox sigma dot times mu4Rows mu8Rows diffused mu4 mu8 left right or io f f32 f64 lmid64 or64 plus128 elmid128 or128 numbered through seal64 seal128 pad padded mixed mkey seed clocked again LFSR stream groups dkey words mix64 mix128 mix64h flipped layers number64 number128 NL64 NL64h parts128 NL128 ek64 ek128 key64 key128 roundKey64 roundKey128 state64 state128 bytes64 bytes128 sealWith roundKey roundKeys sealBlock
+unfolding key plain64 plain128 joined split sum summed polynomial rest product S₁ S₂ S₃ halves whole or4 lmid4 lmor4 sbox sigma dot times mu4Rows mu8Rows diffused mu4 mu8 left right or io f f32 f64 lmid64 or64 plus128 elmid128 or128 numbered through seal64 seal128 pad padded mixed mkey seed clocked iterate LFSR stream groups dkey words mix64 mix128 mix64h flipped layers number64 number128 NL64 NL64h parts128 NL128 ek64 ek128 key64 key128 roundKey64 roundKey128 state64 state128 bytes64 bytes128 sealWith roundKey roundKeys sealBlock
 sealed64-16 = refl
 
 sealed64-24 : sealBlock 64 16 (take 24 key) plain64 ≡ 0x27 ∷ 0x41 ∷ 0xD7 ∷ 0x96 ∷ 0x34 ∷ 0x06 ∷ 0xDA ∷ 0xCA ∷ []
-unfolding key plain64 plain128 joined split sum summed polynomial rest product S₁ S₂ S₃ halves whole or4 lmid4 lmor4 sbox sigma dot times mu4Rows mu8Rows diffused mu4 mu8 left right or io f f32 f64 lmid64 or64 plus128 elmid128 or128 numbered through seal64 seal128 pad padded mixed mkey seed clocked again LFSR stream groups dkey words mix64 mix128 mix64h flipped layers number64 number128 NL64 NL64h parts128 NL128 ek64 ek128 key64 key128 roundKey64 roundKey128 state64 state128 bytes64 bytes128 sealWith roundKey roundKeys sealBlock
+unfolding key plain64 plain128 joined split sum summed polynomial rest product S₁ S₂ S₃ halves whole or4 lmid4 lmor4 sbox sigma dot times mu4Rows mu8Rows diffused mu4 mu8 left right or io f f32 f64 lmid64 or64 plus128 elmid128 or128 numbered through seal64 seal128 pad padded mixed mkey seed clocked iterate LFSR stream groups dkey words mix64 mix128 mix64h flipped layers number64 number128 NL64 NL64h parts128 NL128 ek64 ek128 key64 key128 roundKey64 roundKey128 state64 state128 bytes64 bytes128 sealWith roundKey roundKeys sealBlock
 sealed64-24 = refl
 
 sealed64-32 : sealBlock 64 16 (take 32 key) plain64 ≡ 0x8A ∷ 0x4E ∷ 0xDF ∷ 0xBC ∷ 0x36 ∷ 0xBE ∷ 0xF7 ∷ 0xF6 ∷ []
-unfolding key plain64 plain128 joined split sum summed polynomial rest product S₁ S₂ S₃ halves whole or4 lmid4 lmor4 sbox sigma dot times mu4Rows mu8Rows diffused mu4 mu8 left right or io f f32 f64 lmid64 or64 plus128 elmid128 or128 numbered through seal64 seal128 pad padded mixed mkey seed clocked again LFSR stream groups dkey words mix64 mix128 mix64h flipped layers number64 number128 NL64 NL64h parts128 NL128 ek64 ek128 key64 key128 roundKey64 roundKey128 state64 state128 bytes64 bytes128 sealWith roundKey roundKeys sealBlock
+unfolding key plain64 plain128 joined split sum summed polynomial rest product S₁ S₂ S₃ halves whole or4 lmid4 lmor4 sbox sigma dot times mu4Rows mu8Rows diffused mu4 mu8 left right or io f f32 f64 lmid64 or64 plus128 elmid128 or128 numbered through seal64 seal128 pad padded mixed mkey seed clocked iterate LFSR stream groups dkey words mix64 mix128 mix64h flipped layers number64 number128 NL64 NL64h parts128 NL128 ek64 ek128 key64 key128 roundKey64 roundKey128 state64 state128 bytes64 bytes128 sealWith roundKey roundKeys sealBlock
 sealed64-32 = refl
 
 sealed128-8 : sealBlock 128 16 (take 8 key) plain128 ≡ 0x1E ∷ 0xEC ∷ 0xBC ∷ 0x7D ∷ 0xEB ∷ 0x66 ∷ 0xE7 ∷ 0xDA ∷ 0xE1 ∷ 0xA7 ∷ 0x87 ∷ 0x6D ∷ 0x90 ∷ 0xC0 ∷ 0xB2 ∷ 0x39 ∷ []
-unfolding key plain64 plain128 joined split sum summed polynomial rest product S₁ S₂ S₃ halves whole or4 lmid4 lmor4 sbox sigma dot times mu4Rows mu8Rows diffused mu4 mu8 left right or io f f32 f64 lmid64 or64 plus128 elmid128 or128 numbered through seal64 seal128 pad padded mixed mkey seed clocked again LFSR stream groups dkey words mix64 mix128 mix64h flipped layers number64 number128 NL64 NL64h parts128 NL128 ek64 ek128 key64 key128 roundKey64 roundKey128 state64 state128 bytes64 bytes128 sealWith roundKey roundKeys sealBlock
+unfolding key plain64 plain128 joined split sum summed polynomial rest product S₁ S₂ S₃ halves whole or4 lmid4 lmor4 sbox sigma dot times mu4Rows mu8Rows diffused mu4 mu8 left right or io f f32 f64 lmid64 or64 plus128 elmid128 or128 numbered through seal64 seal128 pad padded mixed mkey seed clocked iterate LFSR stream groups dkey words mix64 mix128 mix64h flipped layers number64 number128 NL64 NL64h parts128 NL128 ek64 ek128 key64 key128 roundKey64 roundKey128 state64 state128 bytes64 bytes128 sealWith roundKey roundKeys sealBlock
 sealed128-8 = refl
 
 sealed128-16 : sealBlock 128 16 (take 16 key) plain128 ≡ 0x84 ∷ 0x9E ∷ 0x0F ∷ 0x06 ∷ 0x82 ∷ 0xF5 ∷ 0x0C ∷ 0xD5 ∷ 0x88 ∷ 0xAE ∷ 0x07 ∷ 0x30 ∷ 0x06 ∷ 0xA1 ∷ 0x0B ∷ 0xEE ∷ []
-unfolding key plain64 plain128 joined split sum summed polynomial rest product S₁ S₂ S₃ halves whole or4 lmid4 lmor4 sbox sigma dot times mu4Rows mu8Rows diffused mu4 mu8 left right or io f f32 f64 lmid64 or64 plus128 elmid128 or128 numbered through seal64 seal128 pad padded mixed mkey seed clocked again LFSR stream groups dkey words mix64 mix128 mix64h flipped layers number64 number128 NL64 NL64h parts128 NL128 ek64 ek128 key64 key128 roundKey64 roundKey128 state64 state128 bytes64 bytes128 sealWith roundKey roundKeys sealBlock
+unfolding key plain64 plain128 joined split sum summed polynomial rest product S₁ S₂ S₃ halves whole or4 lmid4 lmor4 sbox sigma dot times mu4Rows mu8Rows diffused mu4 mu8 left right or io f f32 f64 lmid64 or64 plus128 elmid128 or128 numbered through seal64 seal128 pad padded mixed mkey seed clocked iterate LFSR stream groups dkey words mix64 mix128 mix64h flipped layers number64 number128 NL64 NL64h parts128 NL128 ek64 ek128 key64 key128 roundKey64 roundKey128 state64 state128 bytes64 bytes128 sealWith roundKey roundKeys sealBlock
 sealed128-16 = refl
 
 sealed128-24 : sealBlock 128 16 (take 24 key) plain128 ≡ 0x59 ∷ 0x34 ∷ 0x21 ∷ 0x4E ∷ 0xCB ∷ 0xA2 ∷ 0xD5 ∷ 0xFD ∷ 0x58 ∷ 0xC2 ∷ 0x61 ∷ 0xB2 ∷ 0x82 ∷ 0x61 ∷ 0xB1 ∷ 0xBC ∷ []
-unfolding key plain64 plain128 joined split sum summed polynomial rest product S₁ S₂ S₃ halves whole or4 lmid4 lmor4 sbox sigma dot times mu4Rows mu8Rows diffused mu4 mu8 left right or io f f32 f64 lmid64 or64 plus128 elmid128 or128 numbered through seal64 seal128 pad padded mixed mkey seed clocked again LFSR stream groups dkey words mix64 mix128 mix64h flipped layers number64 number128 NL64 NL64h parts128 NL128 ek64 ek128 key64 key128 roundKey64 roundKey128 state64 state128 bytes64 bytes128 sealWith roundKey roundKeys sealBlock
+unfolding key plain64 plain128 joined split sum summed polynomial rest product S₁ S₂ S₃ halves whole or4 lmid4 lmor4 sbox sigma dot times mu4Rows mu8Rows diffused mu4 mu8 left right or io f f32 f64 lmid64 or64 plus128 elmid128 or128 numbered through seal64 seal128 pad padded mixed mkey seed clocked iterate LFSR stream groups dkey words mix64 mix128 mix64h flipped layers number64 number128 NL64 NL64h parts128 NL128 ek64 ek128 key64 key128 roundKey64 roundKey128 state64 state128 bytes64 bytes128 sealWith roundKey roundKeys sealBlock
 sealed128-24 = refl
 
 sealed128-32 : sealBlock 128 16 (take 32 key) plain128 ≡ 0x45 ∷ 0xCC ∷ 0xB1 ∷ 0x03 ∷ 0x0F ∷ 0x67 ∷ 0xB7 ∷ 0x68 ∷ 0x24 ∷ 0x7F ∷ 0x53 ∷ 0x02 ∷ 0x66 ∷ 0xBC ∷ 0x49 ∷ 0x96 ∷ []
-unfolding key plain64 plain128 joined split sum summed polynomial rest product S₁ S₂ S₃ halves whole or4 lmid4 lmor4 sbox sigma dot times mu4Rows mu8Rows diffused mu4 mu8 left right or io f f32 f64 lmid64 or64 plus128 elmid128 or128 numbered through seal64 seal128 pad padded mixed mkey seed clocked again LFSR stream groups dkey words mix64 mix128 mix64h flipped layers number64 number128 NL64 NL64h parts128 NL128 ek64 ek128 key64 key128 roundKey64 roundKey128 state64 state128 bytes64 bytes128 sealWith roundKey roundKeys sealBlock
+unfolding key plain64 plain128 joined split sum summed polynomial rest product S₁ S₂ S₃ halves whole or4 lmid4 lmor4 sbox sigma dot times mu4Rows mu8Rows diffused mu4 mu8 left right or io f f32 f64 lmid64 or64 plus128 elmid128 or128 numbered through seal64 seal128 pad padded mixed mkey seed clocked iterate LFSR stream groups dkey words mix64 mix128 mix64h flipped layers number64 number128 NL64 NL64h parts128 NL128 ek64 ek128 key64 key128 roundKey64 roundKey128 state64 state128 bytes64 bytes128 sealWith roundKey roundKeys sealBlock
 sealed128-32 = refl
 
 pub vectors : sealBlock 64 16 (take 8 key) plain64

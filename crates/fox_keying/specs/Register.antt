@@ -19,13 +19,13 @@ clocked reg = let over = (reg * 2 - 2 ^ 24) ⊕ 0x1B in cond (ltb reg (2 ^ 23)) 
 unfoldable pub clockedBack : ℕ → ℕ
 clockedBack reg = let under = reg / 2 ⊕ 0x80000D in cond (eqb (reg % 2) 0) (reg / 2) under
 
-unfoldable pub times : {A : Type 0} → ℕ → (A → A) → A → A
-times zero f x = x
-times (suc n) f x = f (times n f x)
+unfoldable pub iterate : {A : Type 0} → ℕ → (A → A) → A → A
+iterate zero f x = x
+iterate (suc n) f x = f (iterate n f x)
 
 -- §2.3.9: LFSR (c, r)
 unfoldable pub LFSR : ℕ → ℕ → ℕ
-LFSR c r = times c clocked (seed r)
+LFSR c r = iterate c clocked (seed r)
 
 -- the bytes of n register values in a row, three each
 unfoldable pub stream : ℕ → ℕ → List ℕ

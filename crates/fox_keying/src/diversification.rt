@@ -5,7 +5,7 @@ ghost use mathlib.Core.List.{_++_};
 ghost use Prim.Native.Nat.{_<_, _^_};
 ghost use lib.ListN.{take, drop};
 ghost use Rattle.fox_layers.specs.Words.{split};
-ghost use Rattle.fox_keying.specs.Register.{clocked, times, stream, dkey};
+ghost use Rattle.fox_keying.specs.Register.{clocked, iterate, stream, dkey};
 ghost use Rattle.fox_keying.specs.Held.{bytes16, bytes32};
 use crate::held::Key16;
 use crate::held::Key32;
@@ -47,7 +47,7 @@ struct Sixteen {
 
 fn front(reg: u32) -> Sixteen
     requires { ⌜ reg < 2 ^ 24 ⌝ }
-    ensures { λ r. ⌜ ((split 8 (r .a) ++ split 8 (r .b)) ++ drop 1 (split 3 (r .last)) ≡ stream 6 reg) × (r .last ≡ times 5 clocked reg) × (r .last < 2 ^ 24) ⌝ }
+    ensures { λ r. ⌜ ((split 8 (r .a) ++ split 8 (r .b)) ++ drop 1 (split 3 (r .last)) ≡ stream 6 reg) × (r .last ≡ iterate 5 clocked reg) × (r .last < 2 ^ 24) ⌝ }
 {
     let r1 = clocked(reg);
     let r2 = clocked(r1);
@@ -62,7 +62,7 @@ fn front(reg: u32) -> Sixteen
 // The sixteen bytes after those. Of the last register value the third byte is not used.
 fn rest(last: u32) -> Key16
     requires { ⌜ last < 2 ^ 24 ⌝ }
-    ensures { λ r. ⌜ bytes16 r ++ drop 2 (split 3 (times 5 clocked last)) ≡ drop 1 (stream 6 last) ⌝ }
+    ensures { λ r. ⌜ bytes16 r ++ drop 2 (split 3 (iterate 5 clocked last)) ≡ drop 1 (stream 6 last) ⌝ }
 {
     let r6 = clocked(last);
     let r7 = clocked(r6);

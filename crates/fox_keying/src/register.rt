@@ -1,7 +1,7 @@
 // The register of 24 bits (001 §2.3.9): what it holds at first, and its steps forward and back.
 ghost use mathlib.Core.Path.{_≡_};
 ghost use Prim.Native.Nat.{_<_, _^_};
-ghost use Rattle.fox_keying.specs.Register.{seed, clocked, clockedBack, times};
+ghost use Rattle.fox_keying.specs.Register.{seed, clocked, clockedBack, iterate};
 use fox_layers::words::join4;
 
 // What the register holds at first.
@@ -37,7 +37,7 @@ pub fn clocked_back(reg: u32) -> u32
 
 pub fn forward(reg: u32, steps: u32) -> u32
     requires { ⌜ reg < 2 ^ 24 ⌝ }
-    ensures { λ r. ⌜ (r ≡ times steps clocked reg) × (r < 2 ^ 24) ⌝ }
+    ensures { λ r. ⌜ (r ≡ iterate steps clocked reg) × (r < 2 ^ 24) ⌝ }
 {
     let mut now = reg;
     for done in 0..steps {
@@ -48,7 +48,7 @@ pub fn forward(reg: u32, steps: u32) -> u32
 
 pub fn back(reg: u32, steps: u32) -> u32
     requires { ⌜ reg < 2 ^ 24 ⌝ }
-    ensures { λ r. ⌜ (r ≡ times steps clockedBack reg) × (r < 2 ^ 24) ⌝ }
+    ensures { λ r. ⌜ (r ≡ iterate steps clockedBack reg) × (r < 2 ^ 24) ⌝ }
 {
     let mut now = reg;
     for undone in 0..steps {

@@ -11,7 +11,7 @@ use lib.Bits.{xor-shr, xor-mod, xor-comm, xor-lt, xor-shifted}
 use borrow.Author.Tests.{ltb-true, ltb-false, eqb-true, eqb-false, lt-ltb, le-ltb, eq-eqb, ne-eqb}
 use Rattle.fox_layers.specs.Words.{_⊕_, joined}
 use Rattle.fox_layers.proofs.Laws.Xor.{xor-assoc}
-use Rattle.fox_keying.specs.Register.{seed, clocked, clockedBack, times, LFSR}
+use Rattle.fox_keying.specs.Register.{seed, clocked, clockedBack, iterate, LFSR}
 
 -- the four branches of the two steps
 pub clocked-below : (x : ℕ) → x < 2 ^ 23 → clocked x ≡ x * 2
@@ -93,37 +93,37 @@ pub back-clocked : (x : ℕ) → x < 2 ^ 24 → clockedBack (clocked x) ≡ x
 back-clocked x h = back-cases x h (ltb x (2 ^ 23)) refl
 
 -- one step more, taken last or first
-pub times-suc : {A : Type 0} (n : ℕ) (f : A → A) (x : A) → times (n + 1) f x ≡ f (times n f x)
-unfolding times
-times-suc n f x = rw add-one
+pub iterate-suc : {A : Type 0} (n : ℕ) (f : A → A) (x : A) → iterate (n + 1) f x ≡ f (iterate n f x)
+unfolding iterate
+iterate-suc n f x = rw add-one
 
-pub times-first : {A : Type 0} (n : ℕ) (f : A → A) (x : A) → times n f (f x) ≡ f (times n f x)
-unfolding times
-times-first zero f x = refl
-times-first (suc n) f x = ap f (times-first n f x)
+pub iterate-first : {A : Type 0} (n : ℕ) (f : A → A) (x : A) → iterate n f (f x) ≡ f (iterate n f x)
+unfolding iterate
+iterate-first zero f x = refl
+iterate-first (suc n) f x = ap f (iterate-first n f x)
 
-pub times-add : {A : Type 0} (m n : ℕ) (f : A → A) (x : A) → times (m + n) f x ≡ times m f (times n f x)
-unfolding times
-times-add zero n f x = rw zero-add
-times-add (suc m) n f x = rw suc-add (ap f (times-add m n f x))
+pub iterate-add : {A : Type 0} (m n : ℕ) (f : A → A) (x : A) → iterate (m + n) f x ≡ iterate m f (iterate n f x)
+unfolding iterate
+iterate-add zero n f x = rw zero-add
+iterate-add (suc m) n f x = rw suc-add (ap f (iterate-add m n f x))
 
-pub times-lt : (n x : ℕ) → x < 2 ^ 24 → times n clocked x < 2 ^ 24
-unfolding times
-times-lt zero x h = h
-times-lt (suc n) x h = clocked-lt (times n clocked x) (times-lt n x h)
+pub iterate-lt : (n x : ℕ) → x < 2 ^ 24 → iterate n clocked x < 2 ^ 24
+unfolding iterate
+iterate-lt zero x h = h
+iterate-lt (suc n) x h = clocked-lt (iterate n clocked x) (iterate-lt n x h)
 
-pub times-back-lt : (n x : ℕ) → x < 2 ^ 24 → times n clockedBack x < 2 ^ 24
-unfolding times
-times-back-lt zero x h = h
-times-back-lt (suc n) x h = clockedBack-lt (times n clockedBack x) (times-back-lt n x h)
+pub iterate-back-lt : (n x : ℕ) → x < 2 ^ 24 → iterate n clockedBack x < 2 ^ 24
+unfolding iterate
+iterate-back-lt zero x h = h
+iterate-back-lt (suc n) x h = clockedBack-lt (iterate n clockedBack x) (iterate-back-lt n x h)
 
-pub back-times : (n x : ℕ) → x < 2 ^ 24 → times n clockedBack (times n clocked x) ≡ x
-unfolding times
-back-times zero x h = refl
-back-times (suc n) x h =
-    sym (times-first n clockedBack (clocked (times n clocked x)))
-    ∙ ap (times n clockedBack) (back-clocked (times n clocked x) (times-lt n x h))
-    ∙ back-times n x h
+pub back-iterate : (n x : ℕ) → x < 2 ^ 24 → iterate n clockedBack (iterate n clocked x) ≡ x
+unfolding iterate
+back-iterate zero x h = refl
+back-iterate (suc n) x h =
+    sym (iterate-first n clockedBack (clocked (iterate n clocked x)))
+    ∙ ap (iterate n clockedBack) (back-clocked (iterate n clocked x) (iterate-lt n x h))
+    ∙ back-iterate n x h
 
 pub seed-lt : (r : ℕ) → r < 256 → seed r < 2 ^ 24
 unfolding seed joined
@@ -131,13 +131,13 @@ seed-lt r h = omega (arith, xor-lt 8 r 0xFF h (omega arith))
 
 pub LFSR-lt : (c r : ℕ) → r < 256 → LFSR c r < 2 ^ 24
 unfolding LFSR
-LFSR-lt c r h = times-lt c (seed r) (seed-lt r h)
+LFSR-lt c r h = iterate-lt c (seed r) (seed-lt r h)
 
-pub LFSR-forward : (m n r : ℕ) → times n clocked (LFSR m r) ≡ LFSR (m + n) r
+pub LFSR-forward : (m n r : ℕ) → iterate n clocked (LFSR m r) ≡ LFSR (m + n) r
 unfolding LFSR
 LFSR-forward m n r =
-    sym (times-add n m clocked (seed r)) ∙ ap (λ (k : ℕ). times k clocked (seed r)) (add-comm n m)
+    sym (iterate-add n m clocked (seed r)) ∙ ap (λ (k : ℕ). iterate k clocked (seed r)) (add-comm n m)
 
-pub LFSR-back : (m n r : ℕ) → r < 256 → times n clockedBack (LFSR (m + n) r) ≡ LFSR m r
+pub LFSR-back : (m n r : ℕ) → r < 256 → iterate n clockedBack (LFSR (m + n) r) ≡ LFSR m r
 LFSR-back m n r h =
-    ap (times n clockedBack) (sym (LFSR-forward m n r)) ∙ back-times n (LFSR m r) (LFSR-lt m r h)
+    ap (iterate n clockedBack) (sym (LFSR-forward m n r)) ∙ back-iterate n (LFSR m r) (LFSR-lt m r h)

@@ -6,8 +6,8 @@ use Prim.Native.Nat.{ℕ, _-_, _≤_}
 use native.Mathlib.Omega.{arith}
 use Rattle.fox_rounds.specs.Skeleton.{numbered, seal64}
 use Rattle.fox_lent.specs.Held.{held64}
-use Rattle.fox_keying.specs.Register.{times}
-use Rattle.fox_keying.proofs.Laws.Register.{times-suc}
+use Rattle.fox_keying.specs.Register.{iterate}
+use Rattle.fox_keying.proofs.Laws.Register.{iterate-suc}
 use Rattle.fox_probe.specs.Again.{again64}
 use Rattle.fox_probe.proofs.again64.Statement.{statement}
 use Rattle.fox_probe.proofs.again64.Tie as tie
@@ -25,7 +25,7 @@ tbsm-requires : tie.Need-tbsm-requires Inv-loop μ-loop
 tbsm-requires c κs = search needs
 
 loop-holds : tie.Need-loop-holds Inv-loop μ-loop
-unfolding again64 times
+unfolding again64 iterate
 loop-holds c = (search needs, refl)
 
 seal64-requires : tie.Need-seal64-requires Inv-loop μ-loop
@@ -46,7 +46,7 @@ loop-again c =
     let at = c .before .before .before .before .before .before .before .before in
     let a = at .before .before .before .args in
     let one = seal64 (numbered (held64 (a .keys .now)) (a .rounds) 0) in
-    (omega (arith, c .before .before .before .before .before .before .before .loop-test .taken), c .seal64 .ensures ∙ ap one (at .loop .inv .1) ∙ sym (times-suc (at .loop .i) one (a .x)))
+    (omega (arith, c .before .before .before .before .before .before .before .loop-test .taken), c .seal64 .ensures ∙ ap one (at .loop .inv .1) ∙ sym (iterate-suc (at .loop .i) one (a .x)))
 
 returns : tie.Need-returns Inv-loop μ-loop
 returns c =

@@ -7,7 +7,7 @@ use lib.ListN.{drop}
 use Rattle.fox_layers.specs.Words.{split, sum}
 use Rattle.fox_keying.specs.declared.held.Key32.{Key32}
 use Rattle.fox_keying.specs.Held.{bytes16, bytes32}
-use Rattle.fox_keying.specs.Register.{clocked, times, dkey, groups, stream}
+use Rattle.fox_keying.specs.Register.{clocked, iterate, dkey, groups, stream}
 use Rattle.fox_keying.proofs.Laws.Bytes.{sum-bytes32, sum-surplus, length-bytes32}
 use Rattle.fox_keying.proofs.Laws.Stream.{eleven}
 use borrow.Author.Needs.{needs}
@@ -30,7 +30,7 @@ returns c =
     let g = c8 .rest in
     let row : Key32 = record { a = f .result .a; b = f .result .b; c = g .result .a; d = g .result .b } in
     let xs = split 8 (f .result .a) ++ split 8 (f .result .b) in
-    let left = drop 2 (split 3 (times 5 clocked (f .result .last))) in
+    let left = drop 2 (split 3 (iterate 5 clocked (f .result .last))) in
     let cut : bytes32 row ≡ xs ++ bytes16 (g .result) =
     append-assoc xs (split 8 (g .result .a)) (split 8 (g .result .b)) in
     sum-bytes32 (a .m) row

@@ -3,19 +3,19 @@
 use Prim.Native.Nat.{ℕ, _≤_, _<_, _-_, _^_}
 use native.Mathlib.Omega.{arith}
 use mathlib.Core.Path.{_≡_, refl, sym, ap, _∙_}
-use Rattle.fox_keying.specs.Register.{clockedBack, times}
-use Rattle.fox_keying.proofs.Laws.Register.{times-suc}
+use Rattle.fox_keying.specs.Register.{clockedBack, iterate}
+use Rattle.fox_keying.proofs.Laws.Register.{iterate-suc}
 use Rattle.fox_keying.proofs.register.back.Statement.{statement}
 use Rattle.fox_keying.proofs.register.back.Tie as tie
 
 abbrev Inv-loop : tie.InvT-loop
-Inv-loop reg steps now₀ undone₀ now undone = (now ≡ times undone clockedBack reg) × (now < 2 ^ 24) × (undone ≤ steps)
+Inv-loop reg steps now₀ undone₀ now undone = (now ≡ iterate undone clockedBack reg) × (now < 2 ^ 24) × (undone ≤ steps)
 
 abbrev μ-loop : tie.MeasureT-loop
 μ-loop reg steps now₀ undone₀ now undone = steps - undone
 
 loop-holds : tie.Need-loop-holds Inv-loop μ-loop
-unfolding times
+unfolding iterate
 loop-holds c = (refl, c .pre, omega arith)
 
 clocked-back-requires : tie.Need-clocked-back-requires Inv-loop μ-loop
@@ -30,7 +30,7 @@ loop-less c = omega arith
 loop-again : tie.Need-loop-again Inv-loop μ-loop
 loop-again c =
     let l = c .before .before .loop in (
-      c .clocked-back .ensures .0 ∙ ap clockedBack (l .inv .0) ∙ sym (times-suc (l .undone) clockedBack (c .before .before .before .args .reg)),
+      c .clocked-back .ensures .0 ∙ ap clockedBack (l .inv .0) ∙ sym (iterate-suc (l .undone) clockedBack (c .before .before .before .args .reg)),
       c .clocked-back .ensures .1,
       omega arith,
     )
@@ -39,7 +39,7 @@ returns : tie.Need-returns Inv-loop μ-loop
 returns c =
     let l = c .before .loop in
     let all : l .undone ≡ c .before .before .args .steps = omega arith in
-    (l .inv .0 ∙ ap (λ (n : ℕ). times n clockedBack (c .before .before .args .reg)) all, l .inv .1)
+    (l .inv .0 ∙ ap (λ (n : ℕ). iterate n clockedBack (c .before .before .args .reg)) all, l .inv .1)
 
 pub back-spec : {M : Type 1} → statement M
 back-spec =

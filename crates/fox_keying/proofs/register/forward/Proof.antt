@@ -3,19 +3,19 @@
 use Prim.Native.Nat.{ℕ, _≤_, _<_, _-_, _^_}
 use native.Mathlib.Omega.{arith}
 use mathlib.Core.Path.{_≡_, refl, sym, ap, _∙_}
-use Rattle.fox_keying.specs.Register.{clocked, times}
-use Rattle.fox_keying.proofs.Laws.Register.{times-suc}
+use Rattle.fox_keying.specs.Register.{clocked, iterate}
+use Rattle.fox_keying.proofs.Laws.Register.{iterate-suc}
 use Rattle.fox_keying.proofs.register.forward.Statement.{statement}
 use Rattle.fox_keying.proofs.register.forward.Tie as tie
 
 abbrev Inv-loop : tie.InvT-loop
-Inv-loop reg steps now₀ done₀ now done = (now ≡ times done clocked reg) × (now < 2 ^ 24) × (done ≤ steps)
+Inv-loop reg steps now₀ done₀ now done = (now ≡ iterate done clocked reg) × (now < 2 ^ 24) × (done ≤ steps)
 
 abbrev μ-loop : tie.MeasureT-loop
 μ-loop reg steps now₀ done₀ now done = steps - done
 
 loop-holds : tie.Need-loop-holds Inv-loop μ-loop
-unfolding times
+unfolding iterate
 loop-holds c = (refl, c .pre, omega arith)
 
 clocked-requires : tie.Need-clocked-requires Inv-loop μ-loop
@@ -30,7 +30,7 @@ loop-less c = omega arith
 loop-again : tie.Need-loop-again Inv-loop μ-loop
 loop-again c =
     let l = c .before .before .loop in (
-      c .clocked .ensures .0 ∙ ap clocked (l .inv .0) ∙ sym (times-suc (l .done) clocked (c .before .before .before .args .reg)),
+      c .clocked .ensures .0 ∙ ap clocked (l .inv .0) ∙ sym (iterate-suc (l .done) clocked (c .before .before .before .args .reg)),
       c .clocked .ensures .1,
       omega arith,
     )
@@ -39,7 +39,7 @@ returns : tie.Need-returns Inv-loop μ-loop
 returns c =
     let l = c .before .loop in
     let all : l .done ≡ c .before .before .args .steps = omega arith in
-    (l .inv .0 ∙ ap (λ (n : ℕ). times n clocked (c .before .before .args .reg)) all, l .inv .1)
+    (l .inv .0 ∙ ap (λ (n : ℕ). iterate n clocked (c .before .before .args .reg)) all, l .inv .1)
 
 pub forward-spec : {M : Type 1} → statement M
 forward-spec =
