@@ -1,6 +1,6 @@
 -- The refusals of 01, "Numbers handed back": each is a number and the test of when it is given, and the first that applies is taken.
 -- Assumes nothing.
-use Prim.Native.Nat.{ℕ, _≤_}
+use Prim.Native.Nat.{ℕ, _+_, _≤_}
 use mathlib.Core.Path.{_≡_}
 use mathlib.Core.Logic.{_⊎_}
 use mathlib.Core.List.{List, [], _∷_, _++_}
@@ -36,9 +36,17 @@ longKey keyLen = record { number = 3; applies = ltb 32 keyLen }
 unfoldable pub noBlock : ℕ → ℕ → Refusal
 noBlock cipher blockLen = record { number = 4; applies = not (eqb blockLen (blockSize cipher)) }
 
+-- 5: run data above 65,536 bytes in one call
+unfoldable pub longData : ℕ → Refusal
+longData inputLen = record { number = 5; applies = ltb 65536 inputLen }
+
 -- 6: output length is not the input length
 unfoldable pub noOutput : ℕ → ℕ → Refusal
-noOutput inLen outLen = record { number = 6; applies = not (eqb outLen inLen) }
+noOutput inputLen outLen = record { number = 6; applies = not (eqb outLen inputLen) }
+
+-- 7: offset plus length above 1,073,741,824
+unfoldable pub pastEnd : ℕ → ℕ → Refusal
+pastEnd offset inputLen = record { number = 7; applies = ltb 1073741824 (offset + inputLen) }
 
 -- preparing a key meets only these
 unfoldable pub forKey : ℕ → ℕ → ℕ → List Refusal
@@ -48,6 +56,11 @@ forKey cipher rounds keyLen = noCipher cipher ∷ noRounds rounds ∷ longKey ke
 unfoldable pub forBlock : ℕ → ℕ → ℕ → ℕ → ℕ → List Refusal
 forBlock cipher rounds keyLen blockLen outLen =
     forKey cipher rounds keyLen ++ (noBlock cipher blockLen ∷ noOutput blockLen outLen ∷ [])
+
+-- a stretch of a run meets all of them
+unfoldable pub forRun : ℕ → ℕ → ℕ → ℕ → ℕ → ℕ → ℕ → List Refusal
+forRun cipher rounds keyLen counterLen offset inputLen outLen =
+    forKey cipher rounds keyLen ++ (noBlock cipher counterLen ∷ longData inputLen ∷ noOutput inputLen outLen ∷ pastEnd offset inputLen ∷ [])
 
 -- what a call that prepares a key knows where no refusal applies
 pub record Keyed (c r k : ℕ) : Type 0 where
@@ -64,3 +77,14 @@ pub record Blocked (c r k b o : ℕ) : Type 0 where
   pub key : k ≤ 32
   pub block : b ≡ blockSize c
   pub output : o ≡ b
+
+-- what a call on a stretch of a run knows where no refusal applies
+pub record Stretched (c r k b n d o : ℕ) : Type 0 where
+  pub cipher : (c ≡ 64) ⊎ (c ≡ 128)
+  pub low : 12 ≤ r
+  pub high : r ≤ 255
+  pub key : k ≤ 32
+  pub counter : b ≡ blockSize c
+  pub short : d ≤ 65536
+  pub output : o ≡ d
+  pub end : n + d ≤ 1073741824

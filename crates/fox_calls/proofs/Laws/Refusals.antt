@@ -5,11 +5,11 @@ use mathlib.Core.Path.{_≡_, refl, sym, ap, _∙_}
 use mathlib.Core.Logic.{_⊎_, inl, inr, ⊎-elim}
 use mathlib.Core.Bool.{Bool, true, false, cond, not, true≢false}
 use mathlib.Core.List.{List, [], _∷_, _++_}
-use Prim.Native.Nat.{ℕ, _≤_}
+use Prim.Native.Nat.{ℕ, _+_, _≤_, _<_}
 use native.Mathlib.Omega.{arith}
 use lib.Dec.{ltb, eqb}
-use borrow.Author.Tests.{ltb-false, eqb-true, le-ltb, eq-eqb, ne-eqb, not-false}
-use Rattle.fox_calls.specs.Refusals.{Refusal, refusalOf, blockSize, noCipher, noRounds, longKey, noBlock, noOutput, forKey, forBlock, Keyed, Blocked}
+use borrow.Author.Tests.{ltb-false, eqb-true, lt-ltb, le-ltb, eq-eqb, ne-eqb, not-false}
+use Rattle.fox_calls.specs.Refusals.{Refusal, refusalOf, blockSize, noCipher, noRounds, longKey, noBlock, longData, noOutput, pastEnd, forKey, forBlock, forRun, Keyed, Blocked, Stretched}
 
 -- no test of the list applies
 unfoldable pub Passed : List Refusal → Type 0
@@ -139,6 +139,26 @@ pub output-known : (b o : ℕ) → noOutput b o .applies ≡ false → o ≡ b
 unfolding noOutput
 output-known b o e = eqb-true o b (not-false (eqb o b) e)
 
+pub long-refused : (d : ℕ) → 65536 < d → longData d .applies ≡ true
+unfolding longData
+long-refused d h = lt-ltb 65536 d h
+
+pub long-passed : (d : ℕ) → d ≤ 65536 → longData d .applies ≡ false
+unfolding longData
+long-passed d h = le-ltb 65536 d h
+
+pub long-known : (d : ℕ) → longData d .applies ≡ false → d ≤ 65536
+unfolding longData
+long-known d e = ltb-false 65536 d e
+
+pub end-passed : (n d : ℕ) → n + d ≤ 1073741824 → pastEnd n d .applies ≡ false
+unfolding pastEnd
+end-passed n d h = le-ltb 1073741824 (n + d) h
+
+pub end-known : (n d : ℕ) → pastEnd n d .applies ≡ false → n + d ≤ 1073741824
+unfolding pastEnd
+end-known n d e = ltb-false 1073741824 (n + d) e
+
 -- a key
 
 pub forKey-numbered : (c r k : ℕ) → Numbered (forKey c r k)
@@ -194,3 +214,53 @@ blocked-served {c} {r} {k} {b} {o} h =
     let tests = noBlock c b ∷ noOutput b o ∷ [] in
     refusal-append-passed (forKey c r k) tests (keyed-passed (blocked-keyed h))
     ∙ passed-served tests (block-passed c b (h .block), (output-passed b o (h .output), tt))
+
+-- a stretch of a run
+
+-- the tests of a stretch that come after those of the key
+unfoldable pub stretchOnly : ℕ → ℕ → ℕ → ℕ → ℕ → List Refusal
+stretchOnly c b n d o = noBlock c b ∷ longData d ∷ noOutput d o ∷ pastEnd n d ∷ []
+
+stretchOnly-numbered : (c b n d o : ℕ) → Numbered (stretchOnly c b n d o)
+unfolding Numbered stretchOnly noBlock longData noOutput pastEnd
+stretchOnly-numbered c b n d o = ((λ e. omega arith), ((λ e. omega arith), ((λ e. omega arith), ((λ e. omega arith), tt))))
+
+pub forRun-key : (c r k b n d o : ℕ) → refusalOf (forRun c r k b n d o) ≡ 0 → refusalOf (forKey c r k) ≡ 0
+unfolding forRun
+forRun-key c r k b n d o e = refusal-append-first (forKey c r k) (noBlock c b ∷ longData d ∷ noOutput d o ∷ pastEnd n d ∷ []) e
+
+-- a refusal of the key is the whole list's, and where there is none the others decide
+pub forRun-refused : (c r k b n d o : ℕ) → (refusalOf (forKey c r k) ≡ 0 → ⊥) → refusalOf (forRun c r k b n d o) ≡ refusalOf (forKey c r k)
+unfolding forRun
+forRun-refused c r k b n d o h = refusal-append-refused _ _ h
+
+pub forRun-served : (c r k b n d o : ℕ) → refusalOf (forKey c r k) ≡ 0 → refusalOf (forRun c r k b n d o) ≡ refusalOf (stretchOnly c b n d o)
+unfolding forRun stretchOnly
+forRun-served c r k b n d o e = refusal-append-served _ _ (forKey-numbered c r k) e
+
+pub stretched : (c r k b n d o : ℕ) → refusalOf (forRun c r k b n d o) ≡ 0 → Stretched c r k b n d o
+unfolding Passed stretchOnly
+stretched c r k b n d o e =
+    let zero = forRun-key c r k b n d o e in
+    let h = keyed c r k zero in
+    let p = served-passed (stretchOnly c b n d o) (stretchOnly-numbered c b n d o) (sym (forRun-served c r k b n d o zero) ∙ e) in
+    record {
+      cipher = h .cipher;
+      low = h .low;
+      high = h .high;
+      key = h .key;
+      counter = block-known c b (p .0);
+      short = long-known d (p .1 .0);
+      output = output-known d o (p .1 .1 .0);
+      end = end-known n d (p .1 .1 .1 .0);
+    }
+
+pub stretched-keyed : {c r k b n d o : ℕ} → Stretched c r k b n d o → Keyed c r k
+stretched-keyed h = record { cipher = h .cipher; low = h .low; high = h .high; key = h .key }
+
+pub stretched-served : {c r k b n d o : ℕ} → Stretched c r k b n d o → refusalOf (forRun c r k b n d o) ≡ 0
+unfolding Passed stretchOnly
+stretched-served {c} {r} {k} {b} {n} {d} {o} h =
+    forRun-served c r k b n d o (keyed-served (stretched-keyed h))
+    ∙ passed-served (stretchOnly c b n d o)
+    (block-passed c b (h .counter), (long-passed d (h .short), (output-passed d o (h .output), (end-passed n d (h .end), tt))))
