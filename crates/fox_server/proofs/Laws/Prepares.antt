@@ -1,6 +1,6 @@
 -- What preparing a key hands back, put together for a key that is served and for one that is refused.
 -- Assumes nothing.
-use mathlib.Core.Path.{_≡_, refl, sym, ap, _∙_, subst}
+use mathlib.Core.Path.{_≡_, refl, sym, _∙_, subst}
 use mathlib.Core.List.{List}
 use mathlib.Core.Bool.{Bool, true, false, cond}
 use Prim.Native.Nat.{ℕ, _*_, _^_, _≤_, _<_}
@@ -8,9 +8,7 @@ use native.Mathlib.Nat.{mul-le-mul-right}
 use native.Mathlib.Omega.{arith}
 use lib.Dec.{eqb, lit≤}
 use lib.ListN.{length}
-use Rattle.fox_calls.specs.Refusals.{refusalOf, blockSize, forKey, forBlock}
-use Rattle.fox_calls.specs.Reply.{Reply}
-use Rattle.fox_calls.specs.declared.answer.Answer.{Answer}
+use Rattle.fox_calls.specs.Refusals.{refusalOf, blockSize, forKey}
 use Rattle.fox_calls.proofs.Laws.Reply.{chosen, passed-over}
 use Rattle.fox_cipher.specs.Block.{roundKeys}
 use Rattle.fox_server.specs.Prepared.{preparedKey, noKey, Prepares, heldKeys}
@@ -43,20 +41,12 @@ in-use c n {b} e few =
     let most : b * n ≤ 16 * n = mul-le-mul-right n (size-le c e) in
     omega arith
 
--- a call on a key prepared within it answers as the definition does for the key's bytes
-pub from-prepared : (way : ℕ → List ℕ → List ℕ → List ℕ) (c n : ℕ) (key bs before after : List ℕ) (made : Preparation) (r : Answer)
-    → refusalOf (forKey c n (length key)) ≡ 0
-    → Prepares c n key made
-    → Reply (forBlock (made .key .cipher) (made .key .rounds) (made .key .«key_len») (length bs) (length before))
-    (way (made .key .cipher) (heldKeys (made .key)) bs) before after r
-    → Reply (forBlock c n (length key) (length bs) (length before)) (way c (roundKeys c n key) bs) before after r
+-- what holds of a call with a key prepared within it, and the round keys that it holds, holds with the key's own length and round keys
+pub from-prepared : (P : ℕ → ℕ → ℕ → List ℕ → Type 0) (c n : ℕ) (key : List ℕ) (made : Preparation) → refusalOf (forKey c n (length key)) ≡ 0 → Prepares c n key made
+    → P (made .key .cipher) (made .key .rounds) (made .key .«key_len») (heldKeys (made .key)) → P c n (length key) (roundKeys c n key)
 unfolding preparedKey
-from-prepared way c n key bs before after made r served is reply =
+from-prepared P c n key made served is held =
     let e : made .key ≡ preparedKey c n key = is .key ∙ sym (chosen _ _ _ served) in
-    let at-key : Reply (forBlock c n (length key) (length bs) (length before)) (way c (heldKeys (preparedKey c n key)) bs) before after r =
-    subst
-    (λ (p : Prepared).
-    Reply (forBlock (p .cipher) (p .rounds) (p .«key_len») (length bs) (length before)) (way (p .cipher) (heldKeys p) bs) before after r)
-    e reply in
-    subst (λ (v : List ℕ). Reply (forBlock c n (length key) (length bs) (length before)) v before after r)
-    (ap (λ (ks : List ℕ). way c ks bs) (held-prepared (preparedKey c n key) key refl)) at-key
+    let at-key : P c n (length key) (heldKeys (preparedKey c n key)) =
+    subst (λ (p : Prepared). P (p .cipher) (p .rounds) (p .«key_len») (heldKeys p)) e held in
+    subst (P c n (length key)) (held-prepared (preparedKey c n key) key refl) at-key

@@ -3,9 +3,12 @@
 -- Assumes nothing.
 use borrow.Author.Needs.{needs}
 use mathlib.Core.Path.{refl, sym, _∙_}
+use mathlib.Core.List.{List}
+use Prim.Native.Nat.{ℕ}
 use Rattle.fox_calls.proofs.Laws.Refusals.{forBlock-key}
 use Rattle.fox_calls.proofs.Laws.Reply.{refused-reply}
-use Rattle.fox_cipher.specs.Block.{openWith, openBlock}
+use Rattle.fox_cipher.specs.Block.{openBlock}
+use Rattle.fox_cipher.specs.Calls.{OpensWith}
 use Rattle.fox_server.proofs.Laws.Prepares.{from-prepared}
 use Rattle.fox_server.proofs.block.open_from_key.Statement.{statement}
 use Rattle.fox_server.proofs.block.open_from_key.Tie as tie
@@ -39,8 +42,9 @@ returns-2 c =
     let test = made .before in
     let a = test .before .before .before .before .before .args in
     let zero = sym (test .before .for-block .ensures) ∙ test .if1 .left in
-    from-prepared openWith (a .cipher) (a .rounds) (a .key .now) (a .block .now) (a .out .now) _ (made .prepare .result) (call .open .result)
-    (forBlock-key _ _ _ _ _ zero) (made .prepare .ensures) (call .open .ensures)
+    from-prepared
+    (λ (cipher rounds keyLen : ℕ) (rks : List ℕ). OpensWith cipher rounds keyLen rks (a .block .now) (a .out .now) (call .open .last .1 .1 .0) (call .open .result)) (a .cipher)
+    (a .rounds) (a .key .now) (made .prepare .result) (forBlock-key _ _ _ _ _ zero) (made .prepare .ensures) (call .open .ensures)
 
 pub open-from-key-spec : {M : Type 1} → statement M
 open-from-key-spec =

@@ -1,0 +1,63 @@
+-- `four64::lmor_four64` meets its contract: one round over lent tables and "or" for each of the four, with the same round key.
+-- Assumes nothing.
+use borrow.Author.Needs.{needs}
+use mathlib.Core.Path.{ap, _∙_}
+use Rattle.fox_rounds.specs.Rounds.{or64}
+use Rattle.fox_four.specs.Four.{lmidFour64, orFour64}
+use Rattle.fox_four.proofs.four64.lmor_four64.Statement.{statement}
+use Rattle.fox_four.proofs.four64.lmor_four64.Tie as tie
+
+lmid64-requires : tie.Need-lmid64-requires
+lmid64-requires c κs = search needs
+
+or-requires : tie.Need-or-requires
+or-requires c κs = search needs
+
+lmid64-requires-2 : tie.Need-lmid64-requires-2
+lmid64-requires-2 c κs = search needs
+
+or-requires-2 : tie.Need-or-requires-2
+or-requires-2 c κs = search needs
+
+lmid64-requires-3 : tie.Need-lmid64-requires-3
+lmid64-requires-3 c κs = search needs
+
+or-requires-3 : tie.Need-or-requires-3
+or-requires-3 c κs = search needs
+
+lmid64-requires-4 : tie.Need-lmid64-requires-4
+lmid64-requires-4 c κs = search needs
+
+or-requires-4 : tie.Need-or-requires-4
+or-requires-4 c κs = search needs
+
+returns : tie.Need-returns
+unfolding lmidFour64 orFour64
+returns c =
+    let c1 = c .before in
+    let c2 = c1 .before in
+    let c3 = c2 .before in
+    let c4 = c3 .before in
+    let c5 = c4 .before in
+    let c6 = c5 .before in
+    let c7 = c6 .before in
+    λ i. record {
+      first = (c6 .or .ensures ∙ ap or64 (c7 .lmid64 .ensures)) i;
+      second = (c4 .or2 .ensures ∙ ap or64 (c5 .lmid642 .ensures)) i;
+      third = (c2 .or3 .ensures ∙ ap or64 (c3 .lmid643 .ensures)) i;
+      fourth = (c .or4 .ensures ∙ ap or64 (c1 .lmid644 .ensures)) i;
+    }
+
+pub lmor-four64-spec : {M : Type 1} → statement M
+lmor-four64-spec =
+    tie.close
+    (tie.spec
+    lmid64-requires
+    or-requires
+    lmid64-requires-2
+    or-requires-2
+    lmid64-requires-3
+    or-requires-3
+    lmid64-requires-4
+    or-requires-4
+    returns)

@@ -1,0 +1,2 @@
+-- What four blocks sealed side by side are.
+pub mod Four

@@ -1,0 +1,91 @@
+// Four blocks of FOX64 sealed side by side over lent tables and lent round keys: each round key is read once for the four.
+// The round stands here with "or" and without it. Each of the two is called at one place only, so that the compiler sets it in there and the states
+// stay in registers.
+ghost use mathlib.Core.Path.{_≡_};
+ghost use Prim.Native.Nat.{_≤_};
+ghost use Rattle.fox_rounds.specs.Skeleton.{numbered};
+ghost use Rattle.fox_lent.specs.Held.{held64};
+ghost use Rattle.fox_lent.specs.Lent.{Lent4};
+ghost use Rattle.fox_four.specs.Four.{lmidFour64, orFour64, sealFour64};
+use fox_lent::lent64::lmid64;
+use fox_rounds::fox64::Fox64;
+
+pub struct Four64 {
+    pub first: Fox64,
+    pub second: Fox64,
+    pub third: Fox64,
+    pub fourth: Fox64,
+}
+
+// The round of all four with one round key.
+fn lmid_four64<'a>(
+    s: &'a [u8; 256],
+    a: &'a [u32; 256],
+    b: &'a [u32; 256],
+    c: &'a [u32; 256],
+    d: &'a [u32; 256],
+    x: Four64,
+    rk: u64,
+) -> Four64
+    requires { ⌜ Lent4 (now s) (now a) (now b) (now c) (now d) ⌝ }
+    ensures { λ r. ⌜ r ≡ lmidFour64 rk x ⌝ }
+{
+    let p = x.first;
+    let q = x.second;
+    let u = x.third;
+    let v = x.fourth;
+    Four64 {
+        first: lmid64(s, a, b, c, d, p, rk),
+        second: lmid64(s, a, b, c, d, q, rk),
+        third: lmid64(s, a, b, c, d, u, rk),
+        fourth: lmid64(s, a, b, c, d, v, rk),
+    }
+}
+
+// The round of all four with one round key, and "or" after it.
+fn lmor_four64<'a>(
+    s: &'a [u8; 256],
+    a: &'a [u32; 256],
+    b: &'a [u32; 256],
+    c: &'a [u32; 256],
+    d: &'a [u32; 256],
+    x: Four64,
+    rk: u64,
+) -> Four64
+    requires { ⌜ Lent4 (now s) (now a) (now b) (now c) (now d) ⌝ }
+    ensures { λ r. ⌜ r ≡ orFour64 (lmidFour64 rk x) ⌝ }
+{
+    let p = x.first;
+    let q = x.second;
+    let u = x.third;
+    let v = x.fourth;
+    Four64 {
+        first: lmid64(s, a, b, c, d, p, rk).or(),
+        second: lmid64(s, a, b, c, d, q, rk).or(),
+        third: lmid64(s, a, b, c, d, u, rk).or(),
+        fourth: lmid64(s, a, b, c, d, v, rk).or(),
+    }
+}
+
+pub fn seal_four64<'a>(
+    s: &'a [u8; 256],
+    a: &'a [u32; 256],
+    b: &'a [u32; 256],
+    c: &'a [u32; 256],
+    d: &'a [u32; 256],
+    keys: &[u64; 510],
+    rounds: usize,
+    x: Four64,
+) -> Four64
+    requires { ⌜ Lent4 (now s) (now a) (now b) (now c) (now d) ⌝ }
+    requires { ⌜ 1 ≤ rounds ⌝ }
+    requires { ⌜ rounds ≤ 510 ⌝ }
+    ensures { λ r. ⌜ r ≡ sealFour64 (numbered (held64 (now (keys .entry))) rounds 0) x ⌝ }
+{
+    let last = rounds - 1;
+    let mut y = x;
+    for i in 0..last {
+        y = lmor_four64(s, a, b, c, d, y, keys[i]);
+    }
+    lmid_four64(s, a, b, c, d, y, keys[last])
+}

@@ -1,0 +1,51 @@
+-- No counter block of a run comes twice: within a run fewer than 2 ^ 32 blocks are counted, so the lowest 32 bits, which count, do not come round.
+-- Assumes nothing.
+use mathlib.Core.Path.{_≡_, refl, sym, ap, _∙_}
+use mathlib.Core.Logic.{⊎-elim}
+use mathlib.Core.List.{List, [], _∷_}
+use Prim.Native.Nat.{ℕ, _+_, _*_, _-_, _/_, _%_, _^_, _≤_, _<_}
+use native.Mathlib.Nat.{mod-lt, zero-lt-suc, div-mul-le-self, mul-le-mul-left, eq-zero-or-pos}
+use native.Mathlib.Omega.{arith}
+use lib.ListN.{length, take, drop}
+use lib.Seq.{length-take-le, drop-at}
+use Rattle.fox_layers.specs.Words.{joined, split}
+use Rattle.fox_layers.proofs.Laws.Words.{joined-split}
+use Rattle.fox_calls.specs.Refusals.{blockSize}
+use Rattle.fox_cipher.proofs.Laws.Block.{by-cipher, size-64, size-128}
+use Rattle.fox_run.specs.Counter.{counterBlock}
+
+-- the number that counts, read back from a counter block
+counting : (counter : List ℕ) (i : ℕ)
+    → joined (drop (length counter - 4) (counterBlock counter i)) ≡ (joined (drop (length counter - 4) counter) + i) % 2 ^ 32
+unfolding counterBlock
+counting counter i =
+    let kept = length counter - 4 in
+    ap joined (drop-at (take kept counter) _ kept (length-take-le kept counter (omega arith))) ∙ joined-split 4 _ (mod-lt _ (zero-lt-suc 4294967295))
+
+-- the whole circle of 2 ^ 32 counts
+pub counters-apart : (counter : List ℕ) (i j : ℕ) → i < j → j < 2 ^ 32 → counterBlock counter i ≡ counterBlock counter j → ⊥
+counters-apart counter i j h l e =
+    let a = joined (drop (length counter - 4) counter) in
+    let same : (a + i) % 2 ^ 32 ≡ (a + j) % 2 ^ 32 =
+    sym (counting counter i) ∙ ap (λ (b : List ℕ). joined (drop (length counter - 4) b)) e ∙ counting counter j in
+    omega arith
+
+size-low : (c : ℕ) → 8 ≤ blockSize c
+size-low c = by-cipher c (λ e. omega (arith, size-64 c e)) (λ n. omega (arith, size-128 c n))
+
+-- as far as a run goes
+pub counters-differ : (c : ℕ) (counter : List ℕ) (i j : ℕ) → i < j → j * blockSize c < 1073741824 → counterBlock counter i ≡ counterBlock counter j → ⊥
+counters-differ c counter i j h l e = counters-apart counter i j h (omega (arith, mul-le-mul-left j (size-low c))) e
+
+-- two bytes of a run that do not lie in one block
+pub bytes-apart : (c : ℕ) (counter : List ℕ) (m n : ℕ) → m < 1073741824 → n < 1073741824 → (m / blockSize c ≡ n / blockSize c → ⊥)
+    → counterBlock counter (m / blockSize c) ≡ counterBlock counter (n / blockSize c) → ⊥
+bytes-apart c counter m n hm hn apart e =
+    let B = blockSize c in
+    ⊎-elim (λ z. counters-differ c counter (n / B) (m / B) (omega arith) (omega (arith, div-mul-le-self m B)) (sym e))
+    (λ p. counters-differ c counter (m / B) (n / B) (omega arith) (omega (arith, div-mul-le-self n B)) e) (eq-zero-or-pos (n / B - m / B))
+
+-- a known value: the count wraps, and no bit of it reaches what stands before
+pub counter-wraps : counterBlock (0 ∷ 0 ∷ 0 ∷ 0 ∷ 255 ∷ 255 ∷ 255 ∷ 255 ∷ []) 1 ≡ 0 ∷ 0 ∷ 0 ∷ 0 ∷ 0 ∷ 0 ∷ 0 ∷ 0 ∷ []
+unfolding counterBlock joined split
+counter-wraps = refl

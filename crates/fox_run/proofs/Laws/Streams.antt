@@ -1,0 +1,174 @@
+-- Bytes added to a stream of blocks, block by block: a stretch of the stream that is a known list of bytes is added as that list is. And the key stream
+-- is that of the counter blocks as states: the state of the counter block number i is the first one's, counted on by i.
+-- Assumes nothing.
+use mathlib.Core.Path.{_≡_, refl, sym, ap, ap₂, _∙_}
+use mathlib.Core.List.{List, [], _∷_, _++_}
+use Prim.Native.Nat.{ℕ, zero, suc, _+_, _*_, _-_, _/_, _%_, _^_, _≤_, _<_, min}
+use native.Mathlib.Nat.{add-zero, zero-mul, mod-lt, mod-eq-of-lt, div-eq-of-lt, mul-add-div-right, mul-add-mod-self-right, div-add-mod', zero-lt-suc}
+use native.Mathlib.Omega.{arith}
+use lib.ListN.{length, take, drop, getD, length-append, length-drop, take-append-drop}
+use lib.Seq.{length-take-le, take-all, drop-at, take-append-le, drop-append-le, getD-drop}
+use Rattle.fox_layers.specs.Words.{_⊕_, joined, split, sum}
+use Rattle.fox_layers.proofs.Laws.Words.{length-split, joined-split}
+use Rattle.fox_rounds.specs.Skeleton.{seal64, seal128}
+use Rattle.fox_rounds.specs.declared.fox64.Fox64.{Fox64}
+use Rattle.fox_rounds.specs.declared.fox128.Fox128.{Fox128}
+use Rattle.fox_cipher.specs.Block.{state64, state128, bytes64, bytes128, sealWith}
+use Rattle.fox_cipher.proofs.Laws.Block.{size-64, size-128, sealWith-64, sealWith-128}
+use Rattle.fox_run.specs.Counter.{counterBlock}
+use Rattle.fox_run.specs.Run.{streamed, addedFrom, keyStream, runWith}
+use Rattle.fox_run.specs.States.{counted64, counted128, sealed64, sealed128, stream64, stream128}
+use Rattle.fox_run.proofs.Laws.Sums.{length-sum, take-sum}
+use Rattle.fox_run.proofs.Laws.Added.{addedFrom-same}
+
+-- the bytes of a stream from its byte number n on are those of a list, as far as that goes
+abbrev pub Stands : (ℕ → ℕ) → ℕ → List ℕ → Type 0
+Stands f n pad = (i : ℕ) → i < length pad → f (n + i) ≡ getD pad i 0
+
+pub added-pad : (f : ℕ → ℕ) (n : ℕ) (pad ds : List ℕ) → Stands f n pad → addedFrom f n (take (length pad) ds) ≡ sum pad ds
+unfolding addedFrom sum
+added-pad f n [] ds h = refl
+added-pad f n (p ∷ ps) [] h = refl
+added-pad f n (p ∷ ps) (d ∷ ds) h =
+    let here : f n ≡ p = ap f (sym (add-zero n)) ∙ h 0 (omega arith) in
+    let later : Stands f (suc n) ps = λ i l. ap f (omega arith) ∙ h (suc i) (omega arith) in
+    ap₂ (λ (x : ℕ) (xs : List ℕ). x ∷ xs) (ap (λ (x : ℕ). x ⊕ d) here) (added-pad f (suc n) ps ds later)
+
+stands-append : (f : ℕ → ℕ) (n : ℕ) (xs ys : List ℕ) → Stands f n xs → Stands f (n + length xs) ys → Stands f n (xs ++ ys)
+stands-append f n [] ys hx hy i l = ap f (omega arith) ∙ hy i l
+stands-append f n (x ∷ xs) ys hx hy zero l = hx 0 (omega arith)
+stands-append f n (x ∷ xs) ys hx hy (suc i) l =
+    let later : Stands f (suc n) xs = λ j h. ap f (omega arith) ∙ hx (suc j) (omega arith) in
+    let after : Stands f (suc n + length xs) ys = λ j h. ap f (omega arith) ∙ hy j h in
+    ap f (omega arith) ∙ stands-append f (suc n) xs ys later after i (omega arith)
+
+-- blocks
+
+unfoldable pub blocksFrom : (ℕ → List ℕ) → ℕ → ℕ → List ℕ
+blocksFrom block i zero = []
+blocksFrom block i (suc k) = block i ++ blocksFrom block (suc i) k
+
+pub streamed-at : (B : ℕ) (block : ℕ → List ℕ) (q r : ℕ) → r < B → streamed B block (q * B + r) ≡ getD (block q) r 0
+unfolding streamed
+streamed-at B block q r h =
+    let number : (q * B + r) / B ≡ q = mul-add-div-right (omega arith) q r ∙ ap (λ (m : ℕ). q + m) (div-eq-of-lt h) ∙ add-zero q in
+    let place : (q * B + r) % B ≡ r = mul-add-mod-self-right q B r ∙ mod-eq-of-lt h in
+    ap₂ (λ (m k : ℕ). getD (block m) k 0) number place
+
+pub streamed-same : (B : ℕ) (f g : ℕ → List ℕ) → ((i : ℕ) → f i ≡ g i) → (n : ℕ) → streamed B f n ≡ streamed B g n
+unfolding streamed
+streamed-same B f g h n = ap (λ (xs : List ℕ). getD xs (n % B) 0) (h (n / B))
+
+module _ (B : ℕ) (block : ℕ → List ℕ) (pos : 0 < B) (size : (i : ℕ) → length (block i) ≡ B) where
+  pub length-rest : (n : ℕ) → length (drop (n % B) (block (n / B))) ≡ B - n % B
+  length-rest n = rw (length-drop (n % B) (block (n / B)), size (n / B))
+
+  rest-stands : (n : ℕ) → Stands (streamed B block) n (drop (n % B) (block (n / B)))
+  rest-stands n i h =
+      let l : n % B + i < B = omega (arith, length-rest n, mod-lt n pos) in
+      ap (streamed B block) (omega (arith, div-add-mod' n B)) ∙ streamed-at B block (n / B) (n % B + i) l ∙ sym (getD-drop (n % B) (block (n / B)) i 0)
+
+  -- one block's part: from byte n to the block's end, as far as the bytes go
+  pub within-block : (n : ℕ) (ds : List ℕ) → addedFrom (streamed B block) n (take (B - n % B) ds) ≡ sum (drop (n % B) (block (n / B))) ds
+  within-block n ds =
+      ap (λ (k : ℕ). addedFrom (streamed B block) n (take k ds)) (sym (length-rest n)) ∙ added-pad (streamed B block) n _ ds (rest-stands n)
+
+  pub length-within : (n : ℕ) (ds : List ℕ) → length (sum (drop (n % B) (block (n / B))) ds) ≡ min (B - n % B) (length ds)
+  length-within n ds = length-sum _ ds ∙ ap (λ (k : ℕ). min k (length ds)) (length-rest n)
+
+  pub within-taken : (n : ℕ) (ds : List ℕ)
+      → addedFrom (streamed B block) n (take (length (sum (drop (n % B) (block (n / B))) ds)) ds) ≡ sum (drop (n % B) (block (n / B))) ds
+  within-taken n ds = ap (addedFrom (streamed B block) n) (take-sum _ ds) ∙ added-pad (streamed B block) n _ ds (rest-stands n)
+
+  -- whole blocks
+
+  block-stands : (i : ℕ) → Stands (streamed B block) (i * B) (block i)
+  block-stands i j h = streamed-at B block i j (omega (arith, size i))
+
+  pub whole-block : (i : ℕ) (ds : List ℕ) → addedFrom (streamed B block) (i * B) (take B ds) ≡ sum (block i) ds
+  whole-block i ds =
+      ap (λ (k : ℕ). addedFrom (streamed B block) (i * B) (take k ds)) (sym (size i))
+      ∙ added-pad (streamed B block) (i * B) (block i) ds (block-stands i)
+
+  pub length-blocksFrom : (i k : ℕ) → length (blocksFrom block i k) ≡ k * B
+  unfolding blocksFrom
+  length-blocksFrom i zero = sym (zero-mul B)
+  length-blocksFrom i (suc k) = length-append (block i) (blocksFrom block (suc i) k) ∙ omega (arith, size i, length-blocksFrom (suc i) k)
+
+  blocks-stand : (i k : ℕ) → Stands (streamed B block) (i * B) (blocksFrom block i k)
+  unfolding blocksFrom
+  blocks-stand i zero = λ j h. absurd (omega arith)
+  blocks-stand i (suc k) =
+      stands-append (streamed B block) (i * B) (block i) (blocksFrom block (suc i) k) (block-stands i)
+      (λ j h. ap (streamed B block) (omega (arith, size i)) ∙ blocks-stand (suc i) k j h)
+
+  pub whole-blocks : (i k : ℕ) (ds : List ℕ) → addedFrom (streamed B block) (i * B) (take (k * B) ds) ≡ sum (blocksFrom block i k) ds
+  whole-blocks i k ds =
+      ap (λ (m : ℕ). addedFrom (streamed B block) (i * B) (take m ds)) (sym (length-blocksFrom i k))
+      ∙ added-pad (streamed B block) (i * B) (blocksFrom block i k) ds (blocks-stand i k)
+
+-- the sealed counter blocks as a stream of blocks
+
+pub length-sealed64 : (rks : List ℕ) (x : Fox64) (i : ℕ) → length (sealed64 rks x i) ≡ 8
+unfolding sealed64 bytes64 split
+length-sealed64 rks x i = refl
+
+pub length-sealed128 : (rks : List ℕ) (x : Fox128) (i : ℕ) → length (sealed128 rks x i) ≡ 16
+unfolding sealed128 bytes128 split
+length-sealed128 rks x i = refl
+
+-- a part that lies in the first of two lists
+part-first : (at m : ℕ) (xs ys : List ℕ) → at + m ≤ length xs → take m (drop at (xs ++ ys)) ≡ take m (drop at xs)
+part-first at m xs ys h =
+    ap (take m) (drop-append-le at xs ys (omega arith)) ∙ take-append-le m (drop at xs) ys (rw (length-drop at xs) (omega arith))
+
+-- the words of a counter block: those before the last stay, and the last one counts
+module _ (counter : List ℕ) (k i : ℕ) (e : length counter ≡ k + 4) where
+  block-is : counterBlock counter i ≡ take k counter ++ split 4 ((joined (drop k counter) + i) % 2 ^ 32)
+  unfolding counterBlock
+  block-is =
+      let kept : length counter - 4 ≡ k = omega arith in
+      ap (λ (m : ℕ). take m counter ++ split 4 ((joined (drop m counter) + i) % 2 ^ 32)) kept
+
+  word-kept : (at : ℕ) → at + 4 ≤ k → joined (take 4 (drop at (counterBlock counter i))) ≡ joined (take 4 (drop at counter))
+  word-kept at h =
+      let l : at + 4 ≤ length (take k counter) = rw (length-take-le k counter (omega arith)) h in
+      ap joined
+      (ap (λ (xs : List ℕ). take 4 (drop at xs)) block-is ∙ part-first at 4 (take k counter) _ l
+      ∙ sym (part-first at 4 (take k counter) (drop k counter) l) ∙ ap (λ (xs : List ℕ). take 4 (drop at xs)) (take-append-drop k counter))
+
+  word-counted : joined (take 4 (drop k (counterBlock counter i))) ≡ (joined (take 4 (drop k counter)) + i) % 2 ^ 32
+  word-counted =
+      let w = (joined (drop k counter) + i) % 2 ^ 32 in
+      let last : drop k (counterBlock counter i) ≡ split 4 w =
+      ap (drop k) block-is ∙ drop-at (take k counter) (split 4 w) k (length-take-le k counter (omega arith)) in
+      let all : take 4 (drop k counter) ≡ drop k counter = take-all 4 (drop k counter) (rw (length-drop k counter) (omega arith)) in
+      ap (λ (xs : List ℕ). joined (take 4 xs)) last ∙ ap joined (take-all 4 (split 4 w) (rw (length-split 4 w) (omega arith)))
+      ∙ joined-split 4 w (mod-lt _ (zero-lt-suc 4294967295)) ∙ ap (λ (xs : List ℕ). (joined xs + i) % 2 ^ 32) (sym all)
+
+pub counted-64 : (counter : List ℕ) (i : ℕ) → length counter ≡ 8 → state64 (counterBlock counter i) ≡ counted64 (state64 counter) i
+unfolding state64 counted64
+counted-64 counter i e = λ j. record { l = word-kept counter 4 i e 0 (omega arith) j; r = word-counted counter 4 i e j }
+
+pub counted-128 : (counter : List ℕ) (i : ℕ) → length counter ≡ 16 → state128 (counterBlock counter i) ≡ counted128 (state128 counter) i
+unfolding state128 counted128
+counted-128 counter i e =
+    let kept = word-kept counter 12 i e in
+    λ j.
+    record { ll = kept 0 (omega arith) j; lr = kept 4 (omega arith) j; rl = kept 8 (omega arith) j; rr = word-counted counter 12 i e j }
+
+pub run-64 : (c : ℕ) (rks counter : List ℕ) (n : ℕ) (ds : List ℕ) → c ≡ 64 → length counter ≡ 8
+    → runWith c rks counter n ds ≡ addedFrom (stream64 rks (state64 counter)) n ds
+unfolding runWith keyStream stream64 sealed64
+run-64 c rks counter n ds is e =
+    ap (λ (B : ℕ). addedFrom (streamed B (λ (i : ℕ). sealWith c rks (counterBlock counter i))) n ds) (size-64 c is)
+    ∙ addedFrom-same _ _ n ds
+    (streamed-same 8 _ _ (λ i. sealWith-64 c rks (counterBlock counter i) is ∙ ap (λ (x : Fox64). bytes64 (seal64 rks x)) (counted-64 counter i e)))
+
+pub run-128 : (c : ℕ) (rks counter : List ℕ) (n : ℕ) (ds : List ℕ) → (c ≡ 64 → ⊥) → length counter ≡ 16
+    → runWith c rks counter n ds ≡ addedFrom (stream128 rks (state128 counter)) n ds
+unfolding runWith keyStream stream128 sealed128
+run-128 c rks counter n ds isnt e =
+    ap (λ (B : ℕ). addedFrom (streamed B (λ (i : ℕ). sealWith c rks (counterBlock counter i))) n ds) (size-128 c isnt)
+    ∙ addedFrom-same _ _ n ds
+    (streamed-same 16 _ _ (λ i. sealWith-128 c rks (counterBlock counter i) isnt ∙ ap (λ (x : Fox128). bytes128 (seal128 rks x)) (counted-128 counter i e)))

@@ -1,0 +1,5 @@
+-- The laws of the definitions in specs/, and the theorems on runs.
+pub mod Laws
+pub mod Undoing
+pub mod Stretches
+pub mod Counters

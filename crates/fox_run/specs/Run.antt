@@ -1,0 +1,31 @@
+-- A run in counter mode (SP 800-38A §6.5): every byte is added to a byte of the key stream, which is made of the sealed counter blocks one after the
+-- other. Sealing and opening are the same sum.
+-- Assumes nothing.
+use Prim.Native.Nat.{ℕ, suc, _/_, _%_}
+use mathlib.Core.List.{List, [], _∷_}
+use lib.ListN.{getD}
+use Rattle.fox_layers.specs.Words.{_⊕_}
+use Rattle.fox_calls.specs.Refusals.{blockSize}
+use Rattle.fox_cipher.specs.Block.{sealWith, roundKeys}
+use Rattle.fox_run.specs.Counter.{counterBlock}
+
+-- byte n of a stream of blocks of B bytes: byte n mod B of block number n div B
+unfoldable pub streamed : ℕ → (ℕ → List ℕ) → ℕ → ℕ
+streamed B block n = getD (block (n / B)) (n % B) 0
+
+-- bytes added to those of a stream, from its byte number n on
+unfoldable pub addedFrom : (ℕ → ℕ) → ℕ → List ℕ → List ℕ
+addedFrom stream n [] = []
+addedFrom stream n (d ∷ ds) = (stream n ⊕ d) ∷ addedFrom stream (suc n) ds
+
+-- the key stream: the counter blocks, each sealed by the round keys of a list
+unfoldable pub keyStream : ℕ → List ℕ → List ℕ → ℕ → ℕ
+keyStream cipher rks counter = streamed (blockSize cipher) (λ (i : ℕ). sealWith cipher rks (counterBlock counter i))
+
+-- the bytes of a run from its byte number n on, sealed or opened, by the round keys of a list
+unfoldable pub runWith : ℕ → List ℕ → List ℕ → ℕ → List ℕ → List ℕ
+runWith cipher rks counter n bytes = addedFrom (keyStream cipher rks counter) n bytes
+
+-- and by those of a key
+unfoldable pub run : ℕ → ℕ → List ℕ → List ℕ → ℕ → List ℕ → List ℕ
+run cipher rounds key counter n bytes = runWith cipher (roundKeys cipher rounds key) counter n bytes

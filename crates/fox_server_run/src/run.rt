@@ -1,0 +1,65 @@
+// A stretch of a run by the server's way, from a prepared key and from key bytes: every input is answered.
+ghost use Rattle.fox_server.specs.Prepared.{heldKeys};
+ghost use Rattle.fox_run.specs.Calls.{Runs, RunsWith};
+use crate::run64::run64;
+use crate::run128::run128;
+use fox_calls::answer::Answer;
+use fox_calls::refusals::for_run;
+use fox_server::prepared::Prepared;
+use fox_server::prepared::prepare;
+
+// From a prepared key: one that a caller filled himself gets the answer of the round keys that it holds.
+pub fn run(p: Prepared, counter: &[u8], offset: u64, input: &[u8], out: &mut [u8]) -> Answer
+    ensures { λ r. ⌜ RunsWith (p .cipher) (p .rounds) (p .«key_len») (heldKeys p) (now (counter .entry)) offset (now (input .entry)) (now (out .entry)) (now (out .exit)) r ⌝ }
+{
+    let refusal = for_run(
+        p.cipher,
+        p.rounds,
+        p.key_len,
+        counter.len(),
+        offset,
+        input.len(),
+        out.len(),
+    );
+    if refusal != 0 {
+        return Answer::refused(refusal);
+    }
+    let keys = p.keys;
+    let rounds = p.rounds as usize;
+    let first = offset as usize;
+    if p.cipher == 64 {
+        run64(&keys, rounds, counter, first, input, out);
+        return Answer::served(out.len());
+    }
+    run128(&keys, rounds, counter, first, input, out);
+    Answer::served(out.len())
+}
+
+// From key bytes, preparing within the call.
+pub fn run_from_key(
+    cipher: u32,
+    rounds: u32,
+    key: &[u8],
+    counter: &[u8],
+    offset: u64,
+    input: &[u8],
+    out: &mut [u8],
+) -> Answer
+    ensures { λ r. ⌜ Runs cipher rounds (now (key .entry)) (now (counter .entry)) offset (now (input .entry)) (now (out .entry)) (now (out .exit)) r ⌝ }
+{
+    let refusal = for_run(
+        cipher,
+        rounds,
+        key.len(),
+        counter.len(),
+        offset,
+        input.len(),
+        out.len(),
+    );
+    if refusal != 0 {
+        return Answer::refused(refusal);
+    }
+    let made = prepare(cipher, rounds, key);
+    let p = made.key;
+    run(p, counter, offset, input, out)
+}
