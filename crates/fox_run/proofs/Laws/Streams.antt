@@ -13,10 +13,11 @@ use Rattle.fox_layers.proofs.Laws.Words.{length-split, joined-split}
 use Rattle.fox_rounds.specs.Skeleton.{seal64, seal128}
 use Rattle.fox_rounds.specs.declared.fox64.Fox64.{Fox64}
 use Rattle.fox_rounds.specs.declared.fox128.Fox128.{Fox128}
-use Rattle.fox_cipher.specs.Block.{state64, state128, bytes64, bytes128, sealWith}
-use Rattle.fox_cipher.proofs.Laws.Block.{size-64, size-128, sealWith-64, sealWith-128}
+use Rattle.fox_schedule.specs.Schedule.{roundKeys64, roundKeys128}
+use Rattle.fox_cipher.specs.Block.{state64, state128, bytes64, bytes128, sealWith, roundKeys}
+use Rattle.fox_cipher.proofs.Laws.Block.{size-64, size-128, sealWith-64, sealWith-128, roundKeys-64, roundKeys-128}
 use Rattle.fox_run.specs.Counter.{counterBlock}
-use Rattle.fox_run.specs.Run.{streamed, addedFrom, keyStream, runWith}
+use Rattle.fox_run.specs.Run.{streamed, addedFrom, keyStream, runWith, run}
 use Rattle.fox_run.specs.States.{counted64, counted128, sealed64, sealed128, stream64, stream128}
 use Rattle.fox_run.proofs.Laws.Sums.{length-sum, take-sum}
 use Rattle.fox_run.proofs.Laws.Added.{addedFrom-same}
@@ -172,3 +173,18 @@ run-128 c rks counter n ds isnt e =
     ap (λ (B : ℕ). addedFrom (streamed B (λ (i : ℕ). sealWith c rks (counterBlock counter i))) n ds) (size-128 c isnt)
     ∙ addedFrom-same _ _ n ds
     (streamed-same 16 _ _ (λ i. sealWith-128 c rks (counterBlock counter i) isnt ∙ ap (λ (x : Fox128). bytes128 (seal128 rks x)) (counted-128 counter i e)))
+
+-- a run by the key's own round keys
+pub run-key-64 : (c r m : ℕ) (key counter : List ℕ) (n : ℕ) (ds : List ℕ) → c ≡ 64 → length counter ≡ 8 → m ≡ r
+    → addedFrom (stream64 (roundKeys64 m key) (state64 counter)) n ds ≡ run c r key counter n ds
+unfolding run
+run-key-64 c r m key counter n ds e l whole =
+    ap (λ (ks : List ℕ). addedFrom (stream64 ks (state64 counter)) n ds) (ap (λ (k : ℕ). roundKeys64 k key) whole ∙ sym (roundKeys-64 c r key e))
+    ∙ sym (run-64 c (roundKeys c r key) counter n ds e l)
+
+pub run-key-128 : (c r m : ℕ) (key counter : List ℕ) (n : ℕ) (ds : List ℕ) → (c ≡ 64 → ⊥) → length counter ≡ 16 → m ≡ r
+    → addedFrom (stream128 (roundKeys128 m key) (state128 counter)) n ds ≡ run c r key counter n ds
+unfolding run
+run-key-128 c r m key counter n ds e l whole =
+    ap (λ (ks : List ℕ). addedFrom (stream128 ks (state128 counter)) n ds) (ap (λ (k : ℕ). roundKeys128 k key) whole ∙ sym (roundKeys-128 c r key e))
+    ∙ sym (run-128 c (roundKeys c r key) counter n ds e l)

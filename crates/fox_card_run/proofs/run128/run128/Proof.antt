@@ -54,19 +54,25 @@ step128-requires c κs = search needs
 add-at : tie.Need-add-at Inv-loop μ-loop
 add-at c =
     let at = c .before .before .before .before .before .before in
-    omega (arith, step-within _ _ _ _ _ _ _ _ _ (at .loop .inv .0) (c .before .before .step128 .ensures))
+    let a = at .before .before .before .args in
+    let step = c .before .before .step128 in
+    omega (arith, step-within 16 (a .n) (at .loop .at) (step .result) (a .input .now) (at .loop .inv .0) (step .ensures .count))
 
 loop-less : tie.Need-loop-less Inv-loop μ-loop
 loop-less c =
     let at = c .before .before .before .before .before .before in
     let a = at .before .before .before .args in
+    let step = c .before .before .step128 in
     let more : at .loop .at < length (a .input .now) = search needs in
-    omega (arith, step-some _ _ _ _ _ _ _ _ _ (at .loop .inv .0) (c .before .before .step128 .ensures) (omega arith) more)
+    omega (arith, step-some 16 (a .n) (at .loop .at) (step .result) (a .input .now) (at .loop .inv .0) (step .ensures .count) (omega arith) more)
 
 loop-again : tie.Need-loop-again Inv-loop μ-loop
 loop-again c =
     let at = c .before .before .before .before .before .before in
-    step-laid _ _ _ _ _ _ _ _ _ (at .loop .inv .0) (c .before .before .step128 .ensures) (at .before .before .before .pre .2) (at .loop .inv .2)
+    let a = at .before .before .before .args in
+    let step = c .before .before .step128 in
+    step-laid _ 16 (a .n) (at .loop .at) (step .result) (a .input .now) (a .out .now) (at .loop .out) _ (at .loop .inv .0) (at .before .before .before .pre .2)
+    (at .loop .inv .2) (step .ensures)
 
 same-length : tie.Need-same-length Inv-loop μ-loop
 same-length c = search needs

@@ -1,0 +1,39 @@
+-- `run::run128_key` meets its contract: the schedule of the key makes the round keys of the definition, in their order.
+-- Assumes nothing.
+use borrow.Author.Needs.{needs}
+use mathlib.Core.Path.{sym, ap₂, _∙_}
+use mathlib.Core.List.{List}
+use Prim.Native.Nat.{ℕ}
+use Rattle.fox_rounds.specs.declared.fox128.Fox128.{Fox128}
+use Rattle.fox_schedule.specs.Step.{keyAt128}
+use Rattle.fox_schedule.proofs.Laws.Schedules.{roundKeys128-made}
+use Rattle.fox_run.specs.Run.{addedFrom}
+use Rattle.fox_run.specs.States.{stream128}
+use Rattle.fox_card_run.proofs.run.run128_key.Statement.{statement}
+use Rattle.fox_card_run.proofs.run.run128_key.Tie as tie
+
+of-requires : tie.Need-of-requires
+of-requires c κs = search needs
+
+read128-requires : tie.Need-read128-requires
+read128-requires c κs = search needs
+
+run128-requires : tie.Need-run128-requires
+run128-requires c κs = search needs
+
+same-length : tie.Need-same-length
+same-length c = search needs
+
+returns : tie.Need-returns
+unfolding keyAt128
+returns c =
+    let call = c .before .before in
+    let read = call .before .before in
+    let made = read .before in
+    let a = made .before .before .before .before .before .args in
+    call .run128 .ensures
+    ∙ ap₂ (λ (ks : List ℕ) (x : Fox128). addedFrom (stream128 ks x) (a .offset) (a .input .now))
+    (sym (roundKeys128-made (a .rounds) (a .key .now) (made .of .result) (made .of .ensures))) (read .read128 .ensures)
+
+pub run128-key-spec : {M : Type 1} → statement M
+run128-key-spec = tie.close (tie.spec of-requires read128-requires run128-requires same-length returns)

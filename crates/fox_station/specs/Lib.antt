@@ -1,0 +1,2 @@
+-- What the station's exports promise.
+pub mod Exports
