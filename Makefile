@@ -1,6 +1,7 @@
 # make run    the main job, as a newcomer would first want to see it
 # make test   the whole gate
-.PHONY: run test count fmt clean
+# make speed  the library's speed beside that of straight C code
+.PHONY: run test count speed fmt clean
 
 run:
 	@echo "proving and building (some three minutes the first time)"
@@ -15,6 +16,9 @@ count:
 	@rt check fox_probe >/dev/null || rt check fox_probe
 	@sh tests/instructions.sh
 	@sh tests/measure.sh
+
+speed:
+	@sh tests/speed.sh
 
 fmt:
 	@rt fmt

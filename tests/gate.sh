@@ -28,6 +28,7 @@ part() { # NAME COMMAND..
 part "rt ci" rt ci
 part "instructions" sh tests/instructions.sh
 part "measure" sh tests/measure.sh
+part "run" sh tests/run.sh
 
 mkdir -p target
 echo "$passed passed, $failed failed" | tee target/gate.sum

@@ -2,3 +2,4 @@
 pub mod answer;
 pub mod bytes;
 pub mod refusals;
+pub mod stretch;

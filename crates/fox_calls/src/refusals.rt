@@ -1,9 +1,8 @@
-// The refusals of a key, of a block and of a stretch of a run: the first that applies, and 0 where none does.
+// The refusals of a key and of a block: the first that applies, and 0 where none does.
 ghost use mathlib.Core.Path.{_≡_};
-ghost use Rattle.fox_calls.specs.Refusals.{refusalOf, blockSize, noCipher, noRounds, longKey, pastEnd, forKey, forBlock, forRun};
+ghost use Rattle.fox_calls.specs.Refusals.{refusalOf, blockSize, noCipher, noRounds, longKey, forKey, forBlock};
 use fox_rounds::fox64::Fox64;
 use fox_rounds::fox128::Fox128;
-use std::num::wrapping_add_u64;
 
 pub fn block_size(cipher: u32) -> usize
     ensures { λ r. ⌜ r ≡ blockSize cipher ⌝ }
@@ -71,49 +70,6 @@ pub fn for_block(cipher: u32, rounds: u32, key_len: usize, block_len: usize, out
     }
     if out_len != block_len {
         return 6;
-    }
-    0
-}
-
-// The true sum of offset and length: one that wraps comes out below the offset.
-fn past_end(offset: u64, input_len: u64) -> bool
-    ensures { λ r. ⌜ r ≡ pastEnd offset «input_len» .applies ⌝ }
-{
-    let end = wrapping_add_u64(offset, input_len);
-    if end < offset {
-        return true;
-    }
-    end > 1_073_741_824
-}
-
-pub fn for_run(
-    cipher: u32,
-    rounds: u32,
-    key_len: usize,
-    counter_len: usize,
-    offset: u64,
-    input_len: usize,
-    out_len: usize,
-) -> u32
-    ensures { λ r. ⌜ r ≡ refusalOf (forRun cipher rounds «key_len» «counter_len» offset «input_len» «out_len») ⌝ }
-{
-    let refusal = for_key(cipher, rounds, key_len);
-    if refusal != 0 {
-        return refusal;
-    }
-    let size = block_size(cipher);
-    if counter_len != size {
-        return 4;
-    }
-    if input_len > 65_536 {
-        return 5;
-    }
-    if out_len != input_len {
-        return 6;
-    }
-    let past = past_end(offset, input_len as u64);
-    if past {
-        return 7;
     }
     0
 }

@@ -10,7 +10,7 @@ ghost use Rattle.fox_run.specs.States.{stream64, stream128};
 use crate::run64::run64;
 use crate::run128::run128;
 use fox_calls::answer::Answer;
-use fox_calls::refusals::for_run;
+use fox_calls::stretch::for_run;
 use fox_cipher::blocks::read64;
 use fox_cipher::blocks::read128;
 use fox_schedule::step::Schedule64;

@@ -1,3 +1,2 @@
 -- What the exports cite besides the definitions below them.
 pub mod Again
-pub mod Handed

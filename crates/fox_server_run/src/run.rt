@@ -4,7 +4,7 @@ ghost use Rattle.fox_run.specs.Calls.{Runs, RunsWith};
 use crate::run64::run64;
 use crate::run128::run128;
 use fox_calls::answer::Answer;
-use fox_calls::refusals::for_run;
+use fox_calls::stretch::for_run;
 use fox_server::prepared::Prepared;
 use fox_server::prepared::prepare;
 

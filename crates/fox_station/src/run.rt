@@ -1,5 +1,5 @@
 // A stretch of a run, by either way.
-ghost use Rattle.fox_station.specs.Exports.{Runs};
+ghost use Rattle.fox_station.specs.Exports.{RunHanded};
 use fox_card_run::run::run;
 use fox_server_run::run::run_from_key;
 
@@ -13,7 +13,7 @@ pub extern "C" fn fox_card_run(
     input: &[u8],
     out: &mut [u8],
 ) -> u32
-    ensures { λ r. ⌜ Runs cipher rounds (now (key .entry)) (now (counter .entry)) offset (now (input .entry)) (now (out .entry)) (now (out .exit)) r ⌝ }
+    ensures { λ r. ⌜ RunHanded cipher rounds (now (key .entry)) (now (counter .entry)) offset (now (input .entry)) (now (out .entry)) (now (out .exit)) r ⌝ }
 {
     let answer = run(cipher, rounds, key, counter, offset, input, out);
     answer.refusal
@@ -29,7 +29,7 @@ pub extern "C" fn fox_server_run(
     input: &[u8],
     out: &mut [u8],
 ) -> u32
-    ensures { λ r. ⌜ Runs cipher rounds (now (key .entry)) (now (counter .entry)) offset (now (input .entry)) (now (out .entry)) (now (out .exit)) r ⌝ }
+    ensures { λ r. ⌜ RunHanded cipher rounds (now (key .entry)) (now (counter .entry)) offset (now (input .entry)) (now (out .entry)) (now (out .exit)) r ⌝ }
 {
     let answer = run_from_key(cipher, rounds, key, counter, offset, input, out);
     answer.refusal

@@ -1,11 +1,11 @@
--- What a call over the C interface hands back: the refusal number, from which the count follows, and the output.
+-- The whole answer of a call over the C interface, which hands back the refusal number alone: the count follows from it.
 -- Assumes nothing.
 use mathlib.Core.Path.{_≡_}
 use Prim.Native.Nat.{ℕ}
 use mathlib.Core.List.{List}
 use mathlib.Core.Bool.{cond}
 use lib.Dec.{eqb}
 use Rattle.fox_calls.specs.Refusals.{Refusal, refusalOf}
 
 pub record Handed (refusals : List Refusal) (value before after : List ℕ) (r : ℕ) : Type 0 where
   pub refusal : r ≡ refusalOf refusals

@@ -1,4 +1,4 @@
--- `refusals::for_run` meets its contract: a refusal of the key is the whole list's, and where there is none the stretch's four tests decide, in their order.
+-- `stretch::for_run` meets its contract: a refusal of the key is the whole list's, and where there is none the stretch's four tests decide, in their order.
 -- Assumes nothing.
 use mathlib.Core.Path.{_≡_, sym, _∙_}
 use mathlib.Core.Bool.{false}
@@ -7,8 +7,8 @@ use native.Mathlib.Omega.{arith}
 use borrow.Author.Needs.{needs}
 use Rattle.fox_calls.specs.Refusals.{refusalOf, forRun, noBlock, longData, noOutput, pastEnd}
 use Rattle.fox_calls.proofs.Laws.Refusals.{refusal-here, refusal-later, stretchOnly, forRun-refused, forRun-served, block-refused, block-passed, long-refused, long-passed, output-refused, output-passed}
-use Rattle.fox_calls.proofs.refusals.for_run.Statement.{statement}
-use Rattle.fox_calls.proofs.refusals.for_run.Tie as tie
+use Rattle.fox_calls.proofs.stretch.for_run.Statement.{statement}
+use Rattle.fox_calls.proofs.stretch.for_run.Tie as tie
 
 for-key-requires : tie.Need-for-key-requires
 for-key-requires c κs = search needs

@@ -1,4 +1,4 @@
--- `refusals::past_end` meets its contract: a sum that wraps is above every limit and comes out below the offset; one that does not is the true sum.
+-- `stretch::past_end` meets its contract: a sum that wraps is above every limit and comes out below the offset; one that does not is the true sum.
 -- Assumes nothing.
 use mathlib.Core.Path.{_≡_, sym, ap}
 use Prim.Native.Nat.{ℕ, _+_, _%_, _^_, _<_, _≤_}
@@ -8,8 +8,8 @@ use borrow.Author.Needs.{needs}
 use lib.Dec.{ltb}
 use borrow.Author.Tests.{lt-ltb}
 use Rattle.fox_calls.specs.Refusals.{pastEnd}
-use Rattle.fox_calls.proofs.refusals.past_end.Statement.{statement}
-use Rattle.fox_calls.proofs.refusals.past_end.Tie as tie
+use Rattle.fox_calls.proofs.stretch.past_end.Statement.{statement}
+use Rattle.fox_calls.proofs.stretch.past_end.Tie as tie
 
 -- a sum that comes out below one of its terms has wrapped
 wrapped : (n d e : ℕ) → e ≡ (n + d) % 2 ^ 64 → e < n → 1073741824 < n + d

@@ -1,0 +1,237 @@
+/* The speed of the library's runs beside that of straight C code, side by side in one process. The C code is first held to the library's own
+ * answers, and nothing is measured where they differ. Usage: speed [emulated]. A figure that is missed is said and is no error. */
+#define _GNU_SOURCE
+#include <stdio.h>
+#include <stdlib.h>
+#include <string.h>
+#include <time.h>
+#include "fox_run.h"
+#include "straight.h"
+
+#define COUNT(a) (sizeof(a) / sizeof *(a))
+
+enum { STRETCH = 65536, SHORT_STRETCH = 2048, ROUNDS = 16, PAIRS = 41, HIGH = 1073741824 - STRETCH };
+
+static uint8_t key[32], counter[16], input[STRETCH], out[STRETCH], answer[STRETCH];
+static uint32_t cipher, rounds = ROUNDS;
+static size_t key_len;
+static struct straight_key prepared;
+static volatile uint32_t sink;
+
+static void fill(uint8_t *bytes, size_t count, uint64_t seed)
+{
+    for (size_t i = 0; i < count; i++) {
+        seed = seed * 6364136223846793005u + 1442695040888963407u;
+        bytes[i] = (uint8_t)(seed >> 56);
+    }
+}
+
+/* What is compared. Each works on the first `len` bytes of the input; the prepared key is ready. */
+
+typedef uint32_t work(uint64_t offset, size_t len);
+
+static uint32_t server(uint64_t offset, size_t len)
+{
+    return fox_server_run(cipher, rounds, key, key_len, counter, cipher / 8, offset, input, len, out, len);
+}
+
+static uint32_t card(uint64_t offset, size_t len)
+{
+    return fox_card_run(cipher, rounds, key, key_len, counter, cipher / 8, offset, input, len, out, len);
+}
+
+static uint32_t one(uint64_t offset, size_t len)
+{
+    straight_run_one(&prepared, counter, offset, input, len, out);
+    return 0;
+}
+
+static uint32_t four(uint64_t offset, size_t len)
+{
+    straight_run_four(&prepared, counter, offset, input, len, out);
+    return 0;
+}
+
+static uint32_t small(uint64_t offset, size_t len)
+{
+    straight_run_small(cipher, rounds, key, key_len, counter, offset, input, len, out);
+    return 0;
+}
+
+static void set(uint32_t new_cipher, uint32_t new_rounds, size_t new_key_len)
+{
+    cipher = new_cipher;
+    rounds = new_rounds;
+    key_len = new_key_len;
+    straight_prepare(&prepared, cipher, rounds, key, key_len);
+}
+
+/* Holds every kind to the server's answer. */
+static int agrees(uint64_t offset, size_t len)
+{
+    static const struct {
+        const char *name;
+        work *work;
+    } kinds[] = {{"the card", card}, {"one block at a time", one}, {"four blocks at a time", four}, {"small boxes", small}};
+    if (server(offset, len) != 0) {
+        printf("speed: the server refused\n");
+        return 0;
+    }
+    memcpy(answer, out, len);
+    for (size_t i = 0; i < COUNT(kinds); i++) {
+        memset(out, 0, len);
+        if (kinds[i].work(offset, len) != 0 || memcmp(out, answer, len) != 0) {
+            printf("speed: FOX%u, %u rounds, key of %zu, offset %llu, %zu bytes: %s differs from the server\n", cipher, rounds, key_len,
+                   (unsigned long long)offset, len, kinds[i].name);
+            return 0;
+        }
+    }
+    return 1;
+}
+
+static int all_agree(void)
+{
+    static const size_t lengths[] = {0, 5, 15, 16, 17, 24, 31, 32};
+    static const uint64_t offsets[] = {0, 1, 7, 8, 29, HIGH + 3};
+    for (uint32_t c = 64; c <= 128; c += 64)
+        for (size_t k = 0; k < COUNT(lengths); k++) {
+            set(c, k % 2 == 0 ? 16 : 13, lengths[k]);
+            fill(counter, sizeof counter, c + k);
+            memset(counter + c / 8 - 4, 0xFF, k % 4);
+            for (size_t i = 0; i < COUNT(offsets); i++)
+                if (!agrees(offsets[i], 0) || !agrees(offsets[i], 1) || !agrees(offsets[i], 333))
+                    return 0;
+        }
+    return 1;
+}
+
+static double now(void)
+{
+    struct timespec t;
+    clock_gettime(CLOCK_MONOTONIC, &t);
+    return (double)t.tv_sec * 1e9 + (double)t.tv_nsec;
+}
+
+static double ticks(void)
+{
+#ifdef __x86_64__
+    return (double)__builtin_ia32_rdtsc();
+#else
+    return 0;
+#endif
+}
+
+/* Ticks of the processor's time stamp counter in a nanosecond. They are cycles only where the clock stands at its nominal rate. */
+static double tick_rate(void)
+{
+    double t = now(), began = ticks();
+    while (now() - t < 2e7)
+        ;
+    return (ticks() - began) / (now() - t);
+}
+
+struct side {
+    const char *name;
+    work *work;
+    uint64_t offset;
+    size_t len;
+};
+
+static double timed(const struct side *s, int repeats)
+{
+    double began = now();
+    for (int i = 0; i < repeats; i++) {
+        sink += s->work(s->offset, s->len);
+        sink += out[s->len - 1];
+    }
+    return (now() - began) / repeats;
+}
+
+static int ascending(const void *a, const void *b)
+{
+    double x = *(const double *)a, y = *(const double *)b;
+    return (x > y) - (x < y);
+}
+
+struct figure {
+    double ratio, low, high, a, b;
+};
+
+/* How many times as fast a is as b: in each pair both are timed one after the other, so that what slows the machine for a while slows both. */
+static struct figure compared(const struct side *a, const struct side *b)
+{
+    static double ratios[PAIRS], as[PAIRS], bs[PAIRS];
+    timed(b, 1);
+    double first = timed(a, 1);
+    int repeats = first < 2e6 ? (int)(2e6 / first) + 1 : 1;
+    for (int i = 0; i < PAIRS; i++) {
+        if (i % 2 == 0) {
+            as[i] = timed(a, repeats);
+            bs[i] = timed(b, repeats);
+        } else {
+            bs[i] = timed(b, repeats);
+            as[i] = timed(a, repeats);
+        }
+        ratios[i] = bs[i] / as[i];
+    }
+    qsort(ratios, PAIRS, sizeof *ratios, ascending);
+    qsort(as, PAIRS, sizeof *as, ascending);
+    qsort(bs, PAIRS, sizeof *bs, ascending);
+    return (struct figure){ratios[PAIRS / 2], ratios[PAIRS / 4], ratios[PAIRS - 1 - PAIRS / 4], as[PAIRS / 2], bs[PAIRS / 2]};
+}
+
+static int emulated;
+static double rate;
+
+static void show(const struct side *a, const struct side *b, double asked)
+{
+    char what[64], verdict[32] = "-";
+    struct figure f = compared(a, b);
+    double bytes = (double)a->len;
+    snprintf(what, sizeof what, "%s / %s", a->name, b->name);
+    if (asked > 0)
+        snprintf(verdict, sizeof verdict, "%.1f %s", asked, emulated ? "not told here" : f.ratio >= asked ? "met" : "MISSED");
+    printf("FOX%-4u %3zu  %-36s %6.2f  %6.2f %6.2f  %8.2f %8.2f  %7.1f %7.1f  %s\n", cipher, key_len, what, f.ratio, f.low, f.high,
+           bytes * 1e3 / f.a, bytes * 1e3 / f.b, f.a * rate / bytes, f.b * rate / bytes, verdict);
+}
+
+static void show_all(uint32_t c, size_t k, double asked)
+{
+    const struct side from_start = {"server", server, 0, STRETCH}, high = {"server, high offset", server, HIGH, STRETCH};
+    const struct side by_one = {"C, one block", one, 0, STRETCH}, by_four = {"C, four blocks", four, 0, STRETCH};
+    const struct side by_card = {"card", card, 0, SHORT_STRETCH}, by_small = {"C, small boxes", small, 0, SHORT_STRETCH};
+    set(c, ROUNDS, k);
+    show(&from_start, &by_one, asked);
+    show(&from_start, &by_four, 0);
+    show(&high, &from_start, 0);
+    show(&by_card, &by_small, 0);
+}
+
+static void warn(void)
+{
+    if (emulated)
+        printf("speed: UNDER AN EMULATOR: THESE TIMES SAY NOTHING OF ANY PROCESSOR\n");
+}
+
+int main(int count, char **words)
+{
+    setvbuf(stdout, NULL, _IOLBF, 0);
+    emulated = count > 1 && strcmp(words[1], "emulated") == 0;
+    fill(key, sizeof key, 1);
+    fill(input, sizeof input, 3);
+    straight_tables();
+    if (!all_agree())
+        return 1;
+    printf("speed: the C code answers as the library does; %d bytes (card: %d), %d rounds, medians of %d pairs\n", STRETCH, SHORT_STRETCH, ROUNDS, PAIRS);
+    printf("speed: the server's time is from key bytes, while the C code by tables has its round keys prepared\n");
+    printf("speed: a ratio says how many times as fast the first is as the second; lower and upper are its quartiles\n");
+    warn();
+    rate = tick_rate();
+    printf("%-7s %3s  %-36s %6s  %6s %6s  %8s %8s  %7s %7s  %s\n", "cipher", "key", "what", "ratio", "lower", "upper",
+           "MB/s", "other's", "ticks/B", "other's", "asked");
+    show_all(64, 16, 2.0);
+    show_all(64, 32, 2.0);
+    show_all(128, 16, 1.8);
+    warn();
+    return 0;
+}
