@@ -1,0 +1,3 @@
+-- Laws that the proofs of both ciphers share.
+pub mod Four
+pub mod Held

@@ -1,0 +1,96 @@
+-- `run::run` meets its contract: a refused call hands back the first refusal that applies and writes nothing; past the refusals the rounds and lengths are
+-- those that the stretch for the cipher asks, and the round keys are those that the prepared key holds.
+-- Assumes nothing.
+use mathlib.Core.Path.{_≡_, refl, sym, _∙_}
+use lib.ListN.{length}
+use Rattle.fox_calls.specs.Refusals.{refusalOf, forRun, Stretched}
+use Rattle.fox_calls.proofs.Laws.Refusals.{stretched}
+use Rattle.fox_calls.proofs.Laws.Reply.{served-reply, refused-reply}
+use Rattle.fox_server_run.proofs.Laws.Held.{asked-64, asked-128, held-run-64, held-run-128}
+use borrow.Author.Needs.{needs}
+use Rattle.fox_server_run.proofs.run.run.Statement.{statement}
+use Rattle.fox_server_run.proofs.run.run.Tie as tie
+
+-- past the refusals
+module _ (c : tie.Else1) where
+  zero : refusalOf (forRun (c .before .before .before .before .before .args .p .cipher) (c .before .before .before .before .before .args .p .rounds) (c .before .before .before .before .before .args .p .«key_len») (length (c .before .before .before .before .before .args .counter .now)) (c .before .before .before .before .before .args .offset) (length (c .before .before .before .before .before .args .input .now)) (length (c .before .before .before .before .before .args .out .now))) ≡ 0
+  zero = sym (c .before .for-run .ensures) ∙ c .if1 .left
+
+  served : Stretched (c .before .before .before .before .before .args .p .cipher) (c .before .before .before .before .before .args .p .rounds) (c .before .before .before .before .before .args .p .«key_len») (length (c .before .before .before .before .before .args .counter .now)) (c .before .before .before .before .before .args .offset) (length (c .before .before .before .before .before .args .input .now)) (length (c .before .before .before .before .before .args .out .now))
+  served = stretched _ _ _ _ _ _ _ zero
+
+for-run-requires : tie.Need-for-run-requires
+for-run-requires c κs = search needs
+
+refused-requires : tie.Need-refused-requires
+refused-requires c κs = search needs
+
+returns : tie.Need-returns
+returns c =
+    let at = c .before in
+    let e = at .before .for-run .ensures in
+    refused-reply _ _ _ _ _ (c .refused .ensures .0 ∙ e) (λ z. at .if1 .taken (e ∙ z)) (c .refused .ensures .1) refl
+
+cast-rounds : tie.Need-cast-rounds
+cast-rounds c = search needs
+
+run64-requires : tie.Need-run64-requires
+run64-requires c κs =
+    let test = c .before .before in
+    let at = test .before .before .before .before in
+    asked-64 (served at) (test .if2 .taken)
+
+served-requires : tie.Need-served-requires
+served-requires c κs = search needs
+
+same-length : tie.Need-same-length
+same-length c = search needs
+
+returns-2 : tie.Need-returns-2
+returns-2 c =
+    let laid = c .before .before .before in
+    let test = laid .before .before .before in
+    let at = test .before .before .before .before in
+    let a = at .before .before .before .before .before .args in
+    let sizes = asked-64 (served at) (test .if2 .taken) in
+    served-reply _ _ _ _ _ (zero at) (c .served .ensures .0) (c .served .ensures .1 ∙ laid .run64 .kept .1 .1 .1 .1 .1 .0)
+    (laid .run64 .ensures ∙ held-run-64 (a .p) (a .counter .now) (a .offset) (a .input .now) (test .if2 .taken) (sizes .2))
+
+run128-requires : tie.Need-run128-requires
+run128-requires c κs =
+    let test = c .before .before in
+    let at = test .before .before .before .before in
+    asked-128 (served at) (test .if2 .left)
+
+served-requires-2 : tie.Need-served-requires-2
+served-requires-2 c κs = search needs
+
+same-length-2 : tie.Need-same-length-2
+same-length-2 c = search needs
+
+returns-3 : tie.Need-returns-3
+returns-3 c =
+    let laid = c .before .before .before in
+    let test = laid .before .before .before in
+    let at = test .before .before .before .before in
+    let a = at .before .before .before .before .before .args in
+    let sizes = asked-128 (served at) (test .if2 .left) in
+    served-reply _ _ _ _ _ (zero at) (c .served2 .ensures .0) (c .served2 .ensures .1 ∙ laid .run128 .kept .1 .1 .1 .1 .1 .0)
+    (laid .run128 .ensures ∙ held-run-128 (a .p) (a .counter .now) (a .offset) (a .input .now) (test .if2 .left) (sizes .2))
+
+pub run-spec : {M : Type 1} → statement M
+run-spec =
+    tie.close
+    (tie.spec
+    for-run-requires
+    refused-requires
+    returns
+    cast-rounds
+    run64-requires
+    served-requires
+    same-length
+    returns-2
+    run128-requires
+    served-requires-2
+    same-length-2
+    returns-3)

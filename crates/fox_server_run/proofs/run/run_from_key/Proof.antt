@@ -1,0 +1,59 @@
+-- `run::run_from_key` meets its contract: refusals are those of the key bytes; past them the prepared key is that of the key, and holds the round keys of the
+-- definition.
+-- Assumes nothing.
+use mathlib.Core.Path.{refl, sym, _∙_}
+use mathlib.Core.List.{List}
+use Prim.Native.Nat.{ℕ}
+use Rattle.fox_calls.proofs.Laws.Refusals.{forRun-key}
+use Rattle.fox_calls.proofs.Laws.Reply.{refused-reply}
+use Rattle.fox_server.proofs.Laws.Prepares.{from-prepared}
+use Rattle.fox_run.specs.Calls.{RunsWith}
+use Rattle.fox_run.proofs.Laws.Calls.{by-key}
+use borrow.Author.Needs.{needs}
+use Rattle.fox_server_run.proofs.run.run_from_key.Statement.{statement}
+use Rattle.fox_server_run.proofs.run.run_from_key.Tie as tie
+
+for-run-requires : tie.Need-for-run-requires
+for-run-requires c κs = search needs
+
+refused-requires : tie.Need-refused-requires
+refused-requires c κs = search needs
+
+returns : tie.Need-returns
+returns c =
+    let at = c .before in
+    let e = at .before .for-run .ensures in
+    refused-reply _ _ _ _ _ (c .refused .ensures .0 ∙ e) (λ z. at .if1 .taken (e ∙ z)) (c .refused .ensures .1) refl
+
+prepare-requires : tie.Need-prepare-requires
+prepare-requires c κs = search needs
+
+run-requires : tie.Need-run-requires
+run-requires c κs = search needs
+
+same-length : tie.Need-same-length
+same-length c = search needs
+
+returns-2 : tie.Need-returns-2
+returns-2 c =
+    let call = c .before .before in
+    let made = call .before .before .before in
+    let test = made .before in
+    let a = test .before .before .before .before .before .before .args in
+    let zero = sym (test .before .for-run .ensures) ∙ test .if1 .left in
+    by-key (a .cipher) (a .rounds) (a .key .now) (a .counter .now) (a .offset) (a .input .now)
+    (from-prepared
+    (λ (cipher rounds keyLen : ℕ) (rks : List ℕ). RunsWith cipher rounds keyLen rks (a .counter .now) (a .offset) (a .input .now) (a .out .now) (call .run .last .1 .1 .1 .1 .0) (call .run .result))
+    (a .cipher) (a .rounds) (a .key .now) (made .prepare .result) (forRun-key _ _ _ _ _ _ _ zero) (made .prepare .ensures) (call .run .ensures))
+
+pub run-from-key-spec : {M : Type 1} → statement M
+run-from-key-spec =
+    tie.close
+    (tie.spec
+    for-run-requires
+    refused-requires
+    returns
+    prepare-requires
+    run-requires
+    same-length
+    returns-2)
