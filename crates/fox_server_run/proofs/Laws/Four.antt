@@ -1,5 +1,5 @@
 -- Bytes added to four blocks of a stream side by side: two blocks laid one after the other are their bytes joined, and four whole blocks from the one on
--- that byte n begins are the stream from byte n on.
+-- that byte n begins are the stream from byte n on. And a stretch laid down in three parts, each beginning where the one before it ended.
 -- Assumes nothing.
 use mathlib.Core.Path.{_≡_, sym, ap, ap₂, _∙_}
 use mathlib.Core.List.{List, _++_, append-assoc, append-nil}

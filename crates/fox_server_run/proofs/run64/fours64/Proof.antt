@@ -1,5 +1,5 @@
--- `run64::fours64` meets its contract: whenever the loop's test is reached, the run's bytes stand in the output up to where the loop is, which is at the
--- beginning of a block, and the rest of it is as it was. A turn lays four blocks down.
+-- `run64::fours64` meets its contract: whenever the loop's test is reached, a whole number of blocks is laid down, the run's bytes stand in the output up to
+-- where the loop is, and the rest of it is as it was. A turn lays four blocks down.
 -- Assumes nothing.
 use mathlib.Core.Path.{_≡_}
 use Prim.Native.Nat.{_+_, _-_, _%_, _≤_}
