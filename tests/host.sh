@@ -25,9 +25,9 @@ run_host() { # PROGRAM WORDS..
     if [ -n "$EMULATOR" ]; then "$EMULATOR" "$@"; else "$@"; fi
 }
 
-static_library() { # CRATE: makes its static library if it is not there
+static_library() { # CRATE: makes its static library, also where there is one, which may be of older sources
     mkdir -p build target/log
-    [ -f "target/staticlib/lib$1.a" ] || rt staticlib "$1" >"target/log/$1.staticlib" 2>&1 || {
+    rt staticlib "$1" >"target/log/$1.staticlib" 2>&1 || {
         tail -n 5 "target/log/$1.staticlib"
         return 1
     }

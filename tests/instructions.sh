@@ -5,6 +5,7 @@
 # Last line: 'N passed, M failed'.
 set -u
 cd "$(dirname "$0")/.." || exit 2
+. tests/host.sh
 
 disassembler=''
 for d in x86_64-linux-gnu-objdump llvm-objdump objdump; do
@@ -19,12 +20,7 @@ if [ -z "$disassembler" ]; then
     exit 0
 fi
 
-rt staticlib fox_probe >target/log/fox_probe.staticlib 2>&1 || {
-    tail -n 5 target/log/fox_probe.staticlib
-    echo "instructions: fox_probe was not built"
-    echo "0 passed, 1 failed"
-    exit 1
-}
+static_library fox_probe || failed_to instructions "fox_probe was not built"
 "$disassembler" -d --no-show-raw-insn target/staticlib/libfox_probe.a >target/log/fox_probe.code
 
 passed=0 failed=0

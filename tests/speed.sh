@@ -27,7 +27,7 @@ if [ "$(uname -m)" != x86_64 ]; then
         EMULATOR=''
         compiler=gcc
         ! works clang || compiler=clang
-        measure "$compiler" build/fox_station.here.o ./build/speed
+        measure "$compiler" build/fox_station.here.o ./build/speed elsewhere
         exit
     fi
 fi

@@ -247,13 +247,13 @@ static inline uint64_t load8(const uint8_t *p)
 static inline void nonlinear4(uint32_t *t, const uint8_t *bytes, int count, int full)
 {
     uint32_t sum[2] = {0, 0};
-    int quarter = count / 4;
+    int last = count / 4 - 1; /* A quarter is one word or two, so this masks the place in it, and nothing is divided. */
     for (int i = 0; i < count; i++) {
         t[i] = mu4(sigma4(load4(bytes + 4 * i)));
-        sum[i % quarter] ^= t[i];
+        sum[i & last] ^= t[i];
     }
     for (int i = 0; i < count; i++)
-        t[i] = sigma4(t[i] ^ sum[i % quarter] ^ load4(pad + 4 * i) ^ (full ? UINT32_MAX : 0));
+        t[i] = sigma4(t[i] ^ sum[i & last] ^ load4(pad + 4 * i) ^ (full ? UINT32_MAX : 0));
 }
 
 static inline uint64_t round_key64(const struct mixed *m, uint32_t *reg)

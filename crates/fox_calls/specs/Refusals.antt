@@ -57,10 +57,14 @@ unfoldable pub forBlock : ℕ → ℕ → ℕ → ℕ → ℕ → List Refusal
 forBlock cipher rounds keyLen blockLen outLen =
     forKey cipher rounds keyLen ++ (noBlock cipher blockLen ∷ noOutput blockLen outLen ∷ [])
 
--- a stretch of a run meets all of them
+-- the tests of a stretch that come after those of the key
+unfoldable pub forStretch : ℕ → ℕ → ℕ → ℕ → ℕ → List Refusal
+forStretch cipher counterLen offset inputLen outLen =
+    noBlock cipher counterLen ∷ longData inputLen ∷ noOutput inputLen outLen ∷ pastEnd offset inputLen ∷ []
+
+-- a stretch of a run meets all seven
 unfoldable pub forRun : ℕ → ℕ → ℕ → ℕ → ℕ → ℕ → ℕ → List Refusal
-forRun cipher rounds keyLen counterLen offset inputLen outLen =
-    forKey cipher rounds keyLen ++ (noBlock cipher counterLen ∷ longData inputLen ∷ noOutput inputLen outLen ∷ pastEnd offset inputLen ∷ [])
+forRun cipher rounds keyLen counterLen offset inputLen outLen = forKey cipher rounds keyLen ++ forStretch cipher counterLen offset inputLen outLen
 
 -- what a call that prepares a key knows where no refusal applies
 pub record Keyed (c r k : ℕ) : Type 0 where

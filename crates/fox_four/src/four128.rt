@@ -18,7 +18,7 @@ pub struct Four128 {
 
 // The round of all four with one round key, of two words: the left one k, the right one l.
 fn elmid_four128<'a>(
-    s: &'a [u8; 256],
+    s: &'a [u32; 1024],
     a: &'a [u64; 256],
     b: &'a [u64; 256],
     c: &'a [u64; 256],
@@ -48,7 +48,7 @@ fn elmid_four128<'a>(
 
 // The round of all four with one round key, and "or" after it.
 fn elmor_four128<'a>(
-    s: &'a [u8; 256],
+    s: &'a [u32; 1024],
     a: &'a [u64; 256],
     b: &'a [u64; 256],
     c: &'a [u64; 256],
@@ -77,7 +77,7 @@ fn elmor_four128<'a>(
 }
 
 pub fn seal_four128<'a>(
-    s: &'a [u8; 256],
+    s: &'a [u32; 1024],
     a: &'a [u64; 256],
     b: &'a [u64; 256],
     c: &'a [u64; 256],

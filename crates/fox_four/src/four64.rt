@@ -19,7 +19,7 @@ pub struct Four64 {
 
 // The round of all four with one round key.
 fn lmid_four64<'a>(
-    s: &'a [u8; 256],
+    s: &'a [u32; 1024],
     a: &'a [u32; 256],
     b: &'a [u32; 256],
     c: &'a [u32; 256],
@@ -44,7 +44,7 @@ fn lmid_four64<'a>(
 
 // The round of all four with one round key, and "or" after it.
 fn lmor_four64<'a>(
-    s: &'a [u8; 256],
+    s: &'a [u32; 1024],
     a: &'a [u32; 256],
     b: &'a [u32; 256],
     c: &'a [u32; 256],
@@ -68,7 +68,7 @@ fn lmor_four64<'a>(
 }
 
 pub fn seal_four64<'a>(
-    s: &'a [u8; 256],
+    s: &'a [u32; 1024],
     a: &'a [u32; 256],
     b: &'a [u32; 256],
     c: &'a [u32; 256],

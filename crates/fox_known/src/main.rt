@@ -5,7 +5,7 @@ use fox_layers::diffusion;
 use fox_layers::small_boxes;
 use fox_tables::joined4;
 use fox_tables::joined8;
-use fox_tables::whole_box;
+use fox_tables::moved;
 
 const WORDS: u32 = 4096;
 
@@ -45,7 +45,7 @@ fn next(w: u64) -> u64 {
 
 // 1 where both ways substitute and diffuse the word alike.
 fn same4<'a>(
-    s: &'a [u8; 256],
+    s: &'a [u32; 1024],
     a: &'a [u32; 256],
     b: &'a [u32; 256],
     c: &'a [u32; 256],
@@ -65,7 +65,7 @@ fn same4<'a>(
 }
 
 fn alike4() -> u32 {
-    let s = whole_box::sbox();
+    let s = moved::tbs();
     let t = joined4::tbsm();
     let mut alike: u32 = 0;
     let mut w: u64 = 0x0123_4567_89AB_CDEF;
@@ -78,7 +78,7 @@ fn alike4() -> u32 {
 
 // 1 where both ways substitute and diffuse the word alike.
 fn same8<'a>(
-    s: &'a [u8; 256],
+    s: &'a [u32; 1024],
     a: &'a [u64; 256],
     b: &'a [u64; 256],
     c: &'a [u64; 256],
@@ -92,7 +92,9 @@ fn same8<'a>(
     ensures { λ r. ⌜ r ≤ 1 ⌝ }
 {
     let x = small_boxes::sigma8(w);
-    if x != fox_tables::sigma8(s, w) {
+    let l = fox_tables::sigma4(s, (w / 0x1_0000_0000) as u32);
+    let r = fox_tables::sigma4(s, (w % 0x1_0000_0000) as u32);
+    if x != (l as u64) * 0x1_0000_0000 + r as u64 {
         return 0;
     }
     if diffusion::mu8(x) != fox_tables::sigma_mu8(a, b, c, d, e, f, g, h, w) {
@@ -102,7 +104,7 @@ fn same8<'a>(
 }
 
 fn alike8() -> u32 {
-    let s = whole_box::sbox();
+    let s = moved::tbs();
     let t = joined8::tbsm();
     let mut alike: u32 = 0;
     let mut w: u64 = 0x0123_4567_89AB_CDEF;

@@ -1,6 +1,6 @@
 -- Tables (001 §4.2.2), and what look-ups give over whatever tables are lent.
 -- Assumes nothing.
-use Prim.Native.Nat.{ℕ, zero, suc}
+use Prim.Native.Nat.{ℕ, zero, suc, _+_, _*_, _-_, _/_, _%_, _^_}
 use mathlib.Core.List.{List, [], _∷_, map}
 use lib.ListN.{getD}
 use Rattle.fox_layers.specs.Words.{joined, split, summed}
@@ -21,6 +21,10 @@ table f = listed f 256 0
 unfoldable pub box : List ℕ
 box = table sbox
 
+-- §4.2.2: the n TBS tables, one after the other: at 256·j + x the box's value at x, moved to byte number j of a word of n bytes
+unfoldable pub TBS : ℕ → List ℕ
+TBS n = listed (λ (i : ℕ). sbox (i % 256) * 2 ^ (8 * (n - 1 - i / 256))) (n * 256) 0
+
 -- column number j of a matrix given by its rows
 unfoldable pub column : ℕ → List (List ℕ) → List ℕ
 column j rows = map (λ (row : List ℕ). getD row j 0) rows
@@ -33,10 +37,10 @@ scaled ms x = joined (map (λ (m : ℕ). product m x) ms)
 unfoldable pub TBSM : List (List ℕ) → ℕ → List ℕ
 TBSM rows j = table (λ (x : ℕ). scaled (column j rows) (sbox x))
 
--- each byte of a word of n bytes replaced by the lent table's entry
-unfoldable pub replaced : List ℕ → ℕ → ℕ → ℕ
-replaced t n w = joined (map (λ (x : ℕ). getD t x 0) (split n w))
-
 -- the sum of the entries that bytes pick, each from a table of its own
 unfoldable pub gathered : List (List ℕ) → List ℕ → ℕ
 gathered ts xs = summed (λ (t : List ℕ) (x : ℕ). getD t x 0) ts xs
+
+-- the same where the tables stand in one list, each by its number
+unfoldable pub picked : List ℕ → List ℕ → List ℕ → ℕ
+picked t js xs = summed (λ (j x : ℕ). getD t (j * 256 + x) 0) js xs

@@ -1,36 +1,17 @@
 // The rounds of FOX128 by the server's way (001 §4.2.2): tables and round keys are lent, so that neither is built or copied here.
 ghost use mathlib.Core.Path.{_≡_};
 ghost use Prim.Native.Nat.{_+_, _*_, _^_, _≤_, _<_};
-ghost use Rattle.fox_rounds.specs.Rounds.{f64, elmid128};
+ghost use Rattle.fox_rounds.specs.Rounds.{elmid128};
 ghost use Rattle.fox_rounds.specs.Skeleton.{numbered, seal128, open128};
 ghost use Rattle.fox_lent.specs.Held.{held128};
 ghost use Rattle.fox_lent.specs.Lent.{Lent8};
 use fox_rounds::fox128::Fox128;
 use fox_tables::sigma_mu8;
-use fox_tables::sigma8;
+use fox_tables::sigma4;
 
-pub fn f64<'a>(
-    s: &'a [u8; 256],
-    a: &'a [u64; 256],
-    b: &'a [u64; 256],
-    c: &'a [u64; 256],
-    d: &'a [u64; 256],
-    e: &'a [u64; 256],
-    f: &'a [u64; 256],
-    g: &'a [u64; 256],
-    h: &'a [u64; 256],
-    x: u64,
-    k: u64,
-    l: u64,
-) -> u64
-    requires { ⌜ Lent8 (now s) (now a) (now b) (now c) (now d) (now e) (now f) (now g) (now h) ⌝ }
-    ensures { λ r. ⌜ r ≡ f64 x (k * 2 ^ 64 + l) ⌝ }
-{
-    sigma8(s, sigma_mu8(a, b, c, d, e, f, g, h, x ^ k) ^ l) ^ k
-}
-
+// The round: substitution alone, and what follows it, go by halves of 32 bits, which are the state's words.
 pub fn elmid128<'a>(
-    s: &'a [u8; 256],
+    s: &'a [u32; 1024],
     a: &'a [u64; 256],
     b: &'a [u64; 256],
     c: &'a [u64; 256],
@@ -46,12 +27,20 @@ pub fn elmid128<'a>(
     requires { ⌜ Lent8 (now s) (now a) (now b) (now c) (now d) (now e) (now f) (now g) (now h) ⌝ }
     ensures { λ r. ⌜ r ≡ elmid128 (k * 2 ^ 64 + l) x ⌝ }
 {
-    x.plus(f64(s, a, b, c, d, e, f, g, h, x.sums(), k, l))
+    let m = sigma_mu8(a, b, c, d, e, f, g, h, x.sums() ^ k) ^ l;
+    let p = sigma4(s, (m / 0x1_0000_0000) as u32) ^ ((k / 0x1_0000_0000) as u32);
+    let q = sigma4(s, (m % 0x1_0000_0000) as u32) ^ ((k % 0x1_0000_0000) as u32);
+    Fox128 {
+        ll: x.ll ^ p,
+        lr: x.lr ^ p,
+        rl: x.rl ^ q,
+        rr: x.rr ^ q,
+    }
 }
 
 // The round of FOX128 with the key number i of those that are lent.
 pub fn elmid128_at<'a>(
-    s: &'a [u8; 256],
+    s: &'a [u32; 1024],
     a: &'a [u64; 256],
     b: &'a [u64; 256],
     c: &'a [u64; 256],
@@ -72,7 +61,7 @@ pub fn elmid128_at<'a>(
 }
 
 pub fn seal128<'a>(
-    s: &'a [u8; 256],
+    s: &'a [u32; 1024],
     a: &'a [u64; 256],
     b: &'a [u64; 256],
     c: &'a [u64; 256],
@@ -99,7 +88,7 @@ pub fn seal128<'a>(
 }
 
 pub fn open128<'a>(
-    s: &'a [u8; 256],
+    s: &'a [u32; 1024],
     a: &'a [u64; 256],
     b: &'a [u64; 256],
     c: &'a [u64; 256],

@@ -10,7 +10,7 @@ use fox_tables::sigma_mu4;
 use fox_tables::sigma4;
 
 pub fn f32<'a>(
-    s: &'a [u8; 256],
+    s: &'a [u32; 1024],
     a: &'a [u32; 256],
     b: &'a [u32; 256],
     c: &'a [u32; 256],
@@ -27,7 +27,7 @@ pub fn f32<'a>(
 }
 
 pub fn lmid64<'a>(
-    s: &'a [u8; 256],
+    s: &'a [u32; 1024],
     a: &'a [u32; 256],
     b: &'a [u32; 256],
     c: &'a [u32; 256],
@@ -46,7 +46,7 @@ pub fn lmid64<'a>(
 }
 
 pub fn seal64<'a>(
-    s: &'a [u8; 256],
+    s: &'a [u32; 1024],
     a: &'a [u32; 256],
     b: &'a [u32; 256],
     c: &'a [u32; 256],
@@ -69,7 +69,7 @@ pub fn seal64<'a>(
 }
 
 pub fn open64<'a>(
-    s: &'a [u8; 256],
+    s: &'a [u32; 1024],
     a: &'a [u32; 256],
     b: &'a [u32; 256],
     c: &'a [u32; 256],

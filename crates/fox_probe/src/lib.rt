@@ -16,7 +16,7 @@ use fox_rounds::fox64::Fox64;
 use fox_rounds::fox128::Fox128;
 use fox_tables::joined4;
 use fox_tables::joined8;
-use fox_tables::whole_box;
+use fox_tables::moved;
 
 #[no_mangle]
 pub extern "C" fn fox_probe_sigma_mu4<'a>(
@@ -52,7 +52,7 @@ fn again64(keys: &[u64; 510], rounds: usize, blocks: u32, x: Fox64) -> Fox64
     requires { ⌜ (1 ≤ rounds) × (rounds ≤ 255) ⌝ }
     ensures { λ r. ⌜ r ≡ again64 (now (keys .entry)) rounds blocks x ⌝ }
 {
-    let s = whole_box::sbox();
+    let s = moved::tbs();
     let t = joined4::tbsm();
     let mut y = x;
     for i in 0..blocks {
@@ -65,7 +65,7 @@ fn again128(keys: &[u64; 510], rounds: usize, blocks: u32, x: Fox128) -> Fox128
     requires { ⌜ (1 ≤ rounds) × (rounds ≤ 255) ⌝ }
     ensures { λ r. ⌜ r ≡ again128 (now (keys .entry)) rounds blocks x ⌝ }
 {
-    let s = whole_box::sbox();
+    let s = moved::tbs();
     let t = joined8::tbsm();
     let mut y = x;
     for i in 0..blocks {

@@ -9,13 +9,13 @@ pub struct Fox64 {
     pub r: u32,
 }
 
-// "or" (001 §2.2.3).
+// "or" (001 §2.2.3): the halves exchanged, which is one rotation, and the new left one added to the right.
 pub fn or(w: u32) -> u32
     ensures { λ r. ⌜ r ≡ or w ⌝ }
 {
     let p = w / 0x1_0000;
     let q = w % 0x1_0000;
-    q * 0x1_0000 + (p ^ q)
+    (q * 0x1_0000 + p) ^ q
 }
 
 // "io", which undoes "or" (001 §2.2.3).

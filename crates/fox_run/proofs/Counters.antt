@@ -22,9 +22,9 @@ counting counter i =
     let kept = length counter - 4 in
     ap joined (drop-at (take kept counter) _ kept (length-take-le kept counter (omega arith))) ∙ joined-split 4 _ (mod-lt _ (zero-lt-suc 4294967295))
 
--- the whole circle of 2 ^ 32 counts
-pub counters-apart : (counter : List ℕ) (i j : ℕ) → i < j → j < 2 ^ 32 → counterBlock counter i ≡ counterBlock counter j → ⊥
-counters-apart counter i j h l e =
+-- the whole circle of 2 ^ 32 counts, for any first block that has room for them
+pub counters-apart : (counter : List ℕ) (i j : ℕ) → 4 ≤ length counter → i < j → j < 2 ^ 32 → counterBlock counter i ≡ counterBlock counter j → ⊥
+counters-apart counter i j size h l e =
     let a = joined (drop (length counter - 4) counter) in
     let same : (a + i) % 2 ^ 32 ≡ (a + j) % 2 ^ 32 =
     sym (counting counter i) ∙ ap (λ (b : List ℕ). joined (drop (length counter - 4) b)) e ∙ counting counter j in
@@ -33,17 +33,19 @@ counters-apart counter i j h l e =
 size-low : (c : ℕ) → 8 ≤ blockSize c
 size-low c = by-cipher c (λ e. omega (arith, size-64 c e)) (λ n. omega (arith, size-128 c n))
 
--- as far as a run goes
-pub counters-differ : (c : ℕ) (counter : List ℕ) (i j : ℕ) → i < j → j * blockSize c < 1073741824 → counterBlock counter i ≡ counterBlock counter j → ⊥
-counters-differ c counter i j h l e = counters-apart counter i j h (omega (arith, mul-le-mul-left j (size-low c))) e
+-- as far as a run goes, by a counter block of the cipher's size
+pub counters-differ : (c : ℕ) (counter : List ℕ) (i j : ℕ) → length counter ≡ blockSize c → i < j → j * blockSize c < 1073741824
+    → counterBlock counter i ≡ counterBlock counter j → ⊥
+counters-differ c counter i j size h l e =
+    counters-apart counter i j (omega (arith, size-low c)) h (omega (arith, mul-le-mul-left j (size-low c))) e
 
 -- two bytes of a run that do not lie in one block
-pub bytes-apart : (c : ℕ) (counter : List ℕ) (m n : ℕ) → m < 1073741824 → n < 1073741824 → (m / blockSize c ≡ n / blockSize c → ⊥)
-    → counterBlock counter (m / blockSize c) ≡ counterBlock counter (n / blockSize c) → ⊥
-bytes-apart c counter m n hm hn apart e =
+pub bytes-apart : (c : ℕ) (counter : List ℕ) (m n : ℕ) → length counter ≡ blockSize c → m < 1073741824 → n < 1073741824
+    → (m / blockSize c ≡ n / blockSize c → ⊥) → counterBlock counter (m / blockSize c) ≡ counterBlock counter (n / blockSize c) → ⊥
+bytes-apart c counter m n size hm hn apart e =
     let B = blockSize c in
-    ⊎-elim (λ z. counters-differ c counter (n / B) (m / B) (omega arith) (omega (arith, div-mul-le-self m B)) (sym e))
-    (λ p. counters-differ c counter (m / B) (n / B) (omega arith) (omega (arith, div-mul-le-self n B)) e) (eq-zero-or-pos (n / B - m / B))
+    ⊎-elim (λ z. counters-differ c counter (n / B) (m / B) size (omega arith) (omega (arith, div-mul-le-self m B)) (sym e))
+    (λ p. counters-differ c counter (m / B) (n / B) size (omega arith) (omega (arith, div-mul-le-self n B)) e) (eq-zero-or-pos (n / B - m / B))
 
 -- a known value: the count wraps, and no bit of it reaches what stands before
 pub counter-wraps : counterBlock (0 ∷ 0 ∷ 0 ∷ 0 ∷ 255 ∷ 255 ∷ 255 ∷ 255 ∷ []) 1 ≡ 0 ∷ 0 ∷ 0 ∷ 0 ∷ 0 ∷ 0 ∷ 0 ∷ 0 ∷ []

@@ -20,13 +20,13 @@ use fox_lent::lent64;
 use fox_lent::lent128;
 use fox_tables::joined4;
 use fox_tables::joined8;
-use fox_tables::whole_box;
+use fox_tables::moved;
 
 fn seal64_block(keys: &[u64; 510], rounds: usize, block: &[u8], out: &mut [u8])
     requires { ⌜ (1 ≤ rounds) × (rounds ≤ 255) × (length (now block) ≡ 8) × (length (now out) ≡ 8) ⌝ }
     ensures { λ _. ⌜ now (out .exit) ≡ bytes64 (seal64 (numbered (held64 (now (keys .entry))) rounds 0) (state64 (now (block .entry)))) ⌝ }
 {
-    let s = whole_box::sbox();
+    let s = moved::tbs();
     let t = joined4::tbsm();
     let x = read64(block);
     let sealed = lent64::seal64(&s, &t.a, &t.b, &t.c, &t.d, keys, rounds, x);
@@ -37,7 +37,7 @@ fn seal128_block(keys: &[u64; 510], rounds: usize, block: &[u8], out: &mut [u8])
     requires { ⌜ (1 ≤ rounds) × (rounds ≤ 255) × (length (now block) ≡ 16) × (length (now out) ≡ 16) ⌝ }
     ensures { λ _. ⌜ now (out .exit) ≡ bytes128 (seal128 (numbered (held128 (now (keys .entry))) rounds 0) (state128 (now (block .entry)))) ⌝ }
 {
-    let s = whole_box::sbox();
+    let s = moved::tbs();
     let t = joined8::tbsm();
     let x = read128(block);
     let sealed = lent128::seal128(
@@ -61,7 +61,7 @@ fn open64_block(keys: &[u64; 510], rounds: usize, block: &[u8], out: &mut [u8])
     requires { ⌜ (1 ≤ rounds) × (rounds ≤ 255) × (length (now block) ≡ 8) × (length (now out) ≡ 8) ⌝ }
     ensures { λ _. ⌜ now (out .exit) ≡ bytes64 (open64 (numbered (held64 (now (keys .entry))) rounds 0) (state64 (now (block .entry)))) ⌝ }
 {
-    let s = whole_box::sbox();
+    let s = moved::tbs();
     let t = joined4::tbsm();
     let x = read64(block);
     let opened = lent64::open64(&s, &t.a, &t.b, &t.c, &t.d, keys, rounds, x);
@@ -72,7 +72,7 @@ fn open128_block(keys: &[u64; 510], rounds: usize, block: &[u8], out: &mut [u8])
     requires { ⌜ (1 ≤ rounds) × (rounds ≤ 255) × (length (now block) ≡ 16) × (length (now out) ≡ 16) ⌝ }
     ensures { λ _. ⌜ now (out .exit) ≡ bytes128 (open128 (numbered (held128 (now (keys .entry))) rounds 0) (state128 (now (block .entry)))) ⌝ }
 {
-    let s = whole_box::sbox();
+    let s = moved::tbs();
     let t = joined8::tbsm();
     let x = read128(block);
     let opened = lent128::open128(

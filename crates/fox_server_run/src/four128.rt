@@ -50,7 +50,7 @@ fn counted_four128(x: Fox128, i: u32) -> Four128
 
 // The four blocks from the run's byte n on, which begins a block.
 pub(crate) fn four128<'a>(
-    s: &'a [u8; 256],
+    s: &'a [u32; 1024],
     a: &'a [u64; 256],
     b: &'a [u64; 256],
     c: &'a [u64; 256],

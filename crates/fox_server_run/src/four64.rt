@@ -50,7 +50,7 @@ fn counted_four64(x: Fox64, i: u32) -> Four64
 
 // The four blocks from the run's byte n on, which begins a block.
 pub(crate) fn four64<'a>(
-    s: &'a [u8; 256],
+    s: &'a [u32; 1024],
     a: &'a [u32; 256],
     b: &'a [u32; 256],
     c: &'a [u32; 256],

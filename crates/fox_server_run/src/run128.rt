@@ -16,11 +16,11 @@ use fox_rounds::fox128::Fox128;
 use fox_run::counter::counted128;
 use fox_run::pads::add_part128;
 use fox_tables::joined8;
-use fox_tables::whole_box;
+use fox_tables::moved;
 
 // The block that the run's byte n is in, from that byte on.
 fn step128<'a>(
-    s: &'a [u8; 256],
+    s: &'a [u32; 1024],
     a: &'a [u64; 256],
     b: &'a [u64; 256],
     c: &'a [u64; 256],
@@ -47,7 +47,7 @@ fn step128<'a>(
 
 // One block after the other.
 fn ones128<'a>(
-    s: &'a [u8; 256],
+    s: &'a [u32; 1024],
     a: &'a [u64; 256],
     b: &'a [u64; 256],
     c: &'a [u64; 256],
@@ -92,7 +92,7 @@ fn ones128<'a>(
 
 // Four blocks after the other four, as far as there are four whole ones; how many bytes that is, is handed back.
 fn fours128<'a>(
-    s: &'a [u8; 256],
+    s: &'a [u32; 1024],
     a: &'a [u64; 256],
     b: &'a [u64; 256],
     c: &'a [u64; 256],
@@ -138,7 +138,7 @@ fn fours128<'a>(
 
 // The block that the stretch begins in, then four at a time, then what is left.
 fn lay128<'a>(
-    s: &'a [u8; 256],
+    s: &'a [u32; 1024],
     a: &'a [u64; 256],
     b: &'a [u64; 256],
     c: &'a [u64; 256],
@@ -207,7 +207,7 @@ pub(crate) fn run128(
     requires { ⌜ (1 ≤ rounds) × (rounds ≤ 255) × (length (now counter) ≡ 16) × (n + length (now input) ≤ 1073741824) × (length (now out) ≡ length (now input)) ⌝ }
     ensures { λ _. ⌜ now (out .exit) ≡ addedFrom (stream128 (numbered (held128 (now (keys .entry))) rounds 0) (state128 (now (counter .entry)))) n (now (input .entry)) ⌝ }
 {
-    let s = whole_box::sbox();
+    let s = moved::tbs();
     let t = joined8::tbsm();
     let x = read128(counter);
     lay128(

@@ -16,11 +16,11 @@ use fox_rounds::fox64::Fox64;
 use fox_run::counter::counted64;
 use fox_run::pads::add_part64;
 use fox_tables::joined4;
-use fox_tables::whole_box;
+use fox_tables::moved;
 
 // The block that the run's byte n is in, from that byte on.
 fn step64<'a>(
-    s: &'a [u8; 256],
+    s: &'a [u32; 1024],
     a: &'a [u32; 256],
     b: &'a [u32; 256],
     c: &'a [u32; 256],
@@ -43,7 +43,7 @@ fn step64<'a>(
 
 // One block after the other.
 fn ones64<'a>(
-    s: &'a [u8; 256],
+    s: &'a [u32; 1024],
     a: &'a [u32; 256],
     b: &'a [u32; 256],
     c: &'a [u32; 256],
@@ -80,7 +80,7 @@ fn ones64<'a>(
 
 // Four blocks after the other four, as far as there are four whole ones; how many bytes that is, is handed back.
 fn fours64<'a>(
-    s: &'a [u8; 256],
+    s: &'a [u32; 1024],
     a: &'a [u32; 256],
     b: &'a [u32; 256],
     c: &'a [u32; 256],
@@ -118,7 +118,7 @@ fn fours64<'a>(
 
 // The block that the stretch begins in, then four at a time, then what is left.
 fn lay64<'a>(
-    s: &'a [u8; 256],
+    s: &'a [u32; 1024],
     a: &'a [u32; 256],
     b: &'a [u32; 256],
     c: &'a [u32; 256],
@@ -175,7 +175,7 @@ pub(crate) fn run64(
     requires { ⌜ (1 ≤ rounds) × (rounds ≤ 255) × (length (now counter) ≡ 8) × (n + length (now input) ≤ 1073741824) × (length (now out) ≡ length (now input)) ⌝ }
     ensures { λ _. ⌜ now (out .exit) ≡ addedFrom (stream64 (numbered (held64 (now (keys .entry))) rounds 0) (state64 (now (counter .entry)))) n (now (input .entry)) ⌝ }
 {
-    let s = whole_box::sbox();
+    let s = moved::tbs();
     let t = joined4::tbsm();
     let x = read64(counter);
     lay64(&s, &t.a, &t.b, &t.c, &t.d, keys, rounds, x, n, input, out);

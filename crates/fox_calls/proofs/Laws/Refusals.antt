@@ -9,7 +9,7 @@ use Prim.Native.Nat.{ℕ, _+_, _≤_, _<_}
 use native.Mathlib.Omega.{arith}
 use lib.Dec.{ltb, eqb}
 use borrow.Author.Tests.{ltb-false, eqb-true, lt-ltb, le-ltb, eq-eqb, ne-eqb, not-false}
-use Rattle.fox_calls.specs.Refusals.{Refusal, refusalOf, blockSize, noCipher, noRounds, longKey, noBlock, longData, noOutput, pastEnd, forKey, forBlock, forRun, Keyed, Blocked, Stretched}
+use Rattle.fox_calls.specs.Refusals.{Refusal, refusalOf, blockSize, noCipher, noRounds, longKey, noBlock, longData, noOutput, pastEnd, forKey, forBlock, forStretch, forRun, Keyed, Blocked, Stretched}
 
 -- no test of the list applies
 unfoldable pub Passed : List Refusal → Type 0
@@ -217,33 +217,29 @@ blocked-served {c} {r} {k} {b} {o} h =
 
 -- a stretch of a run
 
--- the tests of a stretch that come after those of the key
-unfoldable pub stretchOnly : ℕ → ℕ → ℕ → ℕ → ℕ → List Refusal
-stretchOnly c b n d o = noBlock c b ∷ longData d ∷ noOutput d o ∷ pastEnd n d ∷ []
-
-stretchOnly-numbered : (c b n d o : ℕ) → Numbered (stretchOnly c b n d o)
-unfolding Numbered stretchOnly noBlock longData noOutput pastEnd
-stretchOnly-numbered c b n d o = ((λ e. omega arith), ((λ e. omega arith), ((λ e. omega arith), ((λ e. omega arith), tt))))
+forStretch-numbered : (c b n d o : ℕ) → Numbered (forStretch c b n d o)
+unfolding Numbered forStretch noBlock longData noOutput pastEnd
+forStretch-numbered c b n d o = ((λ e. omega arith), ((λ e. omega arith), ((λ e. omega arith), ((λ e. omega arith), tt))))
 
 pub forRun-key : (c r k b n d o : ℕ) → refusalOf (forRun c r k b n d o) ≡ 0 → refusalOf (forKey c r k) ≡ 0
 unfolding forRun
-forRun-key c r k b n d o e = refusal-append-first (forKey c r k) (noBlock c b ∷ longData d ∷ noOutput d o ∷ pastEnd n d ∷ []) e
+forRun-key c r k b n d o e = refusal-append-first (forKey c r k) (forStretch c b n d o) e
 
 -- a refusal of the key is the whole list's, and where there is none the others decide
 pub forRun-refused : (c r k b n d o : ℕ) → (refusalOf (forKey c r k) ≡ 0 → ⊥) → refusalOf (forRun c r k b n d o) ≡ refusalOf (forKey c r k)
 unfolding forRun
 forRun-refused c r k b n d o h = refusal-append-refused _ _ h
 
-pub forRun-served : (c r k b n d o : ℕ) → refusalOf (forKey c r k) ≡ 0 → refusalOf (forRun c r k b n d o) ≡ refusalOf (stretchOnly c b n d o)
-unfolding forRun stretchOnly
+pub forRun-served : (c r k b n d o : ℕ) → refusalOf (forKey c r k) ≡ 0 → refusalOf (forRun c r k b n d o) ≡ refusalOf (forStretch c b n d o)
+unfolding forRun
 forRun-served c r k b n d o e = refusal-append-served _ _ (forKey-numbered c r k) e
 
 pub stretched : (c r k b n d o : ℕ) → refusalOf (forRun c r k b n d o) ≡ 0 → Stretched c r k b n d o
-unfolding Passed stretchOnly
+unfolding Passed forStretch
 stretched c r k b n d o e =
     let zero = forRun-key c r k b n d o e in
     let h = keyed c r k zero in
-    let p = served-passed (stretchOnly c b n d o) (stretchOnly-numbered c b n d o) (sym (forRun-served c r k b n d o zero) ∙ e) in
+    let p = served-passed (forStretch c b n d o) (forStretch-numbered c b n d o) (sym (forRun-served c r k b n d o zero) ∙ e) in
     record {
       cipher = h .cipher;
       low = h .low;
@@ -259,8 +255,8 @@ pub stretched-keyed : {c r k b n d o : ℕ} → Stretched c r k b n d o → Keye
 stretched-keyed h = record { cipher = h .cipher; low = h .low; high = h .high; key = h .key }
 
 pub stretched-served : {c r k b n d o : ℕ} → Stretched c r k b n d o → refusalOf (forRun c r k b n d o) ≡ 0
-unfolding Passed stretchOnly
+unfolding Passed forStretch
 stretched-served {c} {r} {k} {b} {n} {d} {o} h =
     forRun-served c r k b n d o (keyed-served (stretched-keyed h))
-    ∙ passed-served (stretchOnly c b n d o)
+    ∙ passed-served (forStretch c b n d o)
     (block-passed c b (h .counter), (long-passed d (h .short), (output-passed d o (h .output), (end-passed n d (h .end), tt))))

@@ -11,8 +11,8 @@ Inv-loop s t alike₀ w₀ i₀ alike w i = (alike ≤ i) × (i ≤ 4096)
 abbrev μ-loop : tie.MeasureT-loop
 μ-loop s t alike₀ w₀ i₀ alike w i = 4096 - i
 
-sbox-requires : tie.Need-sbox-requires Inv-loop μ-loop
-sbox-requires c κs = search needs
+tbs-requires : tie.Need-tbs-requires Inv-loop μ-loop
+tbs-requires c κs = search needs
 
 tbsm-requires : tie.Need-tbsm-requires Inv-loop μ-loop
 tbsm-requires c κs = search needs
@@ -50,7 +50,7 @@ alike4-spec =
     (tie.spec
     Inv-loop
     μ-loop
-    sbox-requires
+    tbs-requires
     tbsm-requires
     loop-holds
     next-requires

@@ -5,14 +5,19 @@ use mathlib.Core.Path.{_≡_, refl, sym, ap, _∙_, subst}
 use mathlib.Core.List.{List}
 use Prim.Native.Nat.{ℕ, zero, suc, _+_, _%_, _<_}
 use native.Mathlib.Nat.{add-zero, zero-add, add-suc, suc-add, le-of-suc-le-suc, not-suc-le-zero, mod-lt}
-use lib.ListN.{getD}
+use lib.ListN.{length, getD}
 use Rattle.fox_layers.specs.Tables.{listed, table}
 
-listed-at : (f : ℕ → ℕ) (n i k : ℕ) → k < n → getD (listed f n i) k 0 ≡ f (i + k)
+pub listed-at : (f : ℕ → ℕ) (n i k : ℕ) → k < n → getD (listed f n i) k 0 ≡ f (i + k)
 unfolding listed
 listed-at f zero i k h = absurd (not-suc-le-zero h)
 listed-at f (suc n) i zero h = ap f (sym (add-zero i))
 listed-at f (suc n) i (suc k) h = listed-at f n (suc i) k (le-of-suc-le-suc h) ∙ ap f (suc-add i k ∙ sym (add-suc i k))
+
+pub length-listed : (f : ℕ → ℕ) (n i : ℕ) → length (listed f n i) ≡ n
+unfolding listed
+length-listed f zero i = refl
+length-listed f (suc n) i = ap suc (length-listed f n (suc i))
 
 pub table-at : (f : ℕ → ℕ) (x : ℕ) → x < 256 → getD (table f) x 0 ≡ f x
 unfolding table

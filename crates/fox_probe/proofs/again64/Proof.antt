@@ -18,8 +18,8 @@ Inv-loop keys rounds blocks s t y₀ i₀ y i = (i ≤ blocks) × (y ≡ again64
 abbrev μ-loop : tie.MeasureT-loop
 μ-loop keys rounds blocks s t y₀ i₀ y i = blocks - i
 
-sbox-requires : tie.Need-sbox-requires Inv-loop μ-loop
-sbox-requires c κs = search needs
+tbs-requires : tie.Need-tbs-requires Inv-loop μ-loop
+tbs-requires c κs = search needs
 
 tbsm-requires : tie.Need-tbsm-requires Inv-loop μ-loop
 tbsm-requires c κs = search needs
@@ -32,7 +32,7 @@ seal64-requires : tie.Need-seal64-requires Inv-loop μ-loop
 seal64-requires c κs =
     let tables = c .before .before .before .before .before .before .before .before in
     let asked = tables .before .before .pre in
-    (record { s = tables .before .sbox .ensures; a = tables .tbsm .ensures .a; b = tables .tbsm .ensures .b; c = tables .tbsm .ensures .c; d = tables .tbsm .ensures .d }, (asked .0, omega (arith, asked .1)))
+    (record { s = tables .before .tbs .ensures; a = tables .tbsm .ensures .a; b = tables .tbsm .ensures .b; c = tables .tbsm .ensures .c; d = tables .tbsm .ensures .d }, (asked .0, omega (arith, asked .1)))
 
 add-i : tie.Need-add-i Inv-loop μ-loop
 add-i c = search needs
@@ -61,7 +61,7 @@ again64-spec =
     (tie.spec
     Inv-loop
     μ-loop
-    sbox-requires
+    tbs-requires
     tbsm-requires
     loop-holds
     seal64-requires

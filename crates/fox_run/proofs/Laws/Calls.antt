@@ -1,5 +1,5 @@
 -- Calls on a stretch of a run, from what they promise: where no refusal applies the answer is 0, the count that of the input, and the output the
--- stretch; and a call that answered 0 met no refusal. A call by a key is a call by that key's round keys.
+-- stretch; and a call that answered 0 met no refusal.
 -- Assumes nothing.
 use mathlib.Core.Path.{_≡_, sym, _∙_}
 use mathlib.Core.List.{List}
@@ -9,9 +9,8 @@ use Rattle.fox_calls.specs.Refusals.{blockSize, Keyed, Stretched}
 use Rattle.fox_calls.specs.declared.answer.Answer.{Answer}
 use Rattle.fox_calls.proofs.Laws.Refusals.{stretched, stretched-served}
 use Rattle.fox_calls.proofs.Laws.Reply.{chosen}
-use Rattle.fox_cipher.specs.Block.{roundKeys}
-use Rattle.fox_run.specs.Run.{runWith, run}
-use Rattle.fox_run.specs.Calls.{Runs, RunsWith}
+use Rattle.fox_run.specs.Run.{runWith}
+use Rattle.fox_run.specs.Calls.{RunsWith}
 use Rattle.fox_run.proofs.Laws.Added.{length-addedFrom}
 
 -- a call that is served: it hands back 0 and a count, and its output is a value
@@ -55,20 +54,3 @@ module _ (c rounds k : ℕ) (rks counter : List ℕ) (offset : ℕ) (ds : List �
   -- what a call that answered 0 did
   pub call-did : r .refusal ≡ 0 → Served (length ds) (runWith c rks counter offset ds) after r
   call-did e = call-served (call-known e)
-
--- the same by a key
-module _ (c rounds : ℕ) (key counter : List ℕ) (offset : ℕ) (ds : List ℕ) {before after : List ℕ} {r : Answer} where
-  -- a call by the round keys of a key is one by the key
-  pub by-key : RunsWith c rounds (length key) (roundKeys c rounds key) counter offset ds before after r
-      → Runs c rounds key counter offset ds before after r
-  unfolding run
-  by-key call = call
-
-  pub run-served : Runs c rounds key counter offset ds before after r
-      → Stretched c rounds (length key) (length counter) offset (length ds) (length before) → Served (length ds) (run c rounds key counter offset ds) after r
-  unfolding run
-  run-served call h = call-served c rounds (length key) (roundKeys c rounds key) counter offset ds call h
-
-  pub run-did : Runs c rounds key counter offset ds before after r → r .refusal ≡ 0 → Served (length ds) (run c rounds key counter offset ds) after r
-  unfolding run
-  run-did call e = call-did c rounds (length key) (roundKeys c rounds key) counter offset ds call e

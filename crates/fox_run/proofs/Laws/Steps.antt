@@ -1,6 +1,6 @@
 -- A step on one block, from what code does: the rest of a sealed counter block added to the input. And a step in a loop that lays a stretch down.
 -- Assumes nothing.
-use mathlib.Core.Path.{_≡_, refl, sym, ap, _∙_}
+use mathlib.Core.Path.{_≡_, sym, ap, _∙_}
 use mathlib.Core.List.{List, _++_}
 use Prim.Native.Nat.{ℕ, suc, _+_, _*_, _-_, _/_, _%_, _≤_, _<_, min}
 use native.Mathlib.Nat.{mod-lt, div-add-mod', add-mul-mod-self-right, zero-mod}

@@ -19,7 +19,7 @@ use Rattle.fox_cipher.proofs.Laws.Block.{size-64, size-128, sealWith-64, sealWi
 use Rattle.fox_run.specs.Counter.{counterBlock}
 use Rattle.fox_run.specs.Run.{streamed, addedFrom, keyStream, runWith, run}
 use Rattle.fox_run.specs.States.{counted64, counted128, sealed64, sealed128, stream64, stream128}
-use Rattle.fox_run.proofs.Laws.Sums.{length-sum, take-sum}
+use Rattle.fox_run.proofs.Laws.Sums.{length-sum-min, take-sum}
 use Rattle.fox_run.proofs.Laws.Added.{addedFrom-same}
 
 -- the bytes of a stream from its byte number n on are those of a list, as far as that goes
@@ -70,12 +70,8 @@ module _ (B : ℕ) (block : ℕ → List ℕ) (pos : 0 < B) (size : (i : ℕ) �
       ap (streamed B block) (omega (arith, div-add-mod' n B)) ∙ streamed-at B block (n / B) (n % B + i) l ∙ sym (getD-drop (n % B) (block (n / B)) i 0)
 
   -- one block's part: from byte n to the block's end, as far as the bytes go
-  pub within-block : (n : ℕ) (ds : List ℕ) → addedFrom (streamed B block) n (take (B - n % B) ds) ≡ sum (drop (n % B) (block (n / B))) ds
-  within-block n ds =
-      ap (λ (k : ℕ). addedFrom (streamed B block) n (take k ds)) (sym (length-rest n)) ∙ added-pad (streamed B block) n _ ds (rest-stands n)
-
   pub length-within : (n : ℕ) (ds : List ℕ) → length (sum (drop (n % B) (block (n / B))) ds) ≡ min (B - n % B) (length ds)
-  length-within n ds = length-sum _ ds ∙ ap (λ (k : ℕ). min k (length ds)) (length-rest n)
+  length-within n ds = length-sum-min _ ds ∙ ap (λ (k : ℕ). min k (length ds)) (length-rest n)
 
   pub within-taken : (n : ℕ) (ds : List ℕ)
       → addedFrom (streamed B block) n (take (length (sum (drop (n % B) (block (n / B))) ds)) ds) ≡ sum (drop (n % B) (block (n / B))) ds
@@ -85,11 +81,6 @@ module _ (B : ℕ) (block : ℕ → List ℕ) (pos : 0 < B) (size : (i : ℕ) �
 
   block-stands : (i : ℕ) → Stands (streamed B block) (i * B) (block i)
   block-stands i j h = streamed-at B block i j (omega (arith, size i))
-
-  pub whole-block : (i : ℕ) (ds : List ℕ) → addedFrom (streamed B block) (i * B) (take B ds) ≡ sum (block i) ds
-  whole-block i ds =
-      ap (λ (k : ℕ). addedFrom (streamed B block) (i * B) (take k ds)) (sym (size i))
-      ∙ added-pad (streamed B block) (i * B) (block i) ds (block-stands i)
 
   pub length-blocksFrom : (i k : ℕ) → length (blocksFrom block i k) ≡ k * B
   unfolding blocksFrom

@@ -14,11 +14,11 @@ use Rattle.fox_layers.specs.Words.{_⊕_, joined, split, Bytes, sum}
 use Rattle.fox_layers.proofs.Laws.Words.{split-joined, split-xor, take-bytes, drop-bytes}
 use Rattle.fox_calls.proofs.Laws.Blocks.{put-end}
 
-pub length-sum : (xs ys : List ℕ) → length (sum xs ys) ≡ min (length xs) (length ys)
+pub length-sum-min : (xs ys : List ℕ) → length (sum xs ys) ≡ min (length xs) (length ys)
 unfolding sum
-length-sum [] ys = omega arith
-length-sum (x ∷ xs) [] = omega arith
-length-sum (x ∷ xs) (y ∷ ys) = omega (arith, length-sum xs ys)
+length-sum-min [] ys = omega arith
+length-sum-min (x ∷ xs) [] = omega arith
+length-sum-min (x ∷ xs) (y ∷ ys) = omega (arith, length-sum-min xs ys)
 
 pub take-sum : (xs ys : List ℕ) → take (length (sum xs ys)) ys ≡ take (length xs) ys
 unfolding sum
@@ -62,8 +62,8 @@ written-next s os now i h l e =
 
 -- the shorter of two lists bounds their sum
 pub shorter-sum : (xs ys : List ℕ) (n : ℕ) → n ≤ length xs → n ≤ length ys → (n ≡ length xs) ⊎ (n ≡ length ys) → n ≡ length (sum xs ys)
-shorter-sum xs ys n g h (inl e) = omega (arith, length-sum xs ys)
-shorter-sum xs ys n g h (inr e) = omega (arith, length-sum xs ys)
+shorter-sum xs ys n g h (inl e) = omega (arith, length-sum-min xs ys)
+shorter-sum xs ys n g h (inr e) = omega (arith, length-sum-min xs ys)
 
 -- a word added to the word that four bytes join to
 pub word-added : (w v k : ℕ) (ds : List ℕ) → Bytes ds → k + 4 ≤ length ds → v ≡ joined (take 4 (drop k ds)) → split 4 (w ⊕ v) ≡ sum (split 4 w) (drop k ds)

@@ -11,7 +11,7 @@ use lib.ListN.{length, take, drop, length-drop}
 use Rattle.fox_layers.specs.Words.{sum}
 use Rattle.fox_run.specs.Run.{streamed, addedFrom}
 use Rattle.fox_run.specs.Steps.{Laid}
-use Rattle.fox_run.proofs.Laws.Sums.{length-sum, sum-append, laid-after}
+use Rattle.fox_run.proofs.Laws.Sums.{length-sum-min, sum-append, laid-after}
 use Rattle.fox_run.proofs.Laws.Streams.{blocksFrom, whole-blocks}
 use Rattle.fox_run.proofs.Laws.Laid.{part-end, laid-next, laid-rest}
 
@@ -19,7 +19,7 @@ use Rattle.fox_run.proofs.Laws.Laid.{part-end, laid-next, laid-rest}
 pub laid-two : (a : ℕ) (xs ys ds os l p : List ℕ) → length xs ≡ a → a ≤ length ds → l ≡ sum xs ds ++ drop a os
     → p ≡ sum ys (midOf a (length ds - a) ds) ++ drop a (midOf a (length l - a) l) → putMid a (length l - a) l p ≡ sum (xs ++ ys) ds ++ drop (a + a) os
 laid-two a xs ys ds os l p n h e f =
-    laid-after a a (sum xs ds) (sum ys (drop a ds)) os l p (omega (arith, length-sum xs ds)) e
+    laid-after a a (sum xs ds) (sum ys (drop a ds)) os l p (omega (arith, length-sum-min xs ds)) e
     (f ∙ ap (λ (zs : List ℕ). sum ys zs ++ drop a (midOf a (length l - a) l)) (part-end a ds))
     ∙ ap (λ (zs : List ℕ). zs ++ drop (a + a) os) (sym (sum-append xs ys ds a n h))
 

@@ -1,54 +1,37 @@
--- `sigma4` meets its contract: the entries that it joins are those that the definition names.
+-- `sigma4` meets its contract: the entries that it adds up are those that the definition names, bracketed from the left.
 -- Assumes nothing.
 use borrow.Author.Needs.{needs}
-use mathlib.Core.Path.{ap, _∙_}
+use mathlib.Core.Path.{_∙_}
 use mathlib.Core.List.{[], _∷_}
-use Rattle.fox_layers.specs.Words.{joined}
-use Rattle.fox_layers.specs.Tables.{replaced}
+use Rattle.fox_layers.specs.Words.{total}
+use Rattle.fox_layers.specs.Tables.{picked}
 use Rattle.fox_layers.proofs.Laws.Words.{split-4}
+use Rattle.fox_layers.proofs.Laws.Xor.{running-total, done, _▸_, terms-summed}
 use Rattle.fox_tables.proofs.sigma4.Statement.{statement}
 use Rattle.fox_tables.proofs.sigma4.Tie as tie
 
-of-box-requires : tie.Need-of-box-requires
-of-box-requires c κs = search needs
+of-moved-requires : tie.Need-of-moved-requires
+of-moved-requires c κs = search needs
 
-of-box-requires-2 : tie.Need-of-box-requires-2
-of-box-requires-2 c κs = search needs
+of-moved-requires-2 : tie.Need-of-moved-requires-2
+of-moved-requires-2 c κs = search needs
 
-of-box-requires-3 : tie.Need-of-box-requires-3
-of-box-requires-3 c κs = search needs
+of-moved-requires-3 : tie.Need-of-moved-requires-3
+of-moved-requires-3 c κs = search needs
 
-of-box-requires-4 : tie.Need-of-box-requires-4
-of-box-requires-4 c κs = search needs
-
-join4-requires : tie.Need-join4-requires
-join4-requires c κs = search needs
+of-moved-requires-4 : tie.Need-of-moved-requires-4
+of-moved-requires-4 c κs = search needs
 
 returns : tie.Need-returns
-unfolding replaced
+unfolding total picked
 returns c =
     let c1 = c .before in
     let c2 = c1 .before in
     let c3 = c2 .before in
     let c4 = c3 .before in
-    let c5 = c4 .before in
-    rw (split-4 (c5 .args .w))
-    (c .join4 .ensures
-    ∙ ap joined
-    (λ i.
-    c4 .of-box .ensures i
-    ∷ c3 .of-box2 .ensures i
-    ∷ c2 .of-box3 .ensures i
-    ∷ c1 .of-box4 .ensures i
-    ∷ []))
+    rw (split-4 (c4 .args .w))
+    (running-total (c3 .of-moved .result) (c2 .of-moved2 .result ∷ c1 .of-moved3 .result ∷ c .of-moved4 .result ∷ [])
+    ∙ terms-summed (c3 .of-moved .ensures ▸ c2 .of-moved2 .ensures ▸ c1 .of-moved3 .ensures ▸ c .of-moved4 .ensures ▸ done))
 
 pub sigma4-spec : {M : Type 1} → statement M
-sigma4-spec =
-    tie.close
-    (tie.spec
-    of-box-requires
-    of-box-requires-2
-    of-box-requires-3
-    of-box-requires-4
-    join4-requires
-    returns)
+sigma4-spec = tie.close (tie.spec of-moved-requires of-moved-requires-2 of-moved-requires-3 of-moved-requires-4 returns)

@@ -5,8 +5,8 @@ use mathlib.Core.Bool.{false}
 use mathlib.Core.List.{[], _∷_}
 use native.Mathlib.Omega.{arith}
 use borrow.Author.Needs.{needs}
-use Rattle.fox_calls.specs.Refusals.{refusalOf, forRun, noBlock, longData, noOutput, pastEnd}
-use Rattle.fox_calls.proofs.Laws.Refusals.{refusal-here, refusal-later, stretchOnly, forRun-refused, forRun-served, block-refused, block-passed, long-refused, long-passed, output-refused, output-passed}
+use Rattle.fox_calls.specs.Refusals.{refusalOf, forStretch, forRun, noBlock, longData, noOutput, pastEnd}
+use Rattle.fox_calls.proofs.Laws.Refusals.{refusal-here, refusal-later, forRun-refused, forRun-served, block-refused, block-passed, long-refused, long-passed, output-refused, output-passed}
 use Rattle.fox_calls.proofs.stretch.for_run.Statement.{statement}
 use Rattle.fox_calls.proofs.stretch.for_run.Tie as tie
 
@@ -23,7 +23,7 @@ block-size-requires c κs = search needs
 
 -- past the key the stretch's own tests decide
 module _ (c : tie.Else1) where
-  past-key : refusalOf (forRun (c .before .before .args .cipher) (c .before .before .args .rounds) (c .before .before .args .key-len) (c .before .before .args .counter-len) (c .before .before .args .offset) (c .before .before .args .input-len) (c .before .before .args .out-len)) ≡ refusalOf (stretchOnly (c .before .before .args .cipher) (c .before .before .args .counter-len) (c .before .before .args .offset) (c .before .before .args .input-len) (c .before .before .args .out-len))
+  past-key : refusalOf (forRun (c .before .before .args .cipher) (c .before .before .args .rounds) (c .before .before .args .key-len) (c .before .before .args .counter-len) (c .before .before .args .offset) (c .before .before .args .input-len) (c .before .before .args .out-len)) ≡ refusalOf (forStretch (c .before .before .args .cipher) (c .before .before .args .counter-len) (c .before .before .args .offset) (c .before .before .args .input-len) (c .before .before .args .out-len))
   past-key = forRun-served _ _ _ _ _ _ _ (sym (c .before .for-key .ensures) ∙ c .if1 .left)
 
 -- past the counter block
@@ -31,14 +31,14 @@ past-counter : (c : tie.Else2) → noBlock (c .before .before .before .before .a
 past-counter c = block-passed _ _ (omega arith)
 
 returns-2 : tie.Need-returns-2
-unfolding noBlock stretchOnly
+unfolding noBlock forStretch
 returns-2 c =
     let a = c .before .before .before .before .args in
     sym (past-key (c .before .before)
     ∙ refusal-here (noBlock (a .cipher) (a .counter-len)) _ (block-refused (a .cipher) (a .counter-len) (λ e. omega arith)))
 
 returns-3 : tie.Need-returns-3
-unfolding longData stretchOnly
+unfolding longData forStretch
 returns-3 c =
     let a = c .before .before .before .before .before .args in
     sym (past-key (c .before .before .before)
@@ -46,7 +46,7 @@ returns-3 c =
     ∙ refusal-here (longData (a .input-len)) _ (long-refused (a .input-len) (omega arith)))
 
 returns-4 : tie.Need-returns-4
-unfolding noOutput stretchOnly
+unfolding noOutput forStretch
 returns-4 c =
     let a = c .before .before .before .before .before .before .args in
     sym (past-key (c .before .before .before .before)
@@ -59,7 +59,7 @@ past-end-requires c κs = search needs
 
 -- past the lengths the end of the run decides
 past-lengths : (c : tie.Else4) → refusalOf (forRun (c .before .before .before .before .before .before .args .cipher) (c .before .before .before .before .before .before .args .rounds) (c .before .before .before .before .before .before .args .key-len) (c .before .before .before .before .before .before .args .counter-len) (c .before .before .before .before .before .before .args .offset) (c .before .before .before .before .before .before .args .input-len) (c .before .before .before .before .before .before .args .out-len)) ≡ refusalOf (pastEnd (c .before .before .before .before .before .before .args .offset) (c .before .before .before .before .before .before .args .input-len) ∷ [])
-unfolding stretchOnly
+unfolding forStretch
 past-lengths c =
     let a = c .before .before .before .before .before .before .args in
     past-key (c .before .before .before .before)

@@ -1,30 +1,77 @@
--- `lent128::elmid128` meets its contract: as by the card's way, with the round function over lent tables.
+-- `lent128::elmid128` meets its contract: over the tables that it asks to be lent, the look-ups are the round function's steps, the last of them half by half, and
+-- each half goes onto its two words.
 -- Assumes nothing.
 use borrow.Author.Needs.{needs}
-use mathlib.Core.Path.{ap, _∙_}
-use Prim.Native.Nat.{ℕ, _+_, _*_, _^_}
-use Rattle.fox_rounds.specs.Rounds.{f64, plus128, elmid128}
+use mathlib.Core.Path.{_≡_, sym, ap, ap₂, _∙_}
+use Prim.Native.Nat.{ℕ, _+_, _*_, _/_, _%_, _^_, _<_}
+use native.Mathlib.Omega.{arith}
+use Rattle.fox_layers.specs.Words.{_⊕_}
+use Rattle.fox_layers.specs.Diffusion.{mu8}
+use Rattle.fox_layers.proofs.Laws.Xor.{xor-lt}
+use Rattle.fox_rounds.specs.Rounds.{f64, elmid128}
+use Rattle.fox_rounds.proofs.Laws.Halves.{left-pair, right-pair}
+use Rattle.fox_rounds.proofs.Laws.Rounds.{f-made}
+use Rattle.fox_lent.proofs.Laws.Lent.{lent-sigma8, lent-mu8, halves-added, halves-plus}
 use Rattle.fox_lent.proofs.lent128.elmid128.Statement.{statement}
 use Rattle.fox_lent.proofs.lent128.elmid128.Tie as tie
 
 sums-requires : tie.Need-sums-requires
 sums-requires c κs = search needs
 
-f64-requires : tie.Need-f64-requires
-f64-requires c κs = search needs
+sigma-mu8-requires : tie.Need-sigma-mu8-requires
+sigma-mu8-requires c κs = search needs
 
-plus-requires : tie.Need-plus-requires
-plus-requires c κs = search needs
+cast-sigma4 : tie.Need-cast-sigma4
+cast-sigma4 c = omega (arith, xor-lt 64 (c .sigma-mu8 .result) (c .before .before .args .l) (search needs) (search needs))
+
+sigma4-requires : tie.Need-sigma4-requires
+sigma4-requires c κs = search needs
+
+cast-p : tie.Need-cast-p
+cast-p c = search needs
+
+cast-sigma4-2 : tie.Need-cast-sigma4-2
+cast-sigma4-2 c = search needs
+
+sigma4-requires-2 : tie.Need-sigma4-requires-2
+sigma4-requires-2 c κs = search needs
+
+cast-q : tie.Need-cast-q
+cast-q c = search needs
 
 returns : tie.Need-returns
-unfolding elmid128
+unfolding f64 elmid128
 returns c =
-    let c1 = c .before in
-    let c2 = c1 .before in
-    let a = c2 .before .args in
-    let rk = a .k * 2 ^ 64 + a .l in
-    c .plus .ensures
-    ∙ ap (λ (t : ℕ). plus128 t (a .x)) (c1 .f64 .ensures ∙ ap (λ (s : ℕ). f64 s rk) (c2 .sums .ensures))
+    let second = c .before .before .before .before in
+    let first = second .before in
+    let mixed = first .before in
+    let summed = mixed .before in
+    let start = summed .before in
+    let a = start .args in
+    let k = a .k in
+    let l = a .l in
+    let m = mixed .sigma-mu8 .result ⊕ l in
+    let p = first .sigma4 .result in
+    let q = second .sigma42 .result in
+    let low : p < 2 ^ 32 = search needs in
+    let high : q < 2 ^ 32 = search needs in
+    let kh : k / 2 ^ 32 < 2 ^ 32 = omega (arith, start .fits .k .fits) in
+    let made = f-made 8 mu8 (summed .sums .result) (k * 2 ^ 64 + l) (left-pair 64 k l (start .fits .k .fits) (start .fits .l .fits))
+    (right-pair 64 k l (start .fits .l .fits)) (mixed .sigma-mu8 .ensures ∙ lent-mu8 (start .pre) _)
+    (ap₂ (λ (x y : ℕ). x * 2 ^ 32 + y) (first .sigma4 .ensures) (second .sigma42 .ensures) ∙ lent-sigma8 (start .pre) m) in
+    halves-plus (p ⊕ k / 2 ^ 32) (q ⊕ k % 2 ^ 32) _ (a .x) (xor-lt 32 p (k / 2 ^ 32) low kh) (xor-lt 32 q (k % 2 ^ 32) high (omega arith))
+    (sym (ap (λ (x : ℕ). f64 x (k * 2 ^ 64 + l)) (summed .sums .ensures)) ∙ sym made ∙ halves-added p q k low high)
 
 pub elmid128-spec : {M : Type 1} → statement M
-elmid128-spec = tie.close (tie.spec sums-requires f64-requires plus-requires returns)
+elmid128-spec =
+    tie.close
+    (tie.spec
+    sums-requires
+    sigma-mu8-requires
+    cast-sigma4
+    sigma4-requires
+    cast-p
+    cast-sigma4-2
+    sigma4-requires-2
+    cast-q
+    returns)

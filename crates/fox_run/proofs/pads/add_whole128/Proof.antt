@@ -10,7 +10,7 @@ use lib.Seq.{take-all}
 use Rattle.fox_layers.specs.Words.{split, sum}
 use Rattle.fox_layers.proofs.Laws.Words.{length-split}
 use Rattle.fox_cipher.specs.Block.{bytes128}
-use Rattle.fox_run.proofs.Laws.Sums.{length-sum, sum-append, laid-after}
+use Rattle.fox_run.proofs.Laws.Sums.{length-sum-min, sum-append, laid-after}
 use borrow.Author.Needs.{needs}
 use Rattle.fox_run.proofs.pads.add_whole128.Statement.{statement}
 use Rattle.fox_run.proofs.pads.add_whole128.Tie as tie
@@ -55,7 +55,7 @@ returns c =
     let wide : 16 ≤ length ds = search needs in
     let eight : length two ≡ 8 = simp (length-append, length-split) in
     laid-after 8 8 (sum two ds) (sum more (drop 8 ds)) (a .out .now) l (second .add82 .last .1 .1 .1 .0)
-    (omega (arith, length-sum two ds)) (first .add8 .ensures)
+    (omega (arith, length-sum-min two ds)) (first .add8 .ensures)
     (second .add82 .ensures ∙ ap (λ (xs : List ℕ). sum more xs ++ drop 8 (midOf 8 (length l - 8) l)) (take-all (length ds - 8) (drop 8 ds) (rw (length-drop 8 ds) (omega arith))))
     ∙ ap (λ (xs : List ℕ). xs ++ drop 16 (a .out .now)) (sym (sum-append two more ds 8 eight (omega arith)) ∙ ap (λ (xs : List ℕ). sum xs ds) (sym (append-assoc two (split 4 (a .x .rl)) (split 4 (a .x .rr)))))
 

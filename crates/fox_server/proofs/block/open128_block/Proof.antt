@@ -8,8 +8,8 @@ use Rattle.fox_cipher.specs.Block.{bytes128}
 use Rattle.fox_server.proofs.block.open128_block.Statement.{statement}
 use Rattle.fox_server.proofs.block.open128_block.Tie as tie
 
-sbox-requires : tie.Need-sbox-requires
-sbox-requires c κs = search needs
+tbs-requires : tie.Need-tbs-requires
+tbs-requires c κs = search needs
 
 tbsm-requires : tie.Need-tbsm-requires
 tbsm-requires c κs = search needs
@@ -39,7 +39,7 @@ pub open128-block-spec : {M : Type 1} → statement M
 open128-block-spec =
     tie.close
     (tie.spec
-    sbox-requires
+    tbs-requires
     tbsm-requires
     read128-requires
     open128-requires

@@ -8,8 +8,8 @@ use Rattle.fox_cipher.specs.Block.{bytes64}
 use Rattle.fox_server.proofs.block.seal64_block.Statement.{statement}
 use Rattle.fox_server.proofs.block.seal64_block.Tie as tie
 
-sbox-requires : tie.Need-sbox-requires
-sbox-requires c κs = search needs
+tbs-requires : tie.Need-tbs-requires
+tbs-requires c κs = search needs
 
 tbsm-requires : tie.Need-tbsm-requires
 tbsm-requires c κs = search needs
@@ -39,7 +39,7 @@ pub seal64-block-spec : {M : Type 1} → statement M
 seal64-block-spec =
     tie.close
     (tie.spec
-    sbox-requires
+    tbs-requires
     tbsm-requires
     read64-requires
     seal64-requires

@@ -2,13 +2,9 @@
 -- definition.
 -- Assumes nothing.
 use mathlib.Core.Path.{refl, sym, _∙_}
-use mathlib.Core.List.{List}
-use Prim.Native.Nat.{ℕ}
 use Rattle.fox_calls.proofs.Laws.Refusals.{forRun-key}
 use Rattle.fox_calls.proofs.Laws.Reply.{refused-reply}
-use Rattle.fox_server.proofs.Laws.Prepares.{from-prepared}
-use Rattle.fox_run.specs.Calls.{RunsWith}
-use Rattle.fox_run.proofs.Laws.Calls.{by-key}
+use Rattle.fox_server_run.proofs.Prepared.{run-prepared}
 use borrow.Author.Needs.{needs}
 use Rattle.fox_server_run.proofs.run.run_from_key.Statement.{statement}
 use Rattle.fox_server_run.proofs.run.run_from_key.Tie as tie
@@ -41,10 +37,8 @@ returns-2 c =
     let test = made .before in
     let a = test .before .before .before .before .before .before .args in
     let zero = sym (test .before .for-run .ensures) ∙ test .if1 .left in
-    by-key (a .cipher) (a .rounds) (a .key .now) (a .counter .now) (a .offset) (a .input .now)
-    (from-prepared
-    (λ (cipher rounds keyLen : ℕ) (rks : List ℕ). RunsWith cipher rounds keyLen rks (a .counter .now) (a .offset) (a .input .now) (a .out .now) (call .run .last .1 .1 .1 .1 .0) (call .run .result))
-    (a .cipher) (a .rounds) (a .key .now) (made .prepare .result) (forRun-key _ _ _ _ _ _ _ zero) (made .prepare .ensures) (call .run .ensures))
+    run-prepared (a .cipher) (a .rounds) (a .key .now) (a .counter .now) (a .offset) (a .input .now) (made .prepare .result)
+    (forRun-key _ _ _ _ _ _ _ zero) (made .prepare .ensures) (call .run .ensures)
 
 pub run-from-key-spec : {M : Type 1} → statement M
 run-from-key-spec =

@@ -10,8 +10,8 @@ use borrow.Author.Needs.{needs}
 use Rattle.fox_server_run.proofs.run64.run64.Statement.{statement}
 use Rattle.fox_server_run.proofs.run64.run64.Tie as tie
 
-sbox-requires : tie.Need-sbox-requires
-sbox-requires c κs = search needs
+tbs-requires : tie.Need-tbs-requires
+tbs-requires c κs = search needs
 
 tbsm-requires : tie.Need-tbsm-requires
 tbsm-requires c κs = search needs
@@ -36,4 +36,4 @@ returns c =
 pub run64-spec : {M : Type 1} → statement M
 run64-spec =
     tie.close
-    (tie.spec sbox-requires tbsm-requires read64-requires lay64-requires same-length returns)
+    (tie.spec tbs-requires tbsm-requires read64-requires lay64-requires same-length returns)
