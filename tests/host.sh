@@ -25,8 +25,10 @@ run_host() { # PROGRAM WORDS..
     if [ -n "$EMULATOR" ]; then "$EMULATOR" "$@"; else "$@"; fi
 }
 
-static_library() { # CRATE: makes its static library, also where there is one, which may be of older sources
+static_library() { # CRATE: makes its static library, unless one is there that is newer than every source
     mkdir -p build target/log
+    made=target/staticlib/lib$1.a
+    [ ! -f "$made" ] || [ -n "$(find crates crates.txt -newer "$made" | head -n 1)" ] || return 0
     rt staticlib "$1" >"target/log/$1.staticlib" 2>&1 || {
         tail -n 5 "target/log/$1.staticlib"
         return 1

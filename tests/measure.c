@@ -24,7 +24,7 @@ uint32_t fox_probe_card_open(uint32_t cipher, uint32_t rounds, const uint8_t *ke
                              const uint8_t *block, size_t block_len, uint8_t *out, size_t out_len);
 
 enum { INSTRUCTIONS_64 = 1500, INSTRUCTIONS_128 = 3000, STACK = 1024 };
-enum { RUN_INSTRUCTIONS_64 = 1000, RUN_INSTRUCTIONS_128 = 2200, RUN_STACK = 1536 };
+enum { RUN_INSTRUCTIONS_64 = 720, RUN_INSTRUCTIONS_128 = 1440, RUN_STACK = 1536 };
 
 static int passed, failed;
 

@@ -5,3 +5,4 @@ pub mod Streams
 pub mod Laid
 pub mod Steps
 pub mod Calls
+pub mod Four

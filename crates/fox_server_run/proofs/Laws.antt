@@ -1,3 +1,2 @@
 -- Laws that the proofs of both ciphers share.
-pub mod Four
 pub mod Held

@@ -1,7 +1,2 @@
-// A stretch of a run by the server's way: tables and round keys made once for a call and lent, four counter blocks sealed side by side, and the part
-// blocks at either end one by one.
-mod four128;
-mod four64;
+// A stretch of a run by the server's way, from a prepared key and from key bytes.
 pub mod run;
-mod run128;
-mod run64;

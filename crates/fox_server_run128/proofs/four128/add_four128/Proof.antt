@@ -1,0 +1,64 @@
+-- `four128::add_four128` meets its contract: two blocks and the next two, laid one after the other.
+-- Assumes nothing.
+use Prim.Native.Nat.{_≤_}
+use lib.ListN.{length}
+use mathlib.Core.Path.{refl}
+use mathlib.Core.List.{_++_}
+use Rattle.fox_cipher.specs.Block.{bytes128}
+use Rattle.fox_layers.specs.Words.{split}
+use Rattle.fox_run.proofs.Laws.Four.{laid-two}
+use borrow.Author.Needs.{needs}
+use Rattle.fox_server_run128.proofs.four128.add_four128.Statement.{statement}
+use Rattle.fox_server_run128.proofs.four128.add_four128.Tie as tie
+
+add-two128-requires : tie.Need-add-two128-requires
+add-two128-requires c κs = search needs
+
+sub-add-two128 : tie.Need-sub-add-two128
+sub-add-two128 c = search needs
+
+part-add-two128-start : tie.Need-part-add-two128-start
+part-add-two128-start c = search needs
+
+part-add-two128-end : tie.Need-part-add-two128-end
+part-add-two128-end c = search needs
+
+sub-add-two128-2 : tie.Need-sub-add-two128-2
+sub-add-two128-2 c = search needs
+
+part-add-two128-start-2 : tie.Need-part-add-two128-start-2
+part-add-two128-start-2 c = search needs
+
+part-add-two128-end-2 : tie.Need-part-add-two128-end-2
+part-add-two128-end-2 c = search needs
+
+add-two128-requires-2 : tie.Need-add-two128-requires-2
+add-two128-requires-2 c κs = search needs
+
+same-length : tie.Need-same-length
+same-length c = search needs
+
+returns : tie.Need-returns
+unfolding bytes128 split
+returns c =
+    let first = c .before .before .before .before .before .before .before in
+    let second = c .before .before in
+    let a = first .before .before .before .before .before .before .before .before .args in
+    let wide : 32 ≤ length (a .input .now) = search needs in
+    laid-two 32 (bytes128 (a .x .first) ++ bytes128 (a .x .second)) (bytes128 (a .x .third) ++ bytes128 (a .x .fourth)) (a .input .now) (a .out .now)
+    (first .add-two128 .last .1 .1 .1 .0) (second .add-two1282 .last .1 .1 .1 .0) refl wide (first .add-two128 .ensures) (second .add-two1282 .ensures)
+
+pub add-four128-spec : {M : Type 1} → statement M
+add-four128-spec =
+    tie.close
+    (tie.spec
+    add-two128-requires
+    sub-add-two128
+    part-add-two128-start
+    part-add-two128-end
+    sub-add-two128-2
+    part-add-two128-start-2
+    part-add-two128-end-2
+    add-two128-requires-2
+    same-length
+    returns)

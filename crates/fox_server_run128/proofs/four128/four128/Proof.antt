@@ -1,0 +1,62 @@
+-- `four128::four128` meets its contract: the four sealed blocks are those of the stream from the one on that byte n begins.
+-- Assumes nothing.
+use mathlib.Core.Path.{ap, _∙_}
+use mathlib.Core.List.{List}
+use Prim.Native.Nat.{ℕ}
+use native.Mathlib.Omega.{arith}
+use Rattle.fox_rounds.specs.Skeleton.{numbered, seal128}
+use Rattle.fox_rounds.specs.declared.fox128.Fox128.{Fox128}
+use Rattle.fox_four.specs.Four.{sealFour128}
+use Rattle.fox_four.specs.declared.four128.Four128.{Four128}
+use Rattle.fox_lent.specs.Held.{held128}
+use Rattle.fox_cipher.specs.Block.{bytes128}
+use Rattle.fox_run.specs.States.{sealed128, stream128}
+use Rattle.fox_run.proofs.Laws.Streams.{length-sealed128}
+use Rattle.fox_run.proofs.Laws.Four.{four-laid}
+use borrow.Author.Needs.{needs}
+use Rattle.fox_server_run128.proofs.four128.four128.Statement.{statement}
+use Rattle.fox_server_run128.proofs.four128.four128.Tie as tie
+
+cast-counted-four128 : tie.Need-cast-counted-four128
+cast-counted-four128 c = search needs
+
+counted-four128-requires : tie.Need-counted-four128-requires
+counted-four128-requires c κs = search needs
+
+seal-four128-requires : tie.Need-seal-four128-requires
+seal-four128-requires c κs = search needs
+
+add-four128-requires : tie.Need-add-four128-requires
+add-four128-requires c κs = search needs
+
+same-length : tie.Need-same-length
+same-length c = search needs
+
+returns : tie.Need-returns
+unfolding sealFour128 sealed128 stream128
+returns c =
+    let added = c .before .before in
+    let made = added .before .before in
+    let counted = made .before in
+    let a = counted .before .before .before .args in
+    let rks = numbered (held128 (a .keys .now)) (a .rounds) 0 in
+    let four = made .seal-four128 .result in
+    let whole = made .seal-four128 .ensures in
+    let blocks = counted .counted-four128 .ensures in
+    let sealed : Fox128 → List ℕ = λ y. bytes128 (seal128 rks y) in
+    four-laid (sealed128 rks (a .x)) 16 (a .n) (bytes128 (four .first)) (bytes128 (four .second)) (bytes128 (four .third)) (bytes128 (four .fourth))
+    (a .input .now) (a .out .now) (omega arith) (length-sealed128 rks (a .x)) (counted .before .before .before .pre .1 .2)
+    (ap (λ (z : Four128). bytes128 (z .first)) whole ∙ ap sealed (blocks .0)) (ap (λ (z : Four128). bytes128 (z .second)) whole ∙ ap sealed (blocks .1))
+    (ap (λ (z : Four128). bytes128 (z .third)) whole ∙ ap sealed (blocks .2)) (ap (λ (z : Four128). bytes128 (z .fourth)) whole ∙ ap sealed (blocks .3))
+    (added .add-four128 .ensures)
+
+pub four128-spec : {M : Type 1} → statement M
+four128-spec =
+    tie.close
+    (tie.spec
+    cast-counted-four128
+    counted-four128-requires
+    seal-four128-requires
+    add-four128-requires
+    same-length
+    returns)

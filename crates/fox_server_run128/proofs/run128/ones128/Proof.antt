@@ -1,0 +1,106 @@
+-- `run128::ones128` meets its contract: whenever the loop's test is reached, the run's bytes stand in the output up to where the loop is, and the rest of it is as
+-- it was. A step on what is left gets on by a byte at least.
+-- Assumes nothing.
+use mathlib.Core.Path.{_≡_}
+use Prim.Native.Nat.{_-_, _≤_, _<_}
+use native.Mathlib.Omega.{arith}
+use lib.ListN.{length}
+use borrow.Author.Needs.{needs}
+use Rattle.fox_rounds.specs.Skeleton.{numbered}
+use Rattle.fox_lent.specs.Held.{held128}
+use Rattle.fox_run.specs.States.{stream128}
+use Rattle.fox_run.specs.Steps.{Laid}
+use Rattle.fox_run.proofs.Laws.Laid.{laid-first, laid-last}
+use Rattle.fox_run.proofs.Laws.Steps.{step-within, step-some, step-laid}
+use Rattle.fox_server_run128.proofs.run128.ones128.Statement.{statement}
+use Rattle.fox_server_run128.proofs.run128.ones128.Tie as tie
+
+abbrev Inv-loop : tie.InvT-loop
+Inv-loop s a b c d e f g h keys rounds x n input out₀ at₀ out at =
+    (at ≤ length input) × (length out ≡ length input) × Laid (stream128 (numbered (held128 keys) rounds 0) x) n input out₀ at out
+
+abbrev μ-loop : tie.MeasureT-loop
+μ-loop s a b c d e f g h keys rounds x n input out₀ at₀ out at = length input - at
+
+loop-holds : tie.Need-loop-holds Inv-loop μ-loop
+loop-holds c =
+    let a = c .before .before .args in
+    (omega arith, search needs, laid-first _ (a .n) (a .input .now) (a .out .now))
+
+add-step128 : tie.Need-add-step128 Inv-loop μ-loop
+add-step128 c = search needs
+
+sub-step128 : tie.Need-sub-step128 Inv-loop μ-loop
+sub-step128 c = search needs
+
+part-step128-start : tie.Need-part-step128-start Inv-loop μ-loop
+part-step128-start c = search needs
+
+part-step128-end : tie.Need-part-step128-end Inv-loop μ-loop
+part-step128-end c = search needs
+
+sub-step128-2 : tie.Need-sub-step128-2 Inv-loop μ-loop
+sub-step128-2 c = search needs
+
+part-step128-start-2 : tie.Need-part-step128-start-2 Inv-loop μ-loop
+part-step128-start-2 c = search needs
+
+part-step128-end-2 : tie.Need-part-step128-end-2 Inv-loop μ-loop
+part-step128-end-2 c = search needs
+
+step128-requires : tie.Need-step128-requires Inv-loop μ-loop
+step128-requires c κs =
+    let pre = c .before .before .before .before .before .before .pre in
+    (pre .0, (pre .1 .0, pre .1 .1, omega arith, search needs))
+
+add-at : tie.Need-add-at Inv-loop μ-loop
+add-at c =
+    let at = c .before .before .before .before .before .before in
+    let a = at .before .before .before .args in
+    let step = c .before .before .step128 in
+    omega (arith, step-within 16 (a .n) (at .loop .at) (step .result) (a .input .now) (at .loop .inv .0) (step .ensures .count))
+
+loop-less : tie.Need-loop-less Inv-loop μ-loop
+loop-less c =
+    let at = c .before .before .before .before .before .before in
+    let a = at .before .before .before .args in
+    let step = c .before .before .step128 in
+    let more : at .loop .at < length (a .input .now) = search needs in
+    omega (arith, step-some 16 (a .n) (at .loop .at) (step .result) (a .input .now) (at .loop .inv .0) (step .ensures .count) (omega arith) more)
+
+loop-again : tie.Need-loop-again Inv-loop μ-loop
+loop-again c =
+    let at = c .before .before .before .before .before .before in
+    let a = at .before .before .before .args in
+    let step = c .before .before .step128 in
+    step-laid _ 16 (a .n) (at .loop .at) (step .result) (a .input .now) (a .out .now) (at .loop .out) _ (at .loop .inv .0) (at .before .before .before .pre .1 .3)
+    (at .loop .inv .2) (step .ensures)
+
+same-length : tie.Need-same-length Inv-loop μ-loop
+same-length c = search needs
+
+returns : tie.Need-returns Inv-loop μ-loop
+returns c =
+    let a = c .before .before .before .before .args in
+    laid-last _ (a .n) (a .input .now) (a .out .now) (c .before .loop .at) (c .before .before .before .before .pre .1 .3) (search needs) (c .before .loop .inv .2)
+
+pub ones128-spec : {M : Type 1} → statement M
+ones128-spec =
+    tie.close
+    (tie.spec
+    Inv-loop
+    μ-loop
+    loop-holds
+    add-step128
+    sub-step128
+    part-step128-start
+    part-step128-end
+    sub-step128-2
+    part-step128-start-2
+    part-step128-end-2
+    step128-requires
+    add-at
+    loop-less
+    loop-again
+    same-length
+    returns)

@@ -1,0 +1,39 @@
+-- `run128::run128` meets its contract: the tables made here are those that the rounds ask to be lent, and the first counter block is read as it stands.
+-- Assumes nothing.
+use mathlib.Core.Path.{ap, _∙_}
+use Rattle.fox_rounds.specs.Skeleton.{numbered}
+use Rattle.fox_rounds.specs.declared.fox128.Fox128.{Fox128}
+use Rattle.fox_lent.specs.Held.{held128}
+use Rattle.fox_run.specs.Run.{addedFrom}
+use Rattle.fox_run.specs.States.{stream128}
+use borrow.Author.Needs.{needs}
+use Rattle.fox_server_run128.proofs.run128.run128.Statement.{statement}
+use Rattle.fox_server_run128.proofs.run128.run128.Tie as tie
+
+tbs-requires : tie.Need-tbs-requires
+tbs-requires c κs = search needs
+
+tbsm-requires : tie.Need-tbsm-requires
+tbsm-requires c κs = search needs
+
+read128-requires : tie.Need-read128-requires
+read128-requires c κs = search needs
+
+lay128-requires : tie.Need-lay128-requires
+lay128-requires c κs = search needs
+
+same-length : tie.Need-same-length
+same-length c = search needs
+
+returns : tie.Need-returns
+returns c =
+    let laid = c .before .before in
+    let x = laid .before .before .before .before .before .before .before .before .before .before .before .before in
+    let a = x .before .before .before .before .before .before .args in
+    laid .lay128 .ensures
+    ∙ ap (λ (y : Fox128). addedFrom (stream128 (numbered (held128 (a .keys .now)) (a .rounds) 0) y) (a .n) (a .input .now)) (x .read128 .ensures)
+
+pub run128-spec : {M : Type 1} → statement M
+run128-spec =
+    tie.close
+    (tie.spec tbs-requires tbsm-requires read128-requires lay128-requires same-length returns)

@@ -1,0 +1,51 @@
+-- `run128::step128` meets its contract: the pad is the sealed counter block that the byte is in.
+-- Assumes nothing.
+use mathlib.Core.Path.{ap, _∙_}
+use native.Mathlib.Omega.{arith}
+use Rattle.fox_rounds.specs.Skeleton.{numbered, seal128}
+use Rattle.fox_lent.specs.Held.{held128}
+use Rattle.fox_cipher.specs.Block.{bytes128}
+use Rattle.fox_run.specs.States.{sealed128, stream128}
+use Rattle.fox_run.proofs.Laws.Streams.{length-sealed128}
+use Rattle.fox_run.proofs.Laws.Steps.{step-made}
+use borrow.Author.Needs.{needs}
+use Rattle.fox_server_run128.proofs.run128.step128.Statement.{statement}
+use Rattle.fox_server_run128.proofs.run128.step128.Tie as tie
+
+cast-counted128 : tie.Need-cast-counted128
+cast-counted128 c = search needs
+
+counted128-requires : tie.Need-counted128-requires
+counted128-requires c κs = search needs
+
+seal128-requires : tie.Need-seal128-requires
+seal128-requires c κs = search needs
+
+add-part128-requires : tie.Need-add-part128-requires
+add-part128-requires c κs = search needs
+
+same-length : tie.Need-same-length
+same-length c = search needs
+
+returns : tie.Need-returns
+unfolding sealed128 stream128
+returns c =
+    let call = c .before .before in
+    let made = call .before .before in
+    let a = made .before .before .before .before .args in
+    let rks = numbered (held128 (a .keys .now)) (a .rounds) 0 in
+    step-made 16 (sealed128 rks (a .x)) (omega arith) (length-sealed128 rks (a .x)) (a .n) (call .add-part128 .result) (bytes128 (made .seal128 .result))
+    (a .input .now) (a .out .now) _
+    (ap bytes128 (made .seal128 .ensures ∙ ap (seal128 rks) (made .before .counted128 .ensures)))
+    (call .add-part128 .ensures .0) (call .add-part128 .ensures .1)
+
+pub step128-spec : {M : Type 1} → statement M
+step128-spec =
+    tie.close
+    (tie.spec
+    cast-counted128
+    counted128-requires
+    seal128-requires
+    add-part128-requires
+    same-length
+    returns)

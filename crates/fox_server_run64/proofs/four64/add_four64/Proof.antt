@@ -1,0 +1,64 @@
+-- `four64::add_four64` meets its contract: two blocks and the next two, laid one after the other.
+-- Assumes nothing.
+use Prim.Native.Nat.{_≤_}
+use lib.ListN.{length}
+use mathlib.Core.Path.{refl}
+use mathlib.Core.List.{_++_}
+use Rattle.fox_cipher.specs.Block.{bytes64}
+use Rattle.fox_layers.specs.Words.{split}
+use Rattle.fox_run.proofs.Laws.Four.{laid-two}
+use borrow.Author.Needs.{needs}
+use Rattle.fox_server_run64.proofs.four64.add_four64.Statement.{statement}
+use Rattle.fox_server_run64.proofs.four64.add_four64.Tie as tie
+
+add-two64-requires : tie.Need-add-two64-requires
+add-two64-requires c κs = search needs
+
+sub-add-two64 : tie.Need-sub-add-two64
+sub-add-two64 c = search needs
+
+part-add-two64-start : tie.Need-part-add-two64-start
+part-add-two64-start c = search needs
+
+part-add-two64-end : tie.Need-part-add-two64-end
+part-add-two64-end c = search needs
+
+sub-add-two64-2 : tie.Need-sub-add-two64-2
+sub-add-two64-2 c = search needs
+
+part-add-two64-start-2 : tie.Need-part-add-two64-start-2
+part-add-two64-start-2 c = search needs
+
+part-add-two64-end-2 : tie.Need-part-add-two64-end-2
+part-add-two64-end-2 c = search needs
+
+add-two64-requires-2 : tie.Need-add-two64-requires-2
+add-two64-requires-2 c κs = search needs
+
+same-length : tie.Need-same-length
+same-length c = search needs
+
+returns : tie.Need-returns
+unfolding bytes64 split
+returns c =
+    let first = c .before .before .before .before .before .before .before in
+    let second = c .before .before in
+    let a = first .before .before .before .before .before .before .before .before .args in
+    let wide : 16 ≤ length (a .input .now) = search needs in
+    laid-two 16 (bytes64 (a .x .first) ++ bytes64 (a .x .second)) (bytes64 (a .x .third) ++ bytes64 (a .x .fourth)) (a .input .now) (a .out .now)
+    (first .add-two64 .last .1 .1 .1 .0) (second .add-two642 .last .1 .1 .1 .0) refl wide (first .add-two64 .ensures) (second .add-two642 .ensures)
+
+pub add-four64-spec : {M : Type 1} → statement M
+add-four64-spec =
+    tie.close
+    (tie.spec
+    add-two64-requires
+    sub-add-two64
+    part-add-two64-start
+    part-add-two64-end
+    sub-add-two64-2
+    part-add-two64-start-2
+    part-add-two64-end-2
+    add-two64-requires-2
+    same-length
+    returns)

@@ -1,0 +1,63 @@
+-- `four64::add_two64` meets its contract: two blocks laid one after the other are their bytes joined.
+-- Assumes nothing.
+use Prim.Native.Nat.{_≤_}
+use lib.ListN.{length}
+use mathlib.Core.Path.{refl}
+use Rattle.fox_cipher.specs.Block.{bytes64}
+use Rattle.fox_layers.specs.Words.{split}
+use Rattle.fox_run.proofs.Laws.Four.{laid-two}
+use borrow.Author.Needs.{needs}
+use Rattle.fox_server_run64.proofs.four64.add_two64.Statement.{statement}
+use Rattle.fox_server_run64.proofs.four64.add_two64.Tie as tie
+
+add-whole64-requires : tie.Need-add-whole64-requires
+add-whole64-requires c κs = search needs
+
+sub-add-whole64 : tie.Need-sub-add-whole64
+sub-add-whole64 c = search needs
+
+part-add-whole64-start : tie.Need-part-add-whole64-start
+part-add-whole64-start c = search needs
+
+part-add-whole64-end : tie.Need-part-add-whole64-end
+part-add-whole64-end c = search needs
+
+sub-add-whole64-2 : tie.Need-sub-add-whole64-2
+sub-add-whole64-2 c = search needs
+
+part-add-whole64-start-2 : tie.Need-part-add-whole64-start-2
+part-add-whole64-start-2 c = search needs
+
+part-add-whole64-end-2 : tie.Need-part-add-whole64-end-2
+part-add-whole64-end-2 c = search needs
+
+add-whole64-requires-2 : tie.Need-add-whole64-requires-2
+add-whole64-requires-2 c κs = search needs
+
+same-length : tie.Need-same-length
+same-length c = search needs
+
+returns : tie.Need-returns
+unfolding bytes64 split
+returns c =
+    let first = c .before .before .before .before .before .before .before in
+    let second = c .before .before in
+    let a = first .before .before .before .before .args in
+    let wide : 8 ≤ length (a .input .now) = search needs in
+    laid-two 8 (bytes64 (a .x)) (bytes64 (a .y)) (a .input .now) (a .out .now) (first .add-whole64 .last .1 .1 .0) (second .add-whole642 .last .1 .1 .0)
+    refl wide (first .add-whole64 .ensures) (second .add-whole642 .ensures)
+
+pub add-two64-spec : {M : Type 1} → statement M
+add-two64-spec =
+    tie.close
+    (tie.spec
+    add-whole64-requires
+    sub-add-whole64
+    part-add-whole64-start
+    part-add-whole64-end
+    sub-add-whole64-2
+    part-add-whole64-start-2
+    part-add-whole64-end-2
+    add-whole64-requires-2
+    same-length
+    returns)

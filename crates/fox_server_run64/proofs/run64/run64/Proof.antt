@@ -1,0 +1,39 @@
+-- `run64::run64` meets its contract: the tables made here are those that the rounds ask to be lent, and the first counter block is read as it stands.
+-- Assumes nothing.
+use mathlib.Core.Path.{ap, _∙_}
+use Rattle.fox_rounds.specs.Skeleton.{numbered}
+use Rattle.fox_rounds.specs.declared.fox64.Fox64.{Fox64}
+use Rattle.fox_lent.specs.Held.{held64}
+use Rattle.fox_run.specs.Run.{addedFrom}
+use Rattle.fox_run.specs.States.{stream64}
+use borrow.Author.Needs.{needs}
+use Rattle.fox_server_run64.proofs.run64.run64.Statement.{statement}
+use Rattle.fox_server_run64.proofs.run64.run64.Tie as tie
+
+tbs-requires : tie.Need-tbs-requires
+tbs-requires c κs = search needs
+
+tbsm-requires : tie.Need-tbsm-requires
+tbsm-requires c κs = search needs
+
+read64-requires : tie.Need-read64-requires
+read64-requires c κs = search needs
+
+lay64-requires : tie.Need-lay64-requires
+lay64-requires c κs = search needs
+
+same-length : tie.Need-same-length
+same-length c = search needs
+
+returns : tie.Need-returns
+returns c =
+    let laid = c .before .before in
+    let x = laid .before .before .before .before .before .before .before .before in
+    let a = x .before .before .before .before .before .before .args in
+    laid .lay64 .ensures
+    ∙ ap (λ (y : Fox64). addedFrom (stream64 (numbered (held64 (a .keys .now)) (a .rounds) 0) y) (a .n) (a .input .now)) (x .read64 .ensures)
+
+pub run64-spec : {M : Type 1} → statement M
+run64-spec =
+    tie.close
+    (tie.spec tbs-requires tbsm-requires read64-requires lay64-requires same-length returns)

@@ -1,0 +1,51 @@
+-- `run64::step64` meets its contract: the pad is the sealed counter block that the byte is in.
+-- Assumes nothing.
+use mathlib.Core.Path.{ap, _∙_}
+use native.Mathlib.Omega.{arith}
+use Rattle.fox_rounds.specs.Skeleton.{numbered, seal64}
+use Rattle.fox_lent.specs.Held.{held64}
+use Rattle.fox_cipher.specs.Block.{bytes64}
+use Rattle.fox_run.specs.States.{sealed64, stream64}
+use Rattle.fox_run.proofs.Laws.Streams.{length-sealed64}
+use Rattle.fox_run.proofs.Laws.Steps.{step-made}
+use borrow.Author.Needs.{needs}
+use Rattle.fox_server_run64.proofs.run64.step64.Statement.{statement}
+use Rattle.fox_server_run64.proofs.run64.step64.Tie as tie
+
+cast-counted64 : tie.Need-cast-counted64
+cast-counted64 c = search needs
+
+counted64-requires : tie.Need-counted64-requires
+counted64-requires c κs = search needs
+
+seal64-requires : tie.Need-seal64-requires
+seal64-requires c κs = search needs
+
+add-part64-requires : tie.Need-add-part64-requires
+add-part64-requires c κs = search needs
+
+same-length : tie.Need-same-length
+same-length c = search needs
+
+returns : tie.Need-returns
+unfolding sealed64 stream64
+returns c =
+    let call = c .before .before in
+    let made = call .before .before in
+    let a = made .before .before .before .before .args in
+    let rks = numbered (held64 (a .keys .now)) (a .rounds) 0 in
+    step-made 8 (sealed64 rks (a .x)) (omega arith) (length-sealed64 rks (a .x)) (a .n) (call .add-part64 .result) (bytes64 (made .seal64 .result))
+    (a .input .now) (a .out .now) _
+    (ap bytes64 (made .seal64 .ensures ∙ ap (seal64 rks) (made .before .counted64 .ensures)))
+    (call .add-part64 .ensures .0) (call .add-part64 .ensures .1)
+
+pub step64-spec : {M : Type 1} → statement M
+step64-spec =
+    tie.close
+    (tie.spec
+    cast-counted64
+    counted64-requires
+    seal64-requires
+    add-part64-requires
+    same-length
+    returns)
