@@ -40,7 +40,7 @@ run64-key-requires : tie.Need-run64-key-requires
 run64-key-requires c κs =
     let at = c .before .before in
     let h = served at in
-    (omega (arith, h .low, h .high), h .key, h .counter ∙ size-64 _ (c .before .if2 .taken), h .end, h .output)
+    (omega (arith, h .low, h .high), h .key, h .counter ∙ size-64 _ (c .before .if2 .taken), omega (arith, h .end), h .output)
 
 served-requires : tie.Need-served-requires
 served-requires c κs = search needs
@@ -64,7 +64,7 @@ run128-key-requires : tie.Need-run128-key-requires
 run128-key-requires c κs =
     let at = c .before .before in
     let h = served at in
-    (omega (arith, h .low, h .high), h .key, h .counter ∙ size-128 _ (c .before .if2 .left), h .end, h .output)
+    (omega (arith, h .low, h .high), h .key, h .counter ∙ size-128 _ (c .before .if2 .left), omega (arith, h .end), h .output)
 
 served-requires-2 : tie.Need-served-requires-2
 served-requires-2 c κs = search needs

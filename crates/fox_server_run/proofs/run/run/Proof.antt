@@ -2,6 +2,7 @@
 -- those that the stretch for the cipher asks, and the round keys are those that the prepared key holds.
 -- Assumes nothing.
 use mathlib.Core.Path.{_≡_, refl, sym, _∙_}
+use native.Mathlib.Omega.{arith}
 use lib.ListN.{length}
 use Rattle.fox_calls.specs.Refusals.{refusalOf, forRun, Stretched}
 use Rattle.fox_calls.proofs.Laws.Refusals.{stretched}
@@ -38,7 +39,8 @@ run64-requires : tie.Need-run64-requires
 run64-requires c κs =
     let test = c .before .before in
     let at = test .before .before .before .before in
-    asked-64 (served at) (test .if2 .taken)
+    let h = asked-64 (served at) (test .if2 .taken) in
+    (h .0, h .1, h .2, omega (arith, h .3), h .4)
 
 served-requires : tie.Need-served-requires
 served-requires c κs = search needs
@@ -60,7 +62,8 @@ run128-requires : tie.Need-run128-requires
 run128-requires c κs =
     let test = c .before .before in
     let at = test .before .before .before .before in
-    asked-128 (served at) (test .if2 .left)
+    let h = asked-128 (served at) (test .if2 .left) in
+    (h .0, h .1, h .2, omega (arith, h .3), h .4)
 
 served-requires-2 : tie.Need-served-requires-2
 served-requires-2 c κs = search needs
