@@ -1,0 +1,4 @@
+-- Facts of the bench sheet and its answer.
+pub mod Laws
+pub mod Prefix
+pub mod Written

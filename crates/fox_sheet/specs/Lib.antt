@@ -1,0 +1,3 @@
+-- The bench sheet and its answer.
+pub mod Sheet
+pub mod Answer

@@ -1,0 +1,1 @@
+// The bench sheet: read, answered by the card's way, and the answer written.

@@ -1,0 +1,10 @@
+-- Laws beside definitions: what a proof cites in place of a definition's text.
+pub mod Tests
+pub mod Lines
+pub mod Decimals
+pub mod Pairs
+pub mod Stores
+pub mod Fields
+pub mod Prefixes
+pub mod Written
+pub mod Again

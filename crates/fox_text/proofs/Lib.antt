@@ -1,0 +1,2 @@
+-- The laws on texts.
+pub mod Laws

@@ -1,0 +1,36 @@
+-- Bytes as pairs of upper-case hex digits.
+-- Assumes nothing.
+use Prim.Native.Nat.{ℕ, _+_, _-_, _*_, _/_, _%_}
+use mathlib.Core.Bool.{Bool, true, cond, _&&_, _||_}
+use mathlib.Core.List.{List, [], _∷_}
+use lib.ListN.{length}
+use lib.Dec.{leb, ltb, eqb}
+use Rattle.fox_text.specs.Decimal.{isDigit}
+
+unfoldable pub isHex : ℕ → Bool
+isHex d = isDigit d || (leb 65 d && leb d 70)
+
+unfoldable pub allHex : List ℕ → Bool
+allHex [] = true
+allHex (d ∷ ds) = isHex d && allHex ds
+
+-- at most so many pairs, and nothing besides
+unfoldable pub isPairs : ℕ → List ℕ → Bool
+isPairs most ds = eqb (length ds % 2) 0 && leb (length ds / 2) most && allHex ds
+
+unfoldable pub nibble : ℕ → ℕ
+nibble d = cond (ltb d 65) (d - 48) (d - 55)
+
+-- the bytes that pairs of digits stand for
+unfoldable pub pairsOf : List ℕ → List ℕ
+pairsOf [] = []
+pairsOf (a ∷ []) = []
+pairsOf (a ∷ b ∷ ds) = (nibble a * 16 + nibble b) ∷ pairsOf ds
+
+unfoldable pub digit : ℕ → ℕ
+digit n = cond (ltb n 10) (48 + n) (55 + n)
+
+-- bytes as text
+unfoldable pub hexText : List ℕ → List ℕ
+hexText [] = []
+hexText (b ∷ bs) = digit (b / 16) ∷ digit (b % 16) ∷ hexText bs

@@ -1,0 +1,7 @@
+-- What the promises on texts cite: lines, decimals, pairs of hex digits, and lines of a name and a value.
+pub mod Ascii
+pub mod Lines
+pub mod Decimal
+pub mod Hex
+pub mod Fields
+pub mod Put
