@@ -1,2 +1,4 @@
 -- Laws beside definitions: what a proof cites in place of a definition's text.
 pub mod Kept
+pub mod Reading
+pub mod Told

@@ -1,10 +1,11 @@
 -- What the bench program prints for a sheet (01, "The bench program"): every byte, for every sheet.
 -- Assumes nothing.
 use mathlib.Core.Path.{_≡_}
-use Prim.Native.Nat.{ℕ, _*_}
+use Prim.Native.Nat.{ℕ, _*_, _≤_}
 use mathlib.Core.Bool.{Bool, cond}
-use mathlib.Core.List.{List, [], _∷_, _++_}
-use lib.ListN.{length, drop}
+use mathlib.Core.List.{List, _++_}
+use lib.ListN.{length}
+use lib.Seq.{sets}
 use lib.Dec.{eqb}
 use Rattle.fox_calls.specs.Refusals.{refusalOf, forBlock}
 use Rattle.fox_cipher.specs.Block.{sealBlock, openBlock}
@@ -52,7 +53,8 @@ answerOf t =
     let told = blockText (opens t) (cipherOf t) (roundsOf t) (keyOf t) (blockOf t) in
     cond (eqb (brokenLine t) 0) told (brokenText (brokenLine t))
 
--- the answer at the start of a buffer, the rest of it as it was, and the answer's length handed back
+-- the answer stored in a buffer of 128 bytes, byte by byte from its start, the rest of it as it was, and the answer's length handed back
 pub record Answers (sheet before after : List ℕ) (r : ℕ) : Type 0 where
   pub count : r ≡ length (answerOf sheet)
-  pub bytes : after ≡ answerOf sheet ++ drop r before
+  pub fits : r ≤ 128
+  pub bytes : after ≡ sets before 0 (answerOf sheet)

@@ -1,3 +1,4 @@
 -- The bench sheet and its answer.
 pub mod Sheet
+pub mod Reading
 pub mod Answer

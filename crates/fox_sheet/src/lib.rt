@@ -1,1 +1,3 @@
 // The bench sheet: read, answered by the card's way, and the answer written.
+pub mod answer;
+pub mod sheet;

@@ -10,6 +10,7 @@ use lib.Dec.{leb, ltb}
 use borrow.Author.Tests.{le-leb, lt-leb, eq-eqb, ne-eqb}
 use Rattle.fox_text.specs.Ascii.{empty}
 use Rattle.fox_text.specs.Decimal.{isDigit, allDigits, onward, decimalOf, leadingZero, inRange, isDecimal, place, decimalText}
+use Rattle.fox_text.specs.Fields.{decimalLineText}
 use Rattle.fox_text.proofs.Laws.Lines.{from-here}
 
 digits-here : (ds : List ℕ) (i : ℕ) → i < length ds → allDigits (drop i ds) ≡ (isDigit (getD ds i 0) && allDigits (drop (i + 1) ds))
@@ -102,3 +103,7 @@ unfolding decimalText
 decimal-short n =
     simp length-append
     (omega (arith, place-short 10000 n, place-short 1000 n, place-short 100 n, place-short 10 n))
+
+pub decimal-line-short : (name : List ℕ) (n : ℕ) → length (decimalLineText name n) ≤ length name + 6
+unfolding decimalLineText
+decimal-line-short name n = simp length-append (omega (arith, decimal-short n))

@@ -7,12 +7,13 @@ use Prim.Native.Nat.{ℕ, zero, suc, _+_, _-_, _*_, _/_, _%_, _≤_, _<_}
 use native.Mathlib.Numerals.{add-one}
 use native.Mathlib.Nat.{div-add-mod'}
 use native.Mathlib.Omega.{arith}
-use lib.ListN.{length, drop, getD, set, length-drop, drop-of-length-le}
+use lib.ListN.{length, drop, getD, set, length-append, length-drop, drop-of-length-le}
 use lib.Seq.{sets}
 use lib.Dec.{leb, ltb, eqb}
 use borrow.Author.Tests.{leb-true, eqb-true, ltb-true, ltb-false}
 use Rattle.fox_text.specs.Decimal.{isDigit}
 use Rattle.fox_text.specs.Hex.{isHex, allHex, isPairs, nibble, pairsOf, hexText, digit}
+use Rattle.fox_text.specs.Fields.{named, valueText, isPairsLine, pairsIn, pairsLineText}
 use Rattle.fox_text.proofs.Laws.Tests.{both-first, both-second}
 use Rattle.fox_text.proofs.Laws.Lines.{from-here}
 
@@ -125,3 +126,13 @@ even-pairs most ds e =
       few = leb-true (n / 2) most (both-second e₂ l first);
       hex = both-second (e₂ && l) (allHex ds) e;
     }
+
+pub pairs-line-length : (name bytes : List ℕ) → length (pairsLineText name bytes) ≡ length name + length bytes * 2 + 1
+unfolding pairsLineText
+pairs-line-length name bytes = simp length-append (omega (arith, length-hex-text bytes))
+
+pub pairs-few : (most : ℕ) (name t : List ℕ) → isPairsLine most name t ≡ true → length (pairsIn name t) ≤ most
+unfolding isPairsLine pairsIn
+pairs-few most name t e =
+    let p = even-pairs most (valueText name t) (both-second (named name t) (isPairs most (valueText name t)) e) in
+    omega (arith, p .few, length-pairs _ (valueText name t) (p .even))

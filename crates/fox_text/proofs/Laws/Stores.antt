@@ -5,8 +5,8 @@ use mathlib.Core.List.{List, [], _∷_, _++_}
 use Prim.Native.Nat.{ℕ, zero, suc, _+_, _*_, _/_, _%_, _≤_, _<_}
 use native.Mathlib.Numerals.{add-one}
 use native.Mathlib.Omega.{arith}
-use lib.ListN.{length, drop, getD, set, length-append, drop-of-length-le}
-use lib.Seq.{sets}
+use lib.ListN.{length, take, drop, getD, set, length-append, drop-of-length-le}
+use lib.Seq.{sets, sets-eq, take-append-seam}
 use Rattle.fox_text.specs.Hex.{digit, hexText}
 use Rattle.fox_text.specs.Put.{Put}
 use Rattle.fox_text.proofs.Laws.Lines.{from-here}
@@ -44,3 +44,12 @@ then {a} {b} {l} {m} {n} {at} {r} {s} p q =
       place = omega (arith, p .place, q .place, length-append a b);
       bytes = q .bytes ∙ ap (λ (k : ℕ). sets m k b) (p .place) ∙ ap (λ (x : List ℕ). sets x (at + length a) b) (p .bytes) ∙ sym (sets-append l at a b);
     }
+
+-- bytes stored at the start of a list that has room for them stand there, and what is after them stays
+pub stored-first : (l v : List ℕ) → length v ≤ length l → sets l 0 v ≡ v ++ drop (length v) l
+stored-first l v h =
+    let e : 0 + length v ≡ length v = omega arith in
+    sets-eq v l 0 (rw e h) ∙ rw e
+
+pub take-stored : (l v : List ℕ) → length v ≤ length l → take (length v) (sets l 0 v) ≡ v
+take-stored l v h = rw (stored-first l v h) (take-append-seam v (drop (length v) l))

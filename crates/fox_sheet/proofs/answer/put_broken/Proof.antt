@@ -1,0 +1,41 @@
+-- `answer::put_broken` meets its contract: two lines, one after the other.
+-- Assumes nothing.
+use native.Mathlib.Omega.{arith}
+use Rattle.fox_text.specs.Ascii.{codes, ascii}
+use Rattle.fox_text.proofs.Laws.Decimals.{decimal-line-short}
+use Rattle.fox_text.proofs.Laws.Stores.{then}
+use Rattle.fox_sheet.specs.Answer.{refusalName, lineName, brokenText}
+use borrow.Author.Needs.{needs}
+use Rattle.fox_sheet.proofs.answer.put_broken.Statement.{statement}
+use Rattle.fox_sheet.proofs.answer.put_broken.Tie as tie
+
+slice-aggregate-put-decimal-line : tie.Need-slice-aggregate-put-decimal-line
+slice-aggregate-put-decimal-line c = search needs
+
+put-decimal-line-requires : tie.Need-put-decimal-line-requires
+put-decimal-line-requires c κs = search needs
+
+slice-aggregate-put-decimal-line-2 : tie.Need-slice-aggregate-put-decimal-line-2
+slice-aggregate-put-decimal-line-2 c = search needs
+
+put-decimal-line-requires-2 : tie.Need-put-decimal-line-requires-2
+unfolding codes ascii refusalName
+put-decimal-line-requires-2 c κs = omega (arith, c .before .before .put-decimal-line .ensures .place, decimal-line-short refusalName 8)
+
+returns : tie.Need-returns
+unfolding codes ascii refusalName lineName brokenText
+returns c =
+    let first = c .before .before .before in (
+      omega (arith, first .put-decimal-line .ensures .place, c .put-decimal-line2 .ensures .place, decimal-line-short refusalName 8, decimal-line-short lineName (first .before .before .before .args .line)),
+      then (first .put-decimal-line .ensures) (c .put-decimal-line2 .ensures),
+    )
+
+pub put-broken-spec : {M : Type 1} → statement M
+put-broken-spec =
+    tie.close
+    (tie.spec
+    slice-aggregate-put-decimal-line
+    put-decimal-line-requires
+    slice-aggregate-put-decimal-line-2
+    put-decimal-line-requires-2
+    returns)

@@ -1,0 +1,76 @@
+-- `answer::tell` meets its contract: the block is served or refused, and the lines for either are written.
+-- Assumes nothing.
+use mathlib.Core.Path.{_≡_, refl, sym, ap, _∙_}
+use mathlib.Core.List.{List}
+use Prim.Native.Nat.{ℕ, _≤_}
+use native.Mathlib.Omega.{arith}
+use lib.ListN.{length}
+use Rattle.fox_calls.specs.Refusals.{refusalOf, forBlock}
+use Rattle.fox_text.specs.Ascii.{codes, ascii}
+use Rattle.fox_text.proofs.Laws.Decimals.{decimal-line-short}
+use Rattle.fox_sheet.specs.Answer.{refusalName, refusal}
+use Rattle.fox_sheet.proofs.Laws.Told.{told-refused, told-served}
+use borrow.Author.Needs.{needs}
+use Rattle.fox_sheet.proofs.answer.tell.Statement.{statement}
+use Rattle.fox_sheet.proofs.answer.tell.Tie as tie
+
+turn-requires : tie.Need-turn-requires
+turn-requires c κs = search needs
+
+slice-aggregate-put-decimal-line : tie.Need-slice-aggregate-put-decimal-line
+slice-aggregate-put-decimal-line c = search needs
+
+put-decimal-line-requires : tie.Need-put-decimal-line-requires
+put-decimal-line-requires c κs = search needs
+
+same-length : tie.Need-same-length
+same-length c = search needs
+
+returns : tie.Need-returns
+unfolding codes ascii refusalName refusal
+returns c =
+    let turn = c .before .before .before .before .before .before .before in
+    let start = turn .before .before .before .before .before in
+    let a = start .args in
+    let e = turn .turn .ensures .refusal ∙ ap (λ (n : ℕ). refusalOf (forBlock (a .cipher) (a .rounds) (length (a .key .now)) (length (a .block .now)) n)) (start .pre .2) in
+    let told = told-refused (a .opening) (a .cipher) (a .rounds) (a .key .now) (a .block .now) _ e (c .before .before .before .if1 .taken) in (
+      omega (arith, c .put-decimal-line .ensures .place, decimal-line-short refusalName (turn .turn .result .refusal)),
+      rw told (c .put-decimal-line .ensures),
+    )
+
+put-served-requires : tie.Need-put-served-requires
+put-served-requires c κs =
+    let turn = c .before .before .before .before .before .before in
+    let start = turn .before .before .before .before .before in
+    (start .pre .0, omega (arith, turn .turn .kept .1 .1 .1 .1 .1 .0, start .pre .1, start .pre .2))
+
+same-length-2 : tie.Need-same-length-2
+same-length-2 c = search needs
+
+returns-2 : tie.Need-returns-2
+unfolding refusal
+returns-2 c =
+    let turn = c .before .before .before .before .before .before .before in
+    let start = turn .before .before .before .before .before in
+    let a = start .args in
+    let reply = turn .turn .ensures in
+    let r = reply .refusal in
+    let served = sym r ∙ c .before .before .before .if1 .left in
+    let none : refusal (a .cipher) (a .rounds) (a .key .now) (a .block .now) ≡ 0 =
+    sym (ap (λ (n : ℕ). refusalOf (forBlock (a .cipher) (a .rounds) (length (a .key .now)) (length (a .block .now)) n)) (start .pre .2)) ∙ served in
+    let told = told-served (a .opening) (a .cipher) (a .rounds) (a .key .now) (a .block .now) none in
+    let block = rw served at (reply .output) in
+    (c .put-served .ensures .0, rw (told, ← block) (c .put-served .ensures .1))
+
+pub tell-spec : {M : Type 1} → statement M
+tell-spec =
+    tie.close
+    (tie.spec
+    turn-requires
+    slice-aggregate-put-decimal-line
+    put-decimal-line-requires
+    same-length
+    returns
+    put-served-requires
+    same-length-2
+    returns-2)

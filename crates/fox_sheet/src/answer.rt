@@ -1,0 +1,98 @@
+// The answer to a sheet, by the card's way.
+ghost use mathlib.Core.Path.{_≡_};
+ghost use Prim.Native.Nat.{_≤_};
+ghost use lib.ListN.{length};
+ghost use Rattle.fox_calls.specs.Refusals.{forBlock};
+ghost use Rattle.fox_calls.specs.Reply.{Reply};
+ghost use Rattle.fox_text.specs.Put.{Put};
+ghost use Rattle.fox_sheet.specs.Answer.{Answers, blockText, brokenText, servedText, turned};
+use crate::sheet::read_settings;
+use crate::sheet::read_task;
+use fox_calls::answer::Answer;
+use fox_card::block::open;
+use fox_card::block::seal;
+use fox_text::writing::put_decimal_line;
+use fox_text::writing::put_pairs_line;
+
+fn put_broken(line: u32, out: &mut [u8; 128]) -> usize
+    ensures { λ r. ⌜ (r ≤ 128) × (Put (brokenText line) (now (out .entry)) (now (out .exit)) 0 r) ⌝ }
+{
+    let at = put_decimal_line(out, 0, b"refusal=", 8);
+    put_decimal_line(out, at, b"line=", line)
+}
+
+fn put_served(cipher: u32, rounds: u32, key: usize, block: &[u8], out: &mut [u8; 128]) -> usize
+    requires { ⌜ (key ≤ 64) × (length (now block) ≤ 32) ⌝ }
+    ensures { λ r. ⌜ (r ≤ 128) × (Put (servedText cipher rounds key (now (block .entry))) (now (out .entry)) (now (out .exit)) 0 r) ⌝ }
+{
+    let a = put_decimal_line(out, 0, b"refusal=", 0);
+    let b = put_decimal_line(out, a, b"cipher=", cipher);
+    let c = put_decimal_line(out, b, b"rounds=", rounds);
+    let d = put_decimal_line(out, c, b"keybits=", (key * 8) as u32);
+    put_pairs_line(out, d, b"block=", block)
+}
+
+// The block sealed or opened, as the sheet asks.
+fn turn(opening: bool, cipher: u32, rounds: u32, key: &[u8], block: &[u8], out: &mut [u8]) -> Answer
+    ensures { λ r. ⌜ Reply (forBlock cipher rounds (length (now (key .entry))) (length (now (block .entry))) (length (now (out .entry)))) (turned opening cipher rounds (now (key .entry)) (now (block .entry))) (now (out .entry)) (now (out .exit)) r ⌝ }
+{
+    if opening {
+        return open(cipher, rounds, key, block, out);
+    }
+    seal(cipher, rounds, key, block, out)
+}
+
+// `room` is where the turned block goes.
+fn tell(
+    opening: bool,
+    cipher: u32,
+    rounds: u32,
+    key: &[u8],
+    block: &[u8],
+    room: &mut [u8],
+    out: &mut [u8; 128],
+) -> usize
+    requires { ⌜ (length (now key) ≤ 64) × (length (now block) ≤ 32) × (length (now room) ≡ length (now block)) ⌝ }
+    ensures { λ r. ⌜ (r ≤ 128) × (Put (blockText opening cipher rounds (now (key .entry)) (now (block .entry))) (now (out .entry)) (now (out .exit)) 0 r) ⌝ }
+{
+    let a = turn(opening, cipher, rounds, key, block, room);
+    if a.refusal != 0 {
+        return put_decimal_line(out, 0, b"refusal=", a.refusal);
+    }
+    put_served(cipher, rounds, key.len(), room, out)
+}
+
+fn answer_block(
+    opening: bool,
+    cipher: u32,
+    rounds: u32,
+    key: &[u8],
+    block: &[u8],
+    out: &mut [u8; 128],
+) -> usize
+    requires { ⌜ (length (now key) ≤ 64) × (length (now block) ≤ 32) ⌝ }
+    ensures { λ r. ⌜ (r ≤ 128) × (Put (blockText opening cipher rounds (now (key .entry)) (now (block .entry))) (now (out .entry)) (now (out .exit)) 0 r) ⌝ }
+{
+    let mut room = [0; 32];
+    let n = block.len();
+    tell(opening, cipher, rounds, key, block, &mut room[..n], out)
+}
+
+// Every byte that the bench program prints for the sheet, at the start of the output; their count is handed back.
+pub fn answer(sheet: &[u8], out: &mut [u8; 128]) -> usize
+    ensures { λ r. ⌜ Answers (now (sheet .entry)) (now (out .entry)) (now (out .exit)) r ⌝ }
+{
+    let mut key = [0; 64];
+    let s = read_settings(sheet, &mut key);
+    if s.line != 0 {
+        return put_broken(s.line, out);
+    }
+    let mut block = [0; 64];
+    let t = read_task(sheet, s.next, &mut block);
+    if t.line != 0 {
+        return put_broken(t.line, out);
+    }
+    let k = s.size;
+    let b = t.size;
+    answer_block(t.opening, s.cipher, s.rounds, &key[..k], &block[..b], out)
+}
