@@ -262,27 +262,32 @@ static void run_row(char **fields)
     same_bytes(out, data, len, "opened run");
 }
 
-/* The first row names the fields. `expected` is the number of rows after it, so that a file cut short is noticed. */
-static void rows(const char *path, size_t width, uint32_t expected, void (*check_row)(char **fields))
+/* The first row names the fields. Answers with the number of rows after it. */
+static uint32_t all_rows(FILE *file, size_t width, void (*check_row)(char **fields))
 {
     char row[MOST_ROW], *fields[8];
     uint32_t count = 0;
+    for (int named = 0; fgets(row, sizeof row, file) != NULL; named = 1) {
+        size_t found = cut_row(row, fields, COUNT(fields));
+        same_number((uint32_t)found, (uint32_t)width, "fields of a row");
+        if (named && found == width) {
+            check_row(fields);
+            count++;
+        }
+    }
+    return count;
+}
+
+/* `expected` is the number of rows, so that a file cut short is noticed. */
+static void rows(const char *path, size_t width, uint32_t expected, void (*check_row)(char **fields))
+{
     FILE *file = fopen(path, "r");
     group_begin(path);
-    if (file == NULL) {
-        if (case_wrong(0))
-            printf("%s\n", strerror(errno));
-    } else {
-        for (int named = 0; fgets(row, sizeof row, file) != NULL; named = 1) {
-            size_t found = cut_row(row, fields, COUNT(fields));
-            same_number((uint32_t)found, (uint32_t)width, "fields of a row");
-            if (named && found == width) {
-                check_row(fields);
-                count++;
-            }
-        }
-        same_number(count, expected, "rows");
+    if (file != NULL) {
+        same_number(all_rows(file, width, check_row), expected, "rows");
         fclose(file);
+    } else if (case_wrong(0)) {
+        printf("%s\n", strerror(errno));
     }
     group_end();
 }
