@@ -19,7 +19,7 @@ static const char *const values[LINES] = {"64", "16", "00112233445566778899AABBC
 
 static void put_own_lines(size_t from, size_t to)
 {
-    for (size_t i = from; i < to; i++) {
+    for (size_t i = from; i < to && i < LINES; i++) {
         put(begins[i]);
         put(values[i]);
         put("\n");

@@ -35,6 +35,11 @@ void group_end(void)
     all_cases += cases;
 }
 
+const char *group_name(void)
+{
+    return group;
+}
+
 int case_wrong(int right)
 {
     cases++;

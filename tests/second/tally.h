@@ -7,6 +7,7 @@ void tally_begin(const char *program);
 
 void group_begin(const char *name);
 void group_end(void);
+const char *group_name(void);
 
 /* Counts one case. Answers with 1 where it went wrong and is among the first of its group, so that the caller shows it; the line is begun. */
 int case_wrong(int right);
