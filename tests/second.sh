@@ -1,6 +1,6 @@
 #!/bin/sh
-# The second implementation: by itself, on the machine's own processor, and then beside the proved library. A seed for the comparison may be given,
-# as an earlier run printed it. Last line: 'N passed, M failed', the sum of both.
+# The second implementation: by itself, on the machine's own processor, and then beside the proved library. A seed for
+# the comparison may be given, as an earlier run printed it. Last line: 'N passed, M failed', the sum of both.
 set -u
 cd "$(dirname "$0")/.." || exit 2
 . tests/host.sh
@@ -25,7 +25,8 @@ add() { # COMMAND..: adds its last line to the sum; a program that ends in anoth
 }
 
 alone() {
-    ${CC:-gcc} -std=c11 -O1 -Wall -Wextra -Werror -o build/vectors $s/vectors.c $s/sheet.c $s/hex.c $s/tally.c $second ||
+    ${CC:-gcc} -std=c11 -O1 -Wall -Wextra -Werror -o build/vectors \
+        $s/vectors.c $s/sheet.c $s/hex.c $s/tally.c $second ||
         failed_to second "tests/second/vectors.c was not built"
     ./build/vectors tests/vectors/block.csv tests/vectors/run.csv
 }
@@ -35,8 +36,9 @@ beside() { # [SEED]
         tail -n 5 target/log/libfox.second
         failed_to second "build/libfox.a was not built"
     }
-    $CC_HOST -std=gnu11 -O2 -Wall -Wextra -Werror -Iinclude -o build/compare $s/compare.c $s/calls.c $s/large.c $s/ways.c $s/hex.c $s/chance.c \
-        $s/tally.c $second build/libfox.a || failed_to second "tests/second/compare.c was not built"
+    $CC_HOST -std=gnu11 -O2 -Wall -Wextra -Werror -Iinclude -o build/compare \
+        $s/compare.c $s/calls.c $s/large.c $s/ways.c $s/hex.c $s/chance.c $s/tally.c $second build/libfox.a ||
+        failed_to second "tests/second/compare.c was not built"
     run_host ./build/compare "$@"
 }
 
@@ -44,7 +46,7 @@ add alone
 if [ -n "$CC_HOST" ]; then
     add beside "$@"
 else
-    echo "second: not compared with the library, since this machine has no x86-64 processor, and no x86_64-linux-gnu-gcc with an emulator"
+    echo "second: not compared with the library, since x86-64 code can be neither made nor run on this machine"
 fi
 echo "$passed passed, $failed failed"
 [ "$failed" -eq 0 ]

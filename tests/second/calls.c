@@ -2,8 +2,6 @@
 #include "calls.h"
 #include "chance.h"
 
-#include <string.h>
-
 #define COUNT(a) (sizeof(a) / sizeof *(a))
 #define ONE_OF(a) ((a)[below(COUNT(a))])
 
@@ -14,15 +12,15 @@ uint32_t some_cipher(void)
     return below(2) == 0 ? 64 : 128;
 }
 
-/* Some would be right if only a part of the number were looked at. */
+const uint32_t wrong_ciphers[WRONG_CIPHERS] = {
+    0,         1,         8,          16,          32,          63,          65,          96,          127,
+    129,       192,       255,        256,         64 + 256,    128 + 256,   64 + 65536,  128 + 65536, 64u << 8,
+    128u << 8, 64u << 24, 128u << 24, 0x80000040u, 0x80000080u, 0xFFFFFFC0u, 0xFFFFFF80u, 0xFFFFFFFFu,
+};
+
 static uint32_t wrong_cipher(void)
 {
-    static const uint32_t numbers[] = {
-        0,           1,           8,           16,          32,          63,          65,         96,         127,         129,
-        192,         255,         256,         64 + 256,    128 + 256,   64 + 65536,  128 + 65536, 64u << 8,  128u << 8,   64u << 24,
-        128u << 24,  0x80000040u, 0x80000080u, 0xFFFFFFC0u, 0xFFFFFF80u, 0xFFFFFFFFu,
-    };
-    return below(4) == 0 ? (uint32_t)any_number() : ONE_OF(numbers);
+    return below(4) == 0 ? (uint32_t)any_number() : ONE_OF(wrong_ciphers);
 }
 
 uint32_t odd_rounds(void)
@@ -34,22 +32,25 @@ uint32_t odd_rounds(void)
     return ONE_OF(numbers);
 }
 
+/* The edges are a block's, the run's, and those of 32 and 64 bits, from where a sum with `n` would wrap. */
 uint64_t odd_offset(size_t data_len)
 {
+    const uint64_t end = RUN_END, four_gib = 1ull << 32, n = data_len;
     const uint64_t numbers[] = {
-        0,           1,           7,          8,          15,         16,     31,     32, 33, 64, RUN_END - data_len - 1, RUN_END - data_len,
-        RUN_END - data_len + 1,   RUN_END - 1, RUN_END,   RUN_END + 1, 1ull << 31, (1ull << 32) - 1, 1ull << 32, (1ull << 32) + 8,
-        1ull << 63,  0 - (uint64_t)data_len,  0 - (uint64_t)data_len - 1,     0 - (uint64_t)data_len + 1, 0 - (1ull << 30), UINT64_MAX - 1, UINT64_MAX,
+        0, 1, 7, 8, 15, 16, 31, 32, 33, 64,
+        end - n, end - n - 1, end - n + 1, end - 1, end, end + 1,
+        four_gib / 2, four_gib - 1, four_gib, four_gib + 8,
+        1ull << 63, 0 - n, 0 - n - 1, 0 - n + 1, 0 - end, UINT64_MAX - 1, UINT64_MAX,
     };
     return ONE_OF(numbers);
 }
 
 struct call right_block(uint32_t cipher)
 {
-    struct call c = {.cipher = cipher, .rounds = 12 + (uint32_t)below(6), .key_len = below(33), .first_len = cipher / 8};
+    struct call c = {.cipher = cipher, .rounds = 12 + (uint32_t)below(6), .key_len = below(33)};
+    c.first_len = c.out_len = cipher / 8;
     fill(c.key, sizeof c.key);
     fill(c.first, sizeof c.first);
-    c.out_len = c.first_len;
     return c;
 }
 

@@ -1,4 +1,5 @@
-/* The proved library beside the second implementation: every case is one input, answered by both, and compared in refusal and in every byte.
+/* The proved library beside the second implementation: every case is one input, answered by both, and compared in
+ * refusal and in every byte.
  * Usage: compare [SEED]. Last line: 'N passed, M failed', where each group of cases counts as one. */
 #include "calls.h"
 #include "chance.h"
@@ -27,7 +28,8 @@ static void keys(void)
 
 static void rounds(void)
 {
-    static const uint32_t numbers[] = {0, 10, 11, 12, 13, 254, 255, 256, 257, 12 + 256, 255 + 256, 12 + 65536, 0x8000000Cu, 0xFFFFFFFFu};
+    static const uint32_t numbers[] = {0,   10,  11,       12,        13,         254,         255,
+                                       256, 257, 12 + 256, 255 + 256, 12 + 65536, 0x8000000Cu, 0xFFFFFFFFu};
     static const size_t key_lens[] = {0, 15, 16, 17, 31, 32, 33};
     group_begin("blocks: round counts");
     for (size_t i = 0; i < COUNT(numbers) * COUNT(key_lens) * 2; i++) {
@@ -59,18 +61,11 @@ static void block_lengths(void)
 
 static void ciphers(void)
 {
-    static const uint32_t numbers[] = {
-        0,         1,         8,           16,          32,        63,         64,         65,          96,          127,         128,        129,
-        192,       255,       256,         64 + 256,    128 + 256, 64 + 65536, 128 + 65536, 64u << 8,   128u << 8,   64u << 24,   128u << 24, 0xFFFFFFC0u,
-        0xFFFFFF80u, 0x80000040u, 0x80000080u, 0xFFFFFFFFu,
-    };
     group_begin("cipher numbers");
-    for (size_t i = 0; i < COUNT(numbers) * 2; i++) {
-        struct call c = right_block(i % 2 == 0 ? 64 : 128);
-        c.cipher = numbers[i / 2];
+    for (size_t i = 0; i < WRONG_CIPHERS * 2; i++) {
+        struct call c = right_block(i % 2 == 0 ? 64 : 128), d = right_run(i % 2 == 0 ? 64 : 128, below(40), below(100));
+        c.cipher = d.cipher = wrong_ciphers[i / 2];
         try_block(&c);
-        struct call d = right_run(i % 2 == 0 ? 64 : 128, below(40), below(100));
-        d.cipher = numbers[i / 2];
         try_run(&d);
     }
     for (int i = 0; i < 2000; i++) {
@@ -81,29 +76,35 @@ static void ciphers(void)
     group_end();
 }
 
-/* Every length with every offset. A sum that goes past 64 bits is among them, as is one that ends at 0 if it wraps. */
-static void run_edges(uint32_t cipher)
+/* Sums that go past 64 bits are among these, and sums that would be small if they wrapped. */
+static void offsets_of(uint32_t cipher, size_t length)
 {
-    const size_t b = cipher / 8, lengths[] = {0, 1, b - 1, b, b + 1, 2 * b - 1, 2 * b, 2 * b + 1, 4 * b - 1, 4 * b, 4 * b + 1, 9 * b + 3};
-    for (size_t i = 0; i < COUNT(lengths); i++) {
-        const uint64_t n = lengths[i];
-        const uint64_t offsets[] = {
-            0, 1, b - 1, b, b + 1, 4 * b - 1, 4 * b, 5 * b + 1, RUN_END / 2 - 1, RUN_END - n - 1, RUN_END - n, RUN_END - n + 1, RUN_END - 1, RUN_END,
-            RUN_END + 1, 1ull << 31, (1ull << 32) - n, (1ull << 32) - 1, 1ull << 32, (1ull << 32) + b, (1ull << 32) + RUN_END, 1ull << 63, 0 - n, 1 - n,
-            0 - n - 1, b - n, RUN_END - n - (1ull << 32), UINT64_MAX - 1, UINT64_MAX,
-        };
-        for (size_t j = 0; j < COUNT(offsets); j++) {
-            struct call c = right_run(cipher, lengths[i], offsets[j]);
-            try_run(&c);
-        }
+    const uint64_t b = cipher / 8, n = length, end = RUN_END, four_gib = 1ull << 32;
+    const uint64_t offsets[] = {
+        0, 1, b - 1, b, b + 1, 4 * b - 1, 4 * b, 5 * b + 1,
+        end - n, end - n - 1, end - n + 1, end - 1, end, end + 1, end / 2 - 1,
+        four_gib / 2, four_gib - n, four_gib - 1, four_gib, four_gib + b, four_gib + end,
+        1ull << 63, end - n - four_gib, 0 - n, 0 - n - 1, 1 - n, b - n, UINT64_MAX - 1, UINT64_MAX,
+    };
+    for (size_t i = 0; i < COUNT(offsets); i++) {
+        struct call c = right_run(cipher, length, offsets[i]);
+        try_run(&c);
     }
 }
 
 static void runs(void)
 {
     group_begin("runs: lengths at and around 0, B, 2B and 4B, offsets at and around every limit");
-    for (int i = 0; i < 4; i++)
-        run_edges(i % 2 == 0 ? 64 : 128);
+    for (uint32_t i = 0; i < 4; i++) {
+        const uint32_t cipher = i % 2 == 0 ? 64 : 128;
+        const size_t b = cipher / 8, around[] = {b, 2 * b, 4 * b};
+        offsets_of(cipher, 0);
+        offsets_of(cipher, 1);
+        for (size_t j = 0; j < COUNT(around); j++)
+            for (size_t length = around[j] - 1; length <= around[j] + 1; length++)
+                offsets_of(cipher, length);
+        offsets_of(cipher, 9 * b + 3);
+    }
     group_end();
 }
 
@@ -210,10 +211,11 @@ static void there_and_back(const struct call *c, const struct way *there, const 
 {
     uint8_t sealed[16] = {0}, opened[16] = {0}, run[64] = {0}, again[64] = {0};
     size_t b = c->first_len, n = c->data_len;
-    int served = there->seal(c->cipher, c->rounds, c->key, c->key_len, c->first, b, sealed, b) == 0 &&
-                 back->open(c->cipher, c->rounds, c->key, c->key_len, sealed, b, opened, b) == 0 &&
-                 there->run(c->cipher, c->rounds, c->key, c->key_len, c->first, b, c->offset, c->data, n, run, n) == 0 &&
-                 back->run(c->cipher, c->rounds, c->key, c->key_len, c->first, b, c->offset, run, n, again, n) == 0;
+    int served =
+        there->seal(c->cipher, c->rounds, c->key, c->key_len, c->first, b, sealed, b) == 0 &&
+        back->open(c->cipher, c->rounds, c->key, c->key_len, sealed, b, opened, b) == 0 &&
+        there->run(c->cipher, c->rounds, c->key, c->key_len, c->first, b, c->offset, c->data, n, run, n) == 0 &&
+        back->run(c->cipher, c->rounds, c->key, c->key_len, c->first, b, c->offset, run, n, again, n) == 0;
     int same = memcmp(opened, c->first, b) == 0 && memcmp(again, c->data, n) == 0;
     /* Copying would be undone too, so that the sealed block must not be the plain one. */
     if (case_wrong(served && same && memcmp(sealed, c->first, b) != 0)) {
@@ -236,7 +238,8 @@ static void across(void)
 int main(int count, char **words)
 {
     static void (*const groups[])(void) = {
-        keys, rounds, block_lengths, ciphers, runs, counters, long_runs, damaged_blocks, damaged_runs, mixtures, changed_bits, across, large_lengths,
+        keys,           rounds,       block_lengths, ciphers,      runs,   counters,      long_runs,
+        damaged_blocks, damaged_runs, mixtures,      changed_bits, across, large_lengths,
     };
     if (count > 2) {
         fprintf(stderr, "usage: compare [SEED]\n");

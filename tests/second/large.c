@@ -1,5 +1,5 @@
-/* Lengths of 4 GiB and more, whose lower 32 bits are right: a library that keeps a length in 32 bits would serve these calls. Behind each pointer
- * there are as many bytes as the length says, in pages that are never touched. */
+/* Lengths of 4 GiB and more, whose lower 32 bits are right: a library that keeps a length in 32 bits would serve these
+ * calls. Behind each pointer there are as many bytes as the length says, in pages that are never touched. */
 #define _GNU_SOURCE
 #include "large.h"
 #include "second.h"
@@ -46,8 +46,8 @@ static int untouched(void)
 static void check(const char *what, uint32_t cipher, struct lengths l, uint32_t refusal, uint32_t right)
 {
     if (case_wrong(refusal == right && refusal != 0 && untouched()))
-        printf("%s, cipher %" PRIu32 ", key of %" PRIu64 ", block or counter of %" PRIu64 ", data of %" PRIu64 ", output of %" PRIu64
-               " bytes: answers %" PRIu32 " and not %" PRIu32 ", or writes\n",
+        printf("%s, cipher %" PRIu32 ", key of %" PRIu64 ", block or counter of %" PRIu64 ", data of %" PRIu64
+               ", output of %" PRIu64 " bytes: answers %" PRIu32 " and not %" PRIu32 ", or writes\n",
                what, cipher, l.key, l.first, l.data, l.out, refusal, right);
     memset(out, 0, WRITABLE);
 }

@@ -10,7 +10,8 @@ static const uint8_t mu4[4][4] = {
     {0x02, 0x01, 0xFD, 0x01},
 };
 
-/* The last entry of row 0 is 03: 001's matrix has `a` there, which is the sum of 02 and 01. 01 says 2, and with that no vector for FOX128 comes out. */
+/* The last entry of row 0 is 03: 001's matrix has `a` there, which is the sum of 02 and 01. 01 says 2, and with that no
+ * vector for FOX128 comes out. */
 static const uint8_t mu8[8][8] = {
     {0x01, 0x01, 0x01, 0x01, 0x01, 0x01, 0x01, 0x03},
     {0x01, 0x03, 0x82, 0x02, 0x04, 0xFC, 0x7E, 0x01},

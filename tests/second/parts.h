@@ -1,4 +1,5 @@
-/* The parts of the second implementation, each named by its section of 001, as the self-check in vectors.c sees them too. */
+/* The parts of the second implementation, each named by its section of 001, as the self-check in vectors.c sees them
+ * too. */
 #ifndef SECOND_PARTS_H
 #define SECOND_PARTS_H
 

@@ -1,4 +1,5 @@
-/* Another program, started by fork and exec over two pipes, which are polled together so that neither side waits for the other for ever. */
+/* Another program, started by fork and exec over two pipes, which are polled together so that neither side waits for
+ * the other for ever. */
 #define _GNU_SOURCE
 #include "program.h"
 

@@ -13,8 +13,8 @@ struct feeding {
     int pause_ms;
 };
 
-/* `len` is how much was printed, though no more than MOST_PRINTED bytes of it are kept. `late` says that the program took too long, and `ended` that
- * it ended by itself, neither late nor by a signal. */
+/* `len` is how much was printed, though no more than MOST_PRINTED bytes of it are kept. `late` says that the program
+ * took too long, and `ended` that it ended by itself, neither late nor by a signal. */
 struct printed {
     uint8_t bytes[MOST_PRINTED];
     size_t len;

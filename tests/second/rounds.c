@@ -1,5 +1,5 @@
-/* Rounds (001 §2.1 and §2.2) over a block of 8 or 16 bytes. A FOX128 block is two pairs of words side by side, where a FOX64 block is one: what is
- * done to a pair is the same in both, and the round function takes one word from each. */
+/* Rounds (001 §2.1 and §2.2) over a block of 8 or 16 bytes. A FOX128 block is two pairs of words side by side, where a
+ * FOX64 block is one: what is done to a pair is the same in both, and the round function takes one word from each. */
 #include "parts.h"
 
 enum { WORD = 4, PAIR = 8 };

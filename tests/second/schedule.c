@@ -1,4 +1,5 @@
-/* Key schedules (001 §2.3). KS64, KS64h and KS128 take the same steps, and differ in three widths: of the block, of the diffusion, and ek. */
+/* Key schedules (001 §2.3). KS64, KS64h and KS128 take the same steps, and differ in three widths: of the block, of the
+ * diffusion, and ek. */
 #include "parts.h"
 
 #include <string.h>
@@ -39,8 +40,8 @@ void second_step(uint8_t *reg)
         reg[2] ^= 0x1B;
 }
 
-/* §2.3.8: D. Each group of three bytes meets the register once, the last group being cut short, and the register is left where the next round's
- * groups begin. */
+/* §2.3.8: D. Each group of three bytes meets the register once, the last group being cut short, and the register is
+ * left where the next round's groups begin. */
 static void diversify(uint8_t *dkey, const uint8_t *mixed, size_t ek, uint8_t *reg)
 {
     for (size_t i = 0; i < ek; i++) {
@@ -61,7 +62,8 @@ void second_mix_quarters(uint8_t *x, size_t len)
     }
 }
 
-/* The hashing layers of Alg. 7 to 9: NL64h first adds words that are neighbours, and then all add the right half to the left. */
+/* The hashing layers of Alg. 7 to 9: NL64h first adds words that are neighbours, and then all add the right half to the
+ * left. */
 static void fold(uint8_t *x, size_t ek, size_t block)
 {
     size_t len = ek;

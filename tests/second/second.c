@@ -64,9 +64,9 @@ static void counter_block(uint8_t *x, const uint8_t *counter, size_t block, uint
     }
 }
 
-uint32_t second_run(uint32_t cipher, uint32_t rounds, const uint8_t *key, size_t key_len,
-                    const uint8_t *counter, size_t counter_len, uint64_t offset,
-                    const uint8_t *data, size_t data_len, uint8_t *out, size_t out_len)
+uint32_t second_run(uint32_t cipher, uint32_t rounds, const uint8_t *key, size_t key_len, const uint8_t *counter,
+                    size_t counter_len, uint64_t offset, const uint8_t *data, size_t data_len,
+                    uint8_t *out, size_t out_len)
 {
     uint8_t keys[MOST_ROUNDS * MOST_BLOCK], stream[MOST_BLOCK];
     uint32_t refusal = early_refusal(cipher, rounds, key_len, counter_len);

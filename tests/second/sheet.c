@@ -1,4 +1,5 @@
-/* The bench program's answer (01, "The bench program"): the sheet cut into lines, each line held to its rule, the block sealed or opened. */
+/* The bench program's answer (01, "The bench program"): the sheet cut into lines, each line held to its rule, the block
+ * sealed or opened. */
 #include "sheet.h"
 #include "second.h"
 
@@ -118,8 +119,9 @@ static int broken_line(struct text sheet, struct request *r)
 
 static size_t served(const struct request *r, const uint8_t *out, char *answer, size_t room)
 {
-    int len = snprintf(answer, room, "refusal=0\ncipher=%" PRIu32 "\nrounds=%" PRIu32 "\nkeybits=%zu\nblock=", r->cipher, r->rounds,
-                       r->key_len * 8);
+    int len =
+        snprintf(answer, room, "refusal=0\ncipher=%" PRIu32 "\nrounds=%" PRIu32 "\nkeybits=%zu\nblock=", r->cipher,
+                 r->rounds, r->key_len * 8);
     size_t end = (size_t)len;
     for (size_t i = 0; i < r->block_len; i++) {
         answer[end++] = "0123456789ABCDEF"[out[i] / 16];

@@ -1,5 +1,6 @@
-/* The bench program beside the second implementation: sheets right and broken, and every byte of what it prints for them.
- * Usage: sheets SEED PROGRAM [WORDS..], where SEED is - for one from the clock. Last line: 'N passed, M failed', where each group counts as one. */
+/* The bench program beside the second implementation: sheets right and broken, and every byte that it prints for them.
+ * Usage: sheets SEED PROGRAM [WORDS..], where SEED is - for one from the clock. Last line: 'N passed, M failed', where
+ * each group of sheets counts as one. */
 #include "chance.h"
 #include "program.h"
 #include "tally.h"
@@ -124,8 +125,10 @@ static void cut_sheets(void)
 static void numbers(void)
 {
     static const char *const texts[] = {
-        "", "0", "00", "064", "0064", "00000", "00016", "0x40", "40h", "65535", "65536", "65600", "99999", "100000", "4294967360",
-        "18446744073709551680", "+64", "-64", "-0", " 64", "64 ", "6 4", "64,0", "64.0", "6_4", "1e2", "sixty", "64\t", "64=", "/4", ":4",
+        "",    "0",     "00",    "064",   "0064",  "00000",  "00016",      "0x40",
+        "40h", "65535", "65536", "65600", "99999", "100000", "4294967360", "18446744073709551680",
+        "+64", "-64",   "-0",    " 64",   "64 ",   "6 4",    "64,0",       "64.0",
+        "6_4", "1e2",   "sixty", "64\t",  "64=",   "/4",     ":4",
     };
     group_begin("decimal numbers");
     for (size_t line = 0; line < 2; line++)
@@ -137,7 +140,8 @@ static void numbers(void)
 static void pairs(void)
 {
     static const char *const texts[] = {
-        "0", "000", "aa", "Aa", "aA", "0G", "G0", "@0", "/0", ":0", "`0", " ", "00 ", " 00", "00 11", "0x00", "00,11", "0-", "00\t", "00=",
+        "0",  "000", "aa",  "Aa",  "aA",    "0G",   "G0",    "@0", "/0",   ":0",
+        "`0", " ",   "00 ", " 00", "00 11", "0x00", "00,11", "0-", "00\t", "00=",
     };
     static const size_t lengths[] = {31, 32, 33, 63, 64, 65, 66, 127, 128, 129, 130, 256, 320};
     group_begin("hex pairs");
@@ -156,8 +160,9 @@ static void pairs(void)
 static void ways(void)
 {
     static const char *const texts[] = {
-        "", "s", "sea", "seals", "Seal", "SEAL", "seaL", "seal ", " seal", "seel", "sea1", "=seal", "seal=", "sealopen", "seal,open",
-        "o", "ope", "opens", "Open", "OPEN", "open ", " open", "oqen", "close", "0", "1",
+        "",     "s",    "sea",   "seals", "Seal",     "SEAL",      "seaL", "seal ", " seal",
+        "seel", "sea1", "=seal", "seal=", "sealopen", "seal,open", "o",    "ope",   "opens",
+        "Open", "OPEN", "open ", " open", "oqen",     "close",     "0",    "1",
     };
     group_begin("ways");
     for (size_t i = 0; i < COUNT(texts); i++)
@@ -180,7 +185,8 @@ static void fill_shape(char *begin, const char *shape, size_t line)
 static void names(void)
 {
     static const char *const shapes[] = {
-        " N=", "\tN=", "=N=", "xN=", "\xEF\xBB\xBFN=", "N", "N =", "N= ", "N = ", "N==", "N:", "Ns=", "N\t=", "C=", "=", "", "NN=", "way=", "cipher=",
+        " N=", "\tN=", "=N=", "xN=", "\xEF\xBB\xBFN=", "N",       "N =", "N= ", "N = ", "N==", "N:", "Ns=", "N\t=",
+        "C=",  "=",    "",    "NN=", "way=",           "cipher=",
     };
     group_begin("names, and what stands around '='");
     for (size_t line = 0; line < LINES; line++)
@@ -212,9 +218,10 @@ static void ends(void)
 static void order(void)
 {
     static const char *const orders[] = {
-        "2345",   "1345",   "1245",   "1235",   "1234",   "112345", "122345", "123345", "123445", "123455", ".12345", "1.2345",
-        "12.345", "123.45", "1234.5", "12345.", ".2345",  "1.345",  "12.45",  "123.5",  "1234.",  "21345",  "32145",  "42315",
-        "52341",  "13245",  "14325",  "15342",  "12435",  "12543",  "12354",  "54321",  "1",      "5",      "11111",  ".....",
+        "2345",   "1345",   "1245",   "1235",   "1234",   "112345", "122345", "123345", "123445",
+        "123455", ".12345", "1.2345", "12.345", "123.45", "1234.5", "12345.", ".2345",  "1.345",
+        "12.45",  "123.5",  "1234.",  "21345",  "32145",  "42315",  "52341",  "13245",  "14325",
+        "15342",  "12435",  "12543",  "12354",  "54321",  "1",      "5",      "11111",  ".....",
     };
     group_begin("lines left out, doubled, exchanged, empty");
     for (size_t i = 0; i < COUNT(orders); i++) {
@@ -251,7 +258,8 @@ static void strange_bytes(void)
 
 static void text_after(void)
 {
-    static const char *const texts[] = {"x", "\n", " ", "\r", "\r\n", "\t", "0", "check=000000\n", "block=", "\n\n\n", "\x1A", "\x04"};
+    static const char *const texts[] = {"x",      "\n",     " ",    "\r",  "\r\n", "\t", "0", "check=000000\n",
+                                        "block=", "\n\n\n", "\x1A", "\x04"};
     static const char many[] = {'x', '\n', '\0'};
     group_begin("text after the fifth line");
     for (size_t i = 0; i < COUNT(texts); i++)
@@ -333,7 +341,8 @@ static void changed_sheets(void)
     group_end();
 }
 
-/* A program that takes the first piece for the whole sheet answers wrong. Pieces of one byte come quicker, since there are so many. */
+/* A program that takes the first piece for the whole sheet answers wrong. Pieces of one byte come quicker, since there
+ * are so many. */
 static void slow_sheets(void)
 {
     static const size_t pieces[] = {1, 10, 29, 60, 75};
@@ -353,8 +362,8 @@ static void slow_sheets(void)
 int main(int count, char **words)
 {
     static void (*const groups[])(void) = {
-        keys, right_numbers, blocks, cut_sheets, numbers, pairs, ways, names,
-        ends, order, strange_bytes, text_after, long_lines, noise, changed_sheets, slow_sheets,
+        keys, right_numbers, blocks,        cut_sheets, numbers,    pairs, ways,           names,
+        ends, order,         strange_bytes, text_after, long_lines, noise, changed_sheets, slow_sheets,
     };
     if (count < 3) {
         fprintf(stderr, "usage: sheets SEED PROGRAM [WORDS..]\n");

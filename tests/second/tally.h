@@ -9,7 +9,8 @@ void group_begin(const char *name);
 void group_end(void);
 const char *group_name(void);
 
-/* Counts one case. Answers with 1 where it went wrong and is among the first of its group, so that the caller shows it; the line is begun. */
+/* Counts one case. Answers with 1 where it went wrong and is among the first of its group, so that the caller shows it;
+ * the line is begun. */
 int case_wrong(int right);
 
 /* All cases of all groups so far. */

@@ -1,4 +1,4 @@
-/* The second implementation by itself: 001's vectors, 01's known values and sheet, and the rows of two files of vectors.
+/* The second implementation by itself: 001's vectors, 01's known values and sheet, and the rows of two files.
  * Usage: vectors BLOCKS RUNS. Last line: 'N passed, M failed', where each group of cases counts as one. */
 #include "hex.h"
 #include "parts.h"
@@ -34,7 +34,8 @@ static void same_number(uint32_t found, uint32_t expected, const char *what)
 }
 
 /* A block in hex is sealed, and what comes of it opened. */
-static void both_ways_round(uint32_t cipher, uint32_t rounds, const char *key_text, const char *plain_text, const char *sealed_text)
+static void both_ways_round(uint32_t cipher, uint32_t rounds, const char *key_text, const char *plain_text,
+                            const char *sealed_text)
 {
     uint8_t key[MOST_KEY], plain[MOST_BLOCK], sealed[MOST_BLOCK], out[MOST_BLOCK] = {0};
     size_t key_len = hex_read(key_text, key, sizeof key), block = hex_read(plain_text, plain, sizeof plain);
@@ -73,10 +74,12 @@ static void paper_vectors(void)
     group_end();
 }
 
-/* 001 reads entry 4C out, and its figure is damaged at 9D, C6 and CC. The box has each value once, or it could not be undone. */
+/* 001 reads entry 4C out, and its figure is damaged at 9D, C6 and CC. The box has each value once, or it could not be
+ * undone. */
 static void box(void)
 {
-    static const uint8_t known[][2] = {{0x4C, 0x15}, {0x9D, 0x8A}, {0xC6, 0x08}, {0xCC, 0xA8}, {0x00, 0x5D}, {0xFF, 0x61}};
+    static const uint8_t known[][2] = {{0x4C, 0x15}, {0x9D, 0x8A}, {0xC6, 0x08},
+                                       {0xCC, 0xA8}, {0x00, 0x5D}, {0xFF, 0x61}};
     uint8_t values[256], seen[256] = {0};
     size_t times = 0;
     group_begin("the box");
@@ -115,7 +118,8 @@ static void known_layers(void)
 
 static void known_schedule(void)
 {
-    static const uint8_t registers[4][3] = {{0x6A, 0x10, 0xEF}, {0xD4, 0x21, 0xDE}, {0xA8, 0x43, 0xA7}, {0x50, 0x87, 0x55}};
+    static const uint8_t registers[4][3] = {
+        {0x6A, 0x10, 0xEF}, {0xD4, 0x21, 0xDE}, {0xA8, 0x43, 0xA7}, {0x50, 0x87, 0x55}};
     static const uint8_t short_key[8] = {0x00, 0x11, 0x22, 0x33, 0x44, 0x55, 0x66, 0x77};
     uint8_t reg[3] = {0x6A, 16, (uint8_t)~16u}, mixed[MOST_KEY];
     group_begin("known values of 01: register, mixed key, ek");
@@ -146,10 +150,14 @@ static void known_limits(void)
         same_number(second_block(0, cipher, 256, zeros, 16, zeros, b, out, b), 2, "256 rounds");
         same_number(second_block(0, cipher, 16, zeros, 32, zeros, b, out, b), 0, "key of 32 bytes");
         same_number(second_block(0, cipher, 16, zeros, 33, zeros, b, out, b), 3, "key of 33 bytes");
-        same_number(second_run(cipher, 16, zeros, 9, zeros, b, RUN_END, zeros, 0, out, 0), 0, "nothing at the run's end");
-        same_number(second_run(cipher, 16, zeros, 9, zeros, b, RUN_END, zeros, 1, out, 1), 7, "one byte past the run's end");
-        same_number(second_run(cipher, 16, zeros, 9, zeros, b, RUN_END + 1ull, zeros, 0, out, 0), 7, "nothing past the run's end");
-        same_number(second_run(cipher, 16, zeros, 9, zeros, b, UINT64_MAX, zeros, 1, out, 1), 7, "a sum of 2 to the 64");
+        same_number(second_run(cipher, 16, zeros, 9, zeros, b, RUN_END, zeros, 0, out, 0), 0,
+                    "nothing at the run's end");
+        same_number(second_run(cipher, 16, zeros, 9, zeros, b, RUN_END, zeros, 1, out, 1), 7,
+                    "one byte past the run's end");
+        same_number(second_run(cipher, 16, zeros, 9, zeros, b, RUN_END + 1ull, zeros, 0, out, 0), 7,
+                    "nothing past the run's end");
+        same_number(second_run(cipher, 16, zeros, 9, zeros, b, UINT64_MAX, zeros, 1, out, 1), 7,
+                    "a sum of 2 to the 64");
     }
     group_end();
 }

@@ -1,5 +1,5 @@
-/* One input, answered by the second implementation and by the library's ways: the refusal, every byte of the output, the bytes around it, and that
- * nothing that was lent for reading has changed. */
+/* One input, answered by the second implementation and by the library's ways: the refusal, every byte of the output,
+ * the bytes around it, and that nothing that was lent for reading has changed. */
 #define _GNU_SOURCE
 #include "ways.h"
 #include "fox.h"
@@ -48,9 +48,11 @@ void show_call(const struct call *c, int run)
 
 static void on_fault(int number)
 {
-    printf("compare: %s: a fault, signal %d: ", group_name(), number);
-    if (in_hand != NULL)
+    printf("compare: %s: a fault, signal %d", group_name(), number);
+    if (in_hand != NULL) {
+        printf(": ");
         show_call(in_hand, in_hand_is_run);
+    }
     printf("\n");
     fflush(stdout);
     _exit(1);
@@ -76,7 +78,8 @@ static void paint(uint8_t *area, size_t out_len)
         area[i] = (uint8_t)(i * 29 + 5);
 }
 
-/* Before a call that is to be served, every byte of the output is another one than it has to become: a byte left out shows. */
+/* Before a call that is to be served, every byte of the output is another one than it has to become: a byte left out
+ * shows. */
 static void paint_found(uint32_t refusal, size_t out_len)
 {
     paint(found, out_len);
@@ -115,14 +118,16 @@ static const char *difference(const struct call *c, int run, uint32_t right, uin
         return NULL;
     while (i < end && found[i] == expected[i])
         i++;
-    snprintf(words, sizeof words, "leaves %02X and not %02X in byte %ld of the output", found[i], expected[i], (long)i - GUARD);
+    snprintf(words, sizeof words, "leaves %02X and not %02X in byte %ld of the output", found[i], expected[i],
+             (long)i - GUARD);
     return words;
 }
 
 static const char *by_block_call(block_call *call, const struct call *c, uint32_t right)
 {
     paint_found(right, c->out_len);
-    uint32_t refusal = call(c->cipher, c->rounds, lent.key, c->key_len, lent.first, c->first_len, found + GUARD, c->out_len);
+    uint32_t refusal =
+        call(c->cipher, c->rounds, lent.key, c->key_len, lent.first, c->first_len, found + GUARD, c->out_len);
     return difference(c, 0, right, refusal);
 }
 
@@ -131,7 +136,8 @@ static const char *by_ways(const struct call *c, int opening, const char **name)
 {
     const char *wrong = NULL;
     paint(expected, c->out_len);
-    uint32_t right = second_block(opening, c->cipher, c->rounds, c->key, c->key_len, c->first, c->first_len, expected + GUARD, c->out_len);
+    uint32_t right = second_block(opening, c->cipher, c->rounds, c->key, c->key_len, c->first, c->first_len,
+                                  expected + GUARD, c->out_len);
     answers[right]++;
     for (int i = 0; wrong == NULL && i < WAYS; i++) {
         *name = ways[i].name;
@@ -162,8 +168,8 @@ void try_run(const struct call *c)
     const char *name = "", *wrong = NULL;
     lend(c, 1);
     paint(expected, c->out_len);
-    uint32_t right = second_run(c->cipher, c->rounds, c->key, c->key_len, c->first, c->first_len, c->offset,
-                                c->data, c->data_len, expected + GUARD, c->out_len);
+    uint32_t right = second_run(c->cipher, c->rounds, c->key, c->key_len, c->first, c->first_len, c->offset, c->data,
+                                c->data_len, expected + GUARD, c->out_len);
     answers[right]++;
     for (int i = 0; wrong == NULL && i < WAYS; i++) {
         name = ways[i].name;

@@ -7,7 +7,8 @@
 
 enum { SHORT_ROOM = 80, LONG_ROOM = 70000 };
 
-/* `first` is the block, or a run's counter block. `data` and `offset` are a run's alone; `data` points to LONG_ROOM bytes. */
+/* `first` is the block, or a run's counter block. `data` and `offset` are a run's alone; `data` points to LONG_ROOM
+ * bytes. */
 struct call {
     uint32_t cipher, rounds;
     uint8_t key[SHORT_ROOM];
@@ -20,11 +21,11 @@ struct call {
     size_t out_len;
 };
 
-typedef uint32_t block_call(uint32_t cipher, uint32_t rounds, const uint8_t *key, size_t key_len,
-                            const uint8_t *block, size_t block_len, uint8_t *out, size_t out_len);
-typedef uint32_t run_call(uint32_t cipher, uint32_t rounds, const uint8_t *key, size_t key_len,
-                          const uint8_t *counter, size_t counter_len, uint64_t offset,
-                          const uint8_t *data, size_t data_len, uint8_t *out, size_t out_len);
+typedef uint32_t block_call(uint32_t cipher, uint32_t rounds, const uint8_t *key, size_t key_len, const uint8_t *block,
+                            size_t block_len, uint8_t *out, size_t out_len);
+typedef uint32_t run_call(uint32_t cipher, uint32_t rounds, const uint8_t *key, size_t key_len, const uint8_t *counter,
+                          size_t counter_len, uint64_t offset, const uint8_t *data, size_t data_len,
+                          uint8_t *out, size_t out_len);
 
 struct way {
     const char *name;

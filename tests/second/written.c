@@ -118,7 +118,8 @@ void try_fed(struct feeding how)
     if (case_wrong(right)) {
         show("sheet", text, text_len);
         show("expected", expected, len);
-        show(p.ended ? "printed" : "did not end by itself, printed", p.bytes, p.len < MOST_PRINTED ? p.len : MOST_PRINTED);
+        show(p.ended ? "printed" : "did not end by itself, printed", p.bytes,
+             p.len < MOST_PRINTED ? p.len : MOST_PRINTED);
         printf("\n");
     }
     text_len = 0;

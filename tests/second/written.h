@@ -1,4 +1,5 @@
-/* The sheet in hand: put together piece by piece, handed to the bench program, and held to what the second implementation says of it. */
+/* The sheet in hand: put together piece by piece, handed to the bench program, and held to what the second
+ * implementation says of it. */
 #ifndef SECOND_WRITTEN_H
 #define SECOND_WRITTEN_H
 
