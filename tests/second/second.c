@@ -1,0 +1,87 @@
+/* One block and a stretch of a run, with 01's refusals before them. */
+#include "second.h"
+#include "parts.h"
+
+#include <string.h>
+
+enum { MOST_DATA = 65536, RUN_END = 1073741824 };
+
+static size_t block_size(uint32_t cipher)
+{
+    return cipher / 8;
+}
+
+/* Refusals 1 to 4, which a block and a run have in common. */
+static uint32_t early_refusal(uint32_t cipher, uint32_t rounds, size_t key_len, size_t block_len)
+{
+    if (cipher != 64 && cipher != 128)
+        return 1;
+    if (rounds < 12 || rounds > MOST_ROUNDS)
+        return 2;
+    if (key_len > MOST_KEY)
+        return 3;
+    return block_len != block_size(cipher) ? 4 : 0;
+}
+
+static uint32_t run_refusal(size_t data_len, size_t out_len, uint64_t offset)
+{
+    if (data_len > MOST_DATA)
+        return 5;
+    if (out_len != data_len)
+        return 6;
+    /* A difference, since the sum of the two can be too large for 64 bits. */
+    return offset > RUN_END || data_len > RUN_END - offset ? 7 : 0;
+}
+
+uint32_t second_block(int opening, uint32_t cipher, uint32_t rounds, const uint8_t *key, size_t key_len,
+                      const uint8_t *block, size_t block_len, uint8_t *out, size_t out_len)
+{
+    uint8_t keys[MOST_ROUNDS * MOST_BLOCK];
+    uint32_t refusal = early_refusal(cipher, rounds, key_len, block_len);
+    if (refusal == 0 && out_len != block_len)
+        refusal = 6;
+    if (refusal != 0)
+        return refusal;
+    second_round_keys(keys, block_len, rounds, key, key_len);
+    memcpy(out, block, block_len);
+    if (opening)
+        second_open_rounds(out, block_len, keys, rounds);
+    else
+        second_seal_rounds(out, block_len, keys, rounds);
+    return 0;
+}
+
+/* The counter's last four bytes count and wrap; what is carried out of them is dropped. */
+static void counter_block(uint8_t *x, const uint8_t *counter, size_t block, uint64_t number)
+{
+    unsigned carry = 0;
+    memcpy(x, counter, block);
+    for (size_t i = 1; i <= 4; i++) {
+        unsigned sum = x[block - i] + (unsigned)(number & 0xFF) + carry;
+        x[block - i] = (uint8_t)sum;
+        carry = sum >> 8;
+        number >>= 8;
+    }
+}
+
+uint32_t second_run(uint32_t cipher, uint32_t rounds, const uint8_t *key, size_t key_len, const uint8_t *counter,
+                    size_t counter_len, uint64_t offset, const uint8_t *data, size_t data_len,
+                    uint8_t *out, size_t out_len)
+{
+    uint8_t keys[MOST_ROUNDS * MOST_BLOCK], stream[MOST_BLOCK];
+    uint32_t refusal = early_refusal(cipher, rounds, key_len, counter_len);
+    if (refusal == 0)
+        refusal = run_refusal(data_len, out_len, offset);
+    if (refusal != 0)
+        return refusal;
+    second_round_keys(keys, counter_len, rounds, key, key_len);
+    for (size_t i = 0; i < data_len; i++) {
+        uint64_t place = offset + i;
+        if (i == 0 || place % counter_len == 0) {
+            counter_block(stream, counter, counter_len, place / counter_len);
+            second_seal_rounds(stream, counter_len, keys, rounds);
+        }
+        out[i] = data[i] ^ stream[place % counter_len];
+    }
+    return 0;
+}
