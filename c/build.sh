@@ -44,7 +44,7 @@ program() { # OUT SOURCE LIBRARY
 }
 
 [ -n "$CC_HOST" ] ||
-    stop "the library is x86-64 code; on this processor, $(uname -m), x86_64-linux-gnu-gcc and an x86-64 emulator are missing"
+    stop "the library is x86-64 code; for this processor, $(uname -m), x86_64-linux-gnu-gcc or an emulator is missing"
 command -v "${CC_HOST%% *}" >/dev/null 2>&1 || stop "the C compiler is missing: there is no ${CC_HOST%% *} on the PATH"
 mkdir -p build
 "$@"

@@ -1,6 +1,6 @@
 #!/bin/sh
-# Tests what a C programmer gets: the header, the archive, the texts, the example in README.md, the installed files, and the
-# example program stretch. Each check counts one; what a missing optional tool makes impossible is said and left out.
+# Tests what a C programmer gets: the header, the archive, the texts, the example in README.md, the installed files, and
+# the program stretch. Each check counts one; what a missing optional tool makes impossible is said and left out.
 # Last line: 'N passed, M failed'.
 set -u
 cd "$(dirname "$0")/.." || exit 2

@@ -1,4 +1,4 @@
-# Sourced by tests/product.sh: what make makes anew, what it installs and takes away, and what it says where it cannot.
+# Sourced by tests/product.sh: what make makes anew, installs, takes away and shows, and what it says where it cannot.
 
 makes_nothing() {
     make -q || {
@@ -22,7 +22,8 @@ remakes() { # FILE STEP..
 }
 
 remade_by_need() {
-    remakes crates/fox_station/src/lib.rt station library program && remakes c/fox_refusal_text.c object library program &&
+    remakes crates/fox_station/src/lib.rt station library program &&
+        remakes c/fox_refusal_text.c object library program &&
         remakes include/fox.h object library program && remakes examples/stretch.c program
 }
 
@@ -86,6 +87,14 @@ cannot_make() { # STEP PROCESSOR COMPILER TEXT: that step fails and says so
     grep -q "$4" "$room/error" && [ ! -f "$room/none" ]
 }
 
+# The bench program's answer, and the stretch that was opened.
+shows() {
+    make run >"$room/run" 2>&1 && grep -qx '    block=B85D6B766DCE952E' "$room/run" &&
+        grep -q '^They agree in each of their [1-9]' "$room/run" && return
+    tail -n 5 "$room/run"
+    return 1
+}
+
 check "a second make does nothing" makes_nothing
 check "a changed file is made anew, with all that stands on it" remade_by_need
 check "make install: three files, readable by all" installs
@@ -101,3 +110,8 @@ check "make uninstall leaves none of its files, and all others" uninstalls
 check "without a cross compiler make fails and says so" cannot_make object unknown gcc "unknown, x86_64-linux-gnu-gcc"
 check "without a C compiler make fails and says so" cannot_make object x86_64 gcc "no gcc on the PATH"
 check "without the Rattle kit make fails and says so" cannot_make station x86_64 sh "no rt on the PATH"
+if [ -d crates/fox_bench ]; then
+    check "make run shows the main job and ends well" shows
+else
+    left_out "make run" "there is no crate fox_bench"
+fi

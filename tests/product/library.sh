@@ -1,4 +1,4 @@
-# Sourced by tests/product.sh: the header in each language, the archive, the calls, the texts, and the example in README.md.
+# Sourced by tests/product.sh: the header in each language, the archive, the calls, the texts, and README.md's example.
 
 header_alone() { # COMPILER LANGUAGE STANDARD..: it compiles by itself under each standard, once and twice
     compiler=$1 language=$2
@@ -29,7 +29,8 @@ symbols() {
     grep -o 'fox_[a-z_]*(' include/fox.h | tr -d '(' | sort >"$room/declared"
     "$lister" -g build/libfox.a | awk 'NF == 3 { print $3 }' | sort >"$room/defined"
     same_text "$(cat "$room/declared")" "$(cat "$room/defined")" || return 1
-    same_text "memcpy memset" "$("$lister" -gu build/libfox.a | awk '$1 == "U" && $2 !~ /^_/ { print $2 }' | sort | tr '\n' ' ' | sed 's/ $//')"
+    "$lister" -gu build/libfox.a | awk '$1 == "U" && $2 !~ /^_/ { print $2 }' | sort -u >"$room/wanted"
+    same_text "$(printf 'memcpy\nmemset')" "$(cat "$room/wanted")"
 }
 
 readme_block() { # MARK: the block of README.md that is marked so, the first for C or the next after that
@@ -51,12 +52,13 @@ readme_example() {
         run_host "$room/readme" >"$room/readme.out" && diff "$room/readme.shown" "$room/readme.out"
 }
 
-check "every text of a refusal is there, names what is right, and is no other's" compiled_and_right texts tests/product/texts.c
+check "every refusal's text is there, names what is right, and is no other's" compiled_and_right texts tests/product/texts.c
 check "the header alone in C99, C11 and C17" header_alone "$CC_HOST" c c99 c11 c17
 check "two files that include the header, in C99" joined "$CC_HOST" "-std=c99 -Iinclude" tests/product build/libfox.a
 if command -v "${CXX_HOST%% *}" >/dev/null 2>&1; then
     check "the header alone in C++98, C++11 and C++17" header_alone "$CXX_HOST" c++ c++98 c++11 c++17
-    check "two files that include the header, in C++98" joined "$CXX_HOST" "-x c++ -std=c++98 -Iinclude" tests/product build/libfox.a
+    check "two files that include the header, in C++98" \
+        joined "$CXX_HOST" "-x c++ -std=c++98 -Iinclude" tests/product build/libfox.a
 else
     left_out "the header in C++" "there is no ${CXX_HOST%% *}"
 fi

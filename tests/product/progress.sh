@@ -1,5 +1,5 @@
-# Sourced by tests/product.sh after trouble.sh: the progress line of build/stretch, on a terminal and elsewhere. The program
-# that makes the terminal is for this processor, as the shell is.
+# Sourced by tests/product.sh after trouble.sh: the progress line of build/stretch, on a terminal and elsewhere.
+# The program that makes the terminal is for this processor, as the shell is.
 
 long_last=9999999
 head -c $((long_last + 1)) /dev/zero >"$room/long"
@@ -16,9 +16,11 @@ shows_and_clears() {
     same_text "$((long_last + 1))" "$(wc -c <"$room/out" | tr -d ' ')" || return 1
     tr '\r' '\n' <"$room/shown" >"$room/lines"
     cat "$room/lines"
-    same_text 0 "$(tr -dc '\n' <"$room/shown" | wc -c | tr -d ' ')" && grep -q '^stretch: 0.0 of 9.5 MiB, 0 %$' "$room/lines" || return 1
+    same_text 0 "$(tr -dc '\n' <"$room/shown" | wc -c | tr -d ' ')" || return 1
+    grep -q '^stretch: 0.0 of 9.5 MiB, 0 %$' "$room/lines" || return 1
     widest=$(awk '/%/ && length > most { most = length } END { print most }' "$room/lines")
-    same_text "$(printf '%*s' "$widest" '')" "$(tail -n 1 "$room/lines")" && same_text 0d "$(tail -c 1 "$room/shown" | od -An -tx1 | tr -d ' ')"
+    same_text "$(printf '%*s' "$widest" '')" "$(tail -n 1 "$room/lines")" &&
+        same_text 0d "$(tail -c 1 "$room/shown" | od -An -tx1 | tr -d ' ')"
 }
 
 shows_nothing_of_short_work() {

@@ -30,18 +30,18 @@ refuses() { # NUMBER WORDS..: with the library's own text
 }
 
 refuses_words() {
-    long=$key64$key64
-    refuses 1 65 16 "$key64" "$counter64" 0 9 "$room/plain" && refuses 1 --card 0 11 "$key64" "$counter64" 0 9 "$room/plain" &&
-        refuses 2 64 11 "$key64" "$counter64" 0 9 "$room/plain" && refuses 2 64 256 "${long}00" "$counter64" 0 9 "$room/plain" &&
-        refuses 3 64 16 "${long}00" "$counter64" 0 9 "$room/plain" && refuses 3 128 16 "$long$long$long" '' 0 9 "$room/plain" &&
-        refuses 4 64 16 "$key64" "$counter128" 0 9 "$room/plain" && refuses 4 --card 128 16 "$key64" "$counter64" 0 9 "$room/plain" &&
-        refuses 4 64 16 "$key64" '' 0 9 "$room/plain" && refuses 4 64 16 "$long" 01234567 0 1073741824 "$room/plain"
+    long=$key64$key64 rest="0 9 $room/plain"
+    refuses 1 65 16 "$key64" "$counter64" $rest && refuses 1 --card 0 11 "$key64" "$counter64" $rest &&
+        refuses 2 64 11 "$key64" "$counter64" $rest && refuses 2 64 256 "${long}00" "$counter64" $rest &&
+        refuses 3 64 16 "${long}00" "$counter64" $rest && refuses 3 128 16 "$long$long$long" '' $rest &&
+        refuses 4 64 16 "$key64" "$counter128" $rest && refuses 4 --card 128 16 "$key64" "$counter64" $rest &&
+        refuses 4 64 16 "$key64" '' $rest && refuses 4 64 16 "$long" 01234567 0 1073741824 "$room/plain"
 }
 
 # A stretch of which only the end is too far, too, and numbers that come out small when cut to 32 bits.
 refuses_the_end() {
-    for pair in 0:1073741824 1073741824:1073741824 1073676000:1073741824 4294967301:4294967310 5:4294967310 0:18446744073709551615 \
-        18446744073709551615:18446744073709551615; do
+    for pair in 0:1073741824 1073741824:1073741824 1073676000:1073741824 4294967301:4294967310 5:4294967310 \
+        0:18446744073709551615 18446744073709551615:18446744073709551615; do
         refuses 7 $served "${pair%:*}" "${pair#*:}" "$room/large" || return 1
     done
 }
@@ -58,12 +58,14 @@ wrong_hex() {
 
 wrong_numbers() {
     says 2 "CIPHER is 'fox'" fox 16 "$key64" "$counter64" 0 9 "$room/plain" &&
-        says 2 "CIPHER is 4294967360, and can be at most 4294967295" 4294967360 16 "$key64" "$counter64" 0 9 "$room/plain" &&
+        says 2 "CIPHER is 4294967360, and can be at most 4294967295" \
+            4294967360 16 "$key64" "$counter64" 0 9 "$room/plain" &&
         says 2 "ROUNDS is ''" 64 '' "$key64" "$counter64" 0 9 "$room/plain" &&
         says 2 "ROUNDS is 4294967312" 64 4294967312 "$key64" "$counter64" 0 9 "$room/plain" &&
         says 2 "FIRST is '-1'" $served -1 9 "$room/plain" && says 2 "FIRST is '1e3'" $served 1e3 9 "$room/plain" &&
         says 2 "LAST is '0x9'" $served 0 0x9 "$room/plain" && says 2 "LAST is '9 '" $served 0 '9 ' "$room/plain" &&
-        says 2 "LAST is 18446744073709551616, and can be at most 18446744073709551615" $served 0 18446744073709551616 "$room/plain" &&
+        says 2 "LAST is 18446744073709551616, and can be at most 18446744073709551615" \
+            $served 0 18446744073709551616 "$room/plain" &&
         says 2 "LAST is 184467440737095516150" $served 0 184467440737095516150 "$room/plain" &&
         says 2 "FIRST is 10, above LAST, which is 9" $served 10 9 "$room/plain"
 }
@@ -72,7 +74,8 @@ wrong_numbers() {
 wrong_count() {
     for words in "" "--card" "$served 0 9" "$served 0 9 a b" "--card $served 0 9"; do
         stretch $words >"$room/out" 2>"$room/error"
-        told 2 "words came, and CIPHER to FILE are 7" "$?" && grep -q '^usage: stretch \[--card\] CIPHER' "$room/error" || return 1
+        told 2 "words came, and CIPHER to FILE are 7" "$?" || return 1
+        grep -q '^usage: stretch \[--card\] CIPHER' "$room/error" || return 1
     done
     says 2 "--fast is no option" --fast $served 0 9 "$room/plain"
 }
