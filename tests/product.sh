@@ -6,6 +6,8 @@ set -u
 cd "$(dirname "$0")/.." || exit 2
 . tests/host.sh
 host_or_leave product
+LC_ALL=C
+export LC_ALL
 # What make hands on to the commands of `make test` is not meant for the makes below.
 unset MAKEFLAGS MFLAGS MAKELEVEL DESTDIR PREFIX
 room=$(mktemp -d) || exit 2
