@@ -12,7 +12,7 @@
 #include <sys/wait.h>
 #include <ucontext.h>
 #include <unistd.h>
-#include "fox_run.h"
+#include "fox.h"
 
 #define COUNT(a) (sizeof(a) / sizeof *(a))
 

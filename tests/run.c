@@ -9,7 +9,7 @@
 #include <string.h>
 #include <sys/mman.h>
 #include <time.h>
-#include "fox_run.h"
+#include "fox.h"
 
 #define COUNT(a) (sizeof(a) / sizeof *(a))
 

@@ -6,7 +6,7 @@
 #include <stdlib.h>
 #include <string.h>
 #include <time.h>
-#include "fox_run.h"
+#include "fox.h"
 #include "straight.h"
 
 #define COUNT(a) (sizeof(a) / sizeof *(a))

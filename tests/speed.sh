@@ -10,7 +10,7 @@ mkdir -p build
 measure() { # COMPILER LIBRARY WORDS..
     compiler=$1 library=$2
     shift 2
-    $compiler -std=gnu11 -O3 -Wall -Wextra -Werror -o build/speed tests/speed.c tests/straight.c "$library" || return 1
+    $compiler -std=gnu11 -O3 -Wall -Wextra -Werror -Iinclude -o build/speed tests/speed.c tests/straight.c "$library" || return 1
     echo "speed: the C code is compiled by $compiler -O3"
     "$@"
 }

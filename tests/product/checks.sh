@@ -1,0 +1,36 @@
+# Sourced by tests/product.sh: how checks are counted, and what several of them use.
+passed=0 failed=0
+
+check() { # NAME COMMAND..: passes where the command, which may be a function, succeeds
+    name=$1
+    shift
+    if "$@" >"$room/said" 2>&1; then
+        passed=$((passed + 1))
+        echo "product: $name"
+    else
+        failed=$((failed + 1))
+        echo "product: $name: FAILED"
+        head -n 10 "$room/said" | sed 's/^/    /'
+    fi
+}
+
+left_out() { # NAME WHY
+    echo "product: $1: left out, since $2"
+}
+
+compiled() { # PROGRAM SOURCE WORDS..: a program over build/libfox.a
+    out=$1
+    shift
+    $CC_HOST -std=gnu11 -O1 $strict -Iinclude -o "$room/$out" "$@" build/libfox.a
+}
+
+compiled_and_right() { # PROGRAM SOURCE WORDS..: it says by its exit status whether all is right
+    compiled "$@" && run_host "$room/$1"
+}
+
+same_text() { # EXPECTED FOUND
+    [ "$1" = "$2" ] && return
+    echo "expected: $1"
+    echo "found:    $2"
+    return 1
+}

@@ -1,0 +1,71 @@
+/* Holds the texts of the refusals to what each has to name: what is wrong and what range is right. Usage: texts, or
+ * texts NUMBER, which prints the text of that number. */
+#include <stdio.h>
+#include <stdlib.h>
+#include <string.h>
+#include "fox.h"
+
+#define COUNT(a) (sizeof(a) / sizeof *(a))
+
+static const char *const named[][4] = {
+    [FOX_SERVED] = {"Served", "output", "written"},
+    [FOX_REFUSED_CIPHER] = {"cipher", "64", "128"},
+    [FOX_REFUSED_ROUNDS] = {"rounds", "12", "255"},
+    [FOX_REFUSED_KEY] = {"key", "32 bytes"},
+    [FOX_REFUSED_BLOCK] = {"block", "counter", "8 bytes", "16 bytes"},
+    [FOX_REFUSED_DATA] = {"data", "65,536", "call"},
+    [FOX_REFUSED_OUTPUT] = {"output", "input", "same length"},
+    [FOX_REFUSED_END] = {"run", "offset", "length", "1,073,741,824"},
+    [FOX_REFUSED_SHEET] = {"sheet", "line"},
+};
+static const uint32_t others[] = {COUNT(named), COUNT(named) + 1, 255, 256, 65536, 0x7FFFFFFF, 0x80000000, UINT32_MAX};
+
+static int wrong;
+
+static void hold(int ok, uint32_t number, const char *what, const char *word)
+{
+    if (ok)
+        return;
+    printf("text %u %s%s\n", (unsigned)number, what, word);
+    wrong++;
+}
+
+/* One sentence: it begins with a capital letter and has its only full stop, and no line's end, at its end. */
+static int is_sentence(const char *text)
+{
+    size_t length = strlen(text);
+    return length > 20 && text[0] >= 'A' && text[0] <= 'Z' && strchr(text, '.') == text + length - 1 &&
+           strchr(text, '\n') == NULL;
+}
+
+static void hold_named(uint32_t number)
+{
+    const char *text = fox_refusal_text(number);
+    hold(is_sentence(text), number, "is no sentence", "");
+    hold(fox_refusal_text(number) == text, number, "stands elsewhere at a second call", "");
+    for (size_t i = 0; i < COUNT(named[0]) && named[number][i] != NULL; i++)
+        hold(strstr(text, named[number][i]) != NULL, number, "does not name: ", named[number][i]);
+    for (uint32_t other = 0; other < number; other++)
+        hold(strcmp(text, fox_refusal_text(other)) != 0, number, "is that of a lower number", "");
+}
+
+static void hold_other(uint32_t number)
+{
+    const char *text = fox_refusal_text(number);
+    hold(text != NULL && is_sentence(text), number, "is no sentence", "");
+    for (uint32_t i = 0; i < COUNT(named); i++)
+        hold(text == NULL || strcmp(text, fox_refusal_text(i)) != 0, number, "is that of a number that means something", "");
+}
+
+int main(int count, char **words)
+{
+    if (count == 2) {
+        printf("%s\n", fox_refusal_text((uint32_t)strtoul(words[1], NULL, 10)));
+        return 0;
+    }
+    for (uint32_t number = 0; number < COUNT(named); number++)
+        hold_named(number);
+    for (size_t i = 0; i < COUNT(others); i++)
+        hold_other(others[i]);
+    return wrong != 0;
+}
