@@ -201,3 +201,7 @@ task-ready {s} {after} t block (e, b) z =
       room = ap length stored ∙ length-sets block 0 bytes;
       block-bytes = λ n. rw (stored, size) (take-stored block bytes (omega (arith, known .few)));
     }
+
+-- a buffer is as long with the answer in it as before
+pub answers-length : {sheet before after : List ℕ} {r : ℕ} → Answers sheet before after r → length after ≡ length before
+answers-length {sheet} {before} a = ap length (a .bytes) ∙ length-sets before 0 (answerOf sheet)
