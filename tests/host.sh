@@ -2,12 +2,13 @@
 # CC_HOST is the C compiler with the words that it wants, or nothing where x86-64 code cannot be made and run. EMULATOR is nothing on an
 # x86-64 machine. Programs for the emulator are linked statically, so that it need not know where the libraries for x86-64 are.
 CC_HOST='' EMULATOR=''
+# The guide that `rt doc` names stands in the folder docs of the kit.
+guide=$(rt doc 2>/dev/null)
+KIT_TOOLS=${guide%/docs/*}/on/$(uname -m)/toolchain
 if [ "$(uname -m)" = x86_64 ]; then
     CC_HOST=${CC:-gcc}
 elif command -v x86_64-linux-gnu-gcc >/dev/null 2>&1; then
-    # The guide that `rt doc` names stands in the folder docs of the kit.
-    guide=$(rt doc 2>/dev/null)
-    for e in "${guide%/docs/*}/on/$(uname -m)/toolchain/bin/qemu-x86_64" qemu-x86_64 qemu-x86_64-static; do
+    for e in "$KIT_TOOLS/bin/qemu-x86_64" qemu-x86_64 qemu-x86_64-static; do
         command -v "$e" >/dev/null 2>&1 || continue
         CC_HOST='x86_64-linux-gnu-gcc -static' EMULATOR=$e
         break
@@ -23,6 +24,12 @@ host_or_leave() { # PART
 
 run_host() { # PROGRAM WORDS..
     if [ -n "$EMULATOR" ]; then "$EMULATOR" "$@"; else "$@"; fi
+}
+
+# The words that run a program of Rattle's, which go before its name: the kit's own loader and C library and, on another processor, its emulator.
+kit_words() {
+    if [ -x "$KIT_TOOLS/bin/qemu-x86_64" ]; then echo "$KIT_TOOLS/bin/qemu-x86_64"; fi
+    printf '%s\n' "$KIT_TOOLS/lib/ld-linux-x86-64.so.2" --library-path "$KIT_TOOLS/lib"
 }
 
 static_library() { # CRATE: makes its static library, unless one is there that is newer than every source

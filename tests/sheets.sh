@@ -4,7 +4,6 @@
 set -u
 cd "$(dirname "$0")/.." || exit 2
 . tests/host.sh
-host_or_leave sheets
 
 program=target/bin/fox_bench
 if [ ! -f "$program" ] || [ -n "$(find crates crates.txt -newer "$program" | head -n 1)" ]; then
@@ -21,4 +20,4 @@ ${CC:-gcc} -std=gnu11 -O1 -Wall -Wextra -Werror -o build/sheets \
     $s/sheets.c $s/written.c $s/program.c $s/chance.c $s/tally.c $s/sheet.c \
     $s/second.c $s/schedule.c $s/rounds.c $s/matrix.c $s/box.c $s/field.c ||
     failed_to sheets "tests/second/sheets.c was not built"
-./build/sheets "${1:--}" ${EMULATOR:+"$EMULATOR"} "$program"
+./build/sheets "${1:--}" $(kit_words) "$program"

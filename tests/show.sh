@@ -19,15 +19,6 @@ shown() { # WORDS..: a command as it would be typed
     echo "    \$ $*"
 }
 
-# A program of the kit runs by the kit's own loader and C library, and on another processor by its emulator.
-run_bench() {
-    guide=$(rt doc)
-    tools=${guide%/docs/*}/on/$(uname -m)/toolchain
-    emulator=$tools/bin/qemu-x86_64
-    [ -x "$emulator" ] || emulator=''
-    $emulator "$tools/lib/ld-linux-x86-64.so.2" --library-path "$tools/lib" target/bin/fox_bench
-}
-
 sheet() {
     printf '%s\n' cipher=64 rounds=16 "key=$key" way=seal block=0123456789ABCDEF
 }
@@ -49,7 +40,7 @@ bench() {
     echo "The bench program seals one block by the card's way. It reads a sheet of five lines:"
     sheet | indented
     echo "and answers:"
-    sheet | run_bench >build/bench.answer || stop "the bench program failed"
+    sheet | $(kit_words) target/bin/fox_bench >build/bench.answer || stop "the bench program failed"
     indented <build/bench.answer
     grep -qx "block=B85D6B766DCE952E" build/bench.answer || stop "that is not the block of the specification"
     echo "That is the block that the specification has for it."

@@ -1,4 +1,5 @@
-// Exported functions whose instructions and stack the gate measures (tests/instructions.sh, tests/measure.c). No product uses this crate.
+// Exported functions whose instructions and stack the gate measures (tests/instructions.sh, tests/measure.c), and the bench sheet for a fuzzer to call
+// (tests/fuzz.sh). No product uses this crate.
 ghost use mathlib.Core.Path.{_≡_};
 ghost use mathlib.Core.List.{[], _∷_};
 ghost use Prim.Native.Nat.{_≤_};
@@ -8,12 +9,14 @@ ghost use Rattle.fox_layers.specs.Tables.{gathered};
 ghost use Rattle.fox_calls.specs.Refusals.{forBlock};
 ghost use Rattle.fox_calls.specs.Handed.{Handed};
 ghost use Rattle.fox_cipher.specs.Block.{sealBlock, openBlock};
+ghost use Rattle.fox_sheet.specs.Answer.{Answers};
 ghost use Rattle.fox_probe.specs.Again.{again64, again128};
 use fox_card::block;
 use fox_lent::lent64;
 use fox_lent::lent128;
 use fox_rounds::fox64::Fox64;
 use fox_rounds::fox128::Fox128;
+use fox_sheet::answer;
 use fox_tables::joined4;
 use fox_tables::joined8;
 use fox_tables::moved;
@@ -137,4 +140,11 @@ pub extern "C" fn fox_probe_card_open(
 {
     let answer = block::open(cipher, rounds, key, block, out);
     answer.refusal
+}
+
+#[no_mangle]
+pub extern "C" fn fox_probe_sheet(sheet: &[u8], out: &mut [u8; 128]) -> usize
+    ensures { λ r. ⌜ Answers (now (sheet .entry)) (now (out .entry)) (now (out .exit)) r ⌝ }
+{
+    answer::answer(sheet, out)
 }
