@@ -6,7 +6,7 @@ VERSION = 0.1.0
 STATION = target/staticlib/libfox_station.a
 ROOT = $(DESTDIR)$(PREFIX)
 
-.PHONY: all help run vectors test count speed fmt install uninstall clean
+.PHONY: all help run vectors test count speed fuzz fmt install uninstall clean
 
 all: build/libfox.a build/stretch
 
@@ -17,6 +17,7 @@ help:
 	@echo "make vectors    the compiled ciphers on the specification's vectors"
 	@echo "make count      instructions and stack of the compiled code"
 	@echo "make speed      the library's speed beside that of straight C code"
+	@echo "make fuzz       ten minutes of clang's fuzzer on the calls and the bench sheet"
 	@echo "make fmt        sets the Rattle code in its layout"
 	@echo "make install    libfox.a, fox.h and fox.pc below PREFIX ($(PREFIX)); DESTDIR goes before it"
 	@echo "make uninstall  takes these three files away again"
@@ -56,6 +57,9 @@ count:
 
 speed:
 	@sh tests/speed.sh
+
+fuzz:
+	@sh tests/fuzz.sh
 
 fmt:
 	@rt fmt

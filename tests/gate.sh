@@ -29,6 +29,9 @@ part "rt ci" rt ci
 part "instructions" sh tests/instructions.sh
 part "measure" sh tests/measure.sh
 part "run" sh tests/run.sh
+part "second" sh tests/second.sh
+part "sheets" sh tests/sheets.sh
+part "product" sh tests/product.sh
 
 mkdir -p target
 echo "$passed passed, $failed failed" | tee target/gate.sum
