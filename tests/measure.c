@@ -1,16 +1,12 @@
-/* Measures the exports of fox_probe and fox_station on x86-64 Linux: the instructions that one more block takes by the server's way, counted by
- * running a child one instruction at a time, and the stack that one call takes by the card's way, seen from how far a painted stack was written.
- * Last line: 'N passed, M failed'. */
+/* Counts, on x86-64 Linux, the instructions that one more block takes by the server's way, alone and in a run, by running a child one instruction at a
+ * time. Last line: 'N passed, M failed'. */
 #define _GNU_SOURCE
 #include <signal.h>
-#include <stddef.h>
 #include <stdint.h>
 #include <stdio.h>
-#include <stdlib.h>
 #include <string.h>
 #include <sys/ptrace.h>
 #include <sys/wait.h>
-#include <ucontext.h>
 #include <unistd.h>
 #include "fox.h"
 
@@ -18,13 +14,8 @@
 
 uint32_t fox_probe_again64(const uint64_t *keys, uint32_t blocks, uint32_t l, uint32_t r);
 uint32_t fox_probe_again128(const uint64_t *keys, uint32_t blocks, uint32_t a, uint32_t b, uint32_t c, uint32_t d);
-uint32_t fox_probe_card_seal(uint32_t cipher, uint32_t rounds, const uint8_t *key, size_t key_len,
-                             const uint8_t *block, size_t block_len, uint8_t *out, size_t out_len);
-uint32_t fox_probe_card_open(uint32_t cipher, uint32_t rounds, const uint8_t *key, size_t key_len,
-                             const uint8_t *block, size_t block_len, uint8_t *out, size_t out_len);
 
-enum { INSTRUCTIONS_64 = 1500, INSTRUCTIONS_128 = 3000, STACK = 1024 };
-enum { RUN_INSTRUCTIONS_64 = 720, RUN_INSTRUCTIONS_128 = 1440, RUN_STACK = 1536 };
+enum { INSTRUCTIONS_64 = 1500, INSTRUCTIONS_128 = 3000, RUN_INSTRUCTIONS_64 = 720, RUN_INSTRUCTIONS_128 = 1440 };
 
 static int passed, failed;
 
@@ -115,72 +106,6 @@ static void run_instructions(uint32_t bits, long limit)
         held(what, (more - less + blocks - 1) / blocks, limit);
 }
 
-enum { PAINTED = 1 << 16 };
-static _Alignas(64) uint8_t painted[PAINTED];
-static ucontext_t here, there;
-
-static struct { int open; uint32_t cipher; size_t key_len; uint32_t refusal; } call;
-
-static void one_block(void)
-{
-    uint8_t key[32], block[16], out[16];
-    size_t size = call.cipher == 64 ? 8 : 16;
-    memset(key, 0x5A, sizeof key);
-    memset(block, 0xC3, sizeof block);
-    call.refusal = (call.open ? fox_probe_card_open : fox_probe_card_seal)(call.cipher, 255, key, call.key_len, block, size, out, size);
-}
-
-/* Part of a block, whole blocks and part of a block, in buffers elsewhere. */
-static void one_run(void)
-{
-    call.refusal = fox_card_run(call.cipher, 255, run_key, call.key_len, run_counter, call.cipher / 8, 3, run_input, 70, run_out, 70);
-}
-
-/* How many bytes of its stack a call wrote. */
-static long written(void (*on_painted_stack)(void))
-{
-    memset(painted, 0x77, sizeof painted);
-    getcontext(&there);
-    there.uc_stack.ss_sp = painted;
-    there.uc_stack.ss_size = sizeof painted;
-    there.uc_link = &here;
-    makecontext(&there, on_painted_stack, 0);
-    swapcontext(&here, &there);
-    size_t i = 0;
-    while (i < sizeof painted && painted[i] == 0x77)
-        i++;
-    return (long)(sizeof painted - i);
-}
-
-/* The most over both ciphers and keys of either schedule, whole and padded. */
-static long most_written(void (*on_painted_stack)(void))
-{
-    long most = 0;
-    static const size_t lengths[] = {0, 8, 15, 16, 17, 31, 32};
-    for (uint32_t cipher = 64; cipher <= 128; cipher += 64)
-        for (size_t i = 0; i < COUNT(lengths); i++) {
-            call.cipher = cipher, call.key_len = lengths[i];
-            long used = written(on_painted_stack);
-            if (call.refusal != 0) {
-                printf("measure: the card refused a call with %u: FAILED\n", call.refusal);
-                failed++;
-            }
-            if (used > most)
-                most = used;
-        }
-    return most;
-}
-
-static void stack(void)
-{
-    call.open = 0;
-    long seal = most_written(one_block);
-    call.open = 1;
-    long open = most_written(one_block);
-    held("bytes of stack that a call by the card's way writes, its caller's frame included", seal > open ? seal : open, STACK);
-    held("bytes of stack that a run by the card's way writes, its caller's frame included", most_written(one_run), RUN_STACK);
-}
-
 int main(void)
 {
     setvbuf(stdout, NULL, _IOLBF, 0);
@@ -193,7 +118,6 @@ int main(void)
     instructions(128, INSTRUCTIONS_128);
     run_instructions(64, RUN_INSTRUCTIONS_64);
     run_instructions(128, RUN_INSTRUCTIONS_128);
-    stack();
     printf("%d passed, %d failed\n", passed, failed);
     return failed != 0;
 }

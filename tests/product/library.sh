@@ -70,7 +70,5 @@ else
 fi
 check "the archive defines what the header declares, and nothing else" symbols
 check "every call on vectors, refusals and limits" compiled_and_right calls tests/product/calls.c
-check "the stack that the calls take" compiled_and_right stack tests/product/stack.c
-cat "$room/said"
 check "four threads at once get the bytes that one alone gets" compiled_and_right threads tests/product/threads.c -pthread
 check "the C example of README.md is compiled as printed and prints what is shown" readme_example

@@ -1,17 +1,12 @@
-// Exported functions whose instructions and stack the gate measures (tests/instructions.sh, tests/measure.c), and the bench sheet for a fuzzer to call
+// Exported functions whose instructions the gate counts (tests/instructions.sh, tests/measure.c), and the bench sheet for a fuzzer to call
 // (tests/fuzz.sh). No product uses this crate.
 ghost use mathlib.Core.Path.{_≡_};
 ghost use mathlib.Core.List.{[], _∷_};
 ghost use Prim.Native.Nat.{_≤_};
-ghost use lib.ListN.{length};
 ghost use Rattle.fox_layers.specs.Words.{split};
 ghost use Rattle.fox_layers.specs.Tables.{gathered};
-ghost use Rattle.fox_calls.specs.Refusals.{forBlock};
-ghost use Rattle.fox_calls.specs.Handed.{Handed};
-ghost use Rattle.fox_cipher.specs.Block.{sealBlock, openBlock};
 ghost use Rattle.fox_sheet.specs.Answer.{Answers};
 ghost use Rattle.fox_probe.specs.Again.{again64, again128};
-use fox_card::block;
 use fox_lent::lent64;
 use fox_lent::lent128;
 use fox_rounds::fox64::Fox64;
@@ -112,34 +107,6 @@ pub extern "C" fn fox_probe_again128(
 {
     let y = again128(keys, 16, blocks, Fox128::new(a, b, c, d));
     y.ll
-}
-
-#[no_mangle]
-pub extern "C" fn fox_probe_card_seal(
-    cipher: u32,
-    rounds: u32,
-    key: &[u8],
-    block: &[u8],
-    out: &mut [u8],
-) -> u32
-    ensures { λ r. ⌜ Handed (forBlock cipher rounds (length (now (key .entry))) (length (now (block .entry))) (length (now (out .entry)))) (sealBlock cipher rounds (now (key .entry)) (now (block .entry))) (now (out .entry)) (now (out .exit)) r ⌝ }
-{
-    let answer = block::seal(cipher, rounds, key, block, out);
-    answer.refusal
-}
-
-#[no_mangle]
-pub extern "C" fn fox_probe_card_open(
-    cipher: u32,
-    rounds: u32,
-    key: &[u8],
-    block: &[u8],
-    out: &mut [u8],
-) -> u32
-    ensures { λ r. ⌜ Handed (forBlock cipher rounds (length (now (key .entry))) (length (now (block .entry))) (length (now (out .entry)))) (openBlock cipher rounds (now (key .entry)) (now (block .entry))) (now (out .entry)) (now (out .exit)) r ⌝ }
-{
-    let answer = block::open(cipher, rounds, key, block, out);
-    answer.refusal
 }
 
 #[no_mangle]
