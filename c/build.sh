@@ -17,7 +17,7 @@ station() { # OUT
     log=target/log/fox_station.staticlib
     echo "proving and building fox_station, which takes minutes the first time; $log has all that is said of it"
     { rt staticlib fox_station 2>&1; echo "$?" >"$log.status"; } | tee "$log" | while IFS= read -r line; do
-        case $line in 'rt: '*) echo "$line" ;; esac
+        case $line in *unchanged*) ;; 'rt: '*) echo "$line" ;; esac
     done
     [ "$(cat "$log.status")" -eq 0 ] && [ -f "$1" ] || stop "fox_station was not built: $(tail -n 1 "$log")"
 }
