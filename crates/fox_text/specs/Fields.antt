@@ -1,6 +1,6 @@
 -- A line that is a name, with its `=`, and a value: whether a text begins with one, and what reading it from its place in a sheet finds.
 -- Assumes nothing.
-use Prim.Native.Nat.{ℕ, suc, _+_, _/_}
+use Prim.Native.Nat.{ℕ, suc, _+_}
 use mathlib.Core.Bool.{Bool, cond, _&&_}
 use mathlib.Core.List.{List, [], _∷_, _++_}
 use lib.ListN.{length, drop}

@@ -1,7 +1,7 @@
 -- The first broken line of the settings, and of the task, as their lines keep their rules or not; and what is read then.
 -- Assumes nothing.
 use mathlib.Core.Path.{_≡_, refl, sym, ap, _∙_}
-use mathlib.Core.List.{List, _++_}
+use mathlib.Core.List.{List}
 use mathlib.Core.Bool.{Bool, true, false, cond, _&&_, _||_}
 use Prim.Native.Nat.{ℕ, _+_, _-_, _≤_, _<_}
 use native.Mathlib.Omega.{arith}
@@ -31,7 +31,7 @@ use Rattle.fox_sheet.specs.Sheet.{
   roundsOf,
   keyOf,
 }
-use Rattle.fox_sheet.specs.Reading.{fourthLine, settingsOf, readWayLine, taskOf, hasBlock}
+use Rattle.fox_sheet.specs.Reading.{fourthLine, settingsOf, readWayLine, taskOf}
 use Rattle.fox_sheet.specs.declared.sheet.Settings.{Settings}
 use Rattle.fox_sheet.specs.declared.sheet.WayLine.{WayLine}
 use Rattle.fox_sheet.specs.declared.sheet.Task.{Task}

@@ -1,9 +1,9 @@
 -- A line of a name and a value: where its value stands, and what reading the line finds, as its rule is kept or broken.
 -- Assumes nothing.
-use mathlib.Core.Path.{_≡_, refl, sym, ap, _∙_}
+use mathlib.Core.Path.{_≡_, sym, ap, _∙_}
 use mathlib.Core.List.{List}
-use mathlib.Core.Bool.{Bool, true, false, _&&_, true≢false}
-use Prim.Native.Nat.{ℕ, suc, _+_, _-_, _≤_, _<_}
+use mathlib.Core.Bool.{Bool, true, false, true≢false}
+use Prim.Native.Nat.{ℕ, _+_, _-_, _≤_, _<_}
 use native.Mathlib.Omega.{arith}
 use lib.ListN.{length, take, drop, length-take, length-drop}
 use lib.Seq.{drop-drop}
@@ -26,8 +26,6 @@ use Rattle.fox_text.specs.Fields.{
   readPairsLine,
 }
 use Rattle.fox_text.specs.declared.fields.Value.{Value}
-use Rattle.fox_text.specs.declared.fields.DecimalLine.{DecimalLine}
-use Rattle.fox_text.specs.declared.fields.PairsLine.{PairsLine}
 use Rattle.fox_text.proofs.Laws.Tests.{both-first, both-second, by-test}
 use Rattle.fox_text.proofs.Laws.Lines.{starts-short, drop-take}
 

@@ -4,13 +4,13 @@
 -- six that does not begin with 0 is 100,000 or more.
 -- Assumes nothing.
 use mathlib.Core.Path.{_≡_, refl, sym, ap, _∙_}
-use mathlib.Core.Bool.{Bool, true, false, cond, not, _&&_, true≢false, and-assoc}
+use mathlib.Core.Bool.{Bool, true, false, cond, not, _&&_, and-assoc}
 use mathlib.Core.List.{List, [], _∷_}
 use Prim.Native.Nat.{ℕ, zero, suc, _+_, _-_, _*_, _/_, _%_, _^_, _≤_, _<_, min}
-use native.Mathlib.Nat.{zero-sub, zero-min, min-zero, suc-min-suc, suc-sub-suc, sub-zero, pow-succ', mul-assoc, le-trans, mul-le-mul-right, pow-le-pow-right}
+use native.Mathlib.Nat.{zero-min, min-zero, suc-min-suc, pow-succ', mul-assoc, le-trans, mul-le-mul-right, pow-le-pow-right}
 use native.Mathlib.Omega.{arith}
 use lib.ListN.{length, take, drop, length-take, length-drop}
-use lib.Seq.{take-take, take-nil, length-take-le}
+use lib.Seq.{take-take, length-take-le}
 use lib.Dec.{leb, ltb, eqb}
 use borrow.Author.Tests.{ltb-true, ltb-false, leb-true, eqb-true, eqb-false, lt-ltb, le-ltb, not-true}
 use Rattle.fox_text.specs.Ascii.{empty, startsWith, same}

@@ -1,11 +1,8 @@
 -- `sheet::read_settings` meets its contract: each line is read where the one before it ended, and the first that is not right is the broken one.
 -- Assumes nothing.
-use mathlib.Core.Path.{_≡_, refl, sym, ap, _∙_}
-use Prim.Native.Nat.{ℕ, _≤_, _<_}
+use mathlib.Core.Path.{refl, sym, _∙_}
 use native.Mathlib.Omega.{arith}
 use borrow.Author.Tests.{not-true, not-false}
-use lib.ListN.{length, drop}
-use lib.Seq.{sets}
 use Rattle.fox_text.specs.Ascii.{codes, ascii}
 use Rattle.fox_text.specs.Lines.{afterLines}
 use Rattle.fox_text.proofs.Laws.Read.{decimal-tested, decimal-read, pairs-line-tested, pairs-read}

@@ -2,15 +2,14 @@
 -- Assumes nothing.
 use mathlib.Core.Path.{_≡_, sym, ap, _∙_}
 use mathlib.Core.List.{List}
-use mathlib.Core.Bool.{Bool, true, false, cond}
-use Prim.Native.Nat.{ℕ, suc, _+_, _/_, _*_, _≤_}
+use Prim.Native.Nat.{ℕ, suc, _+_, _/_}
 use native.Mathlib.Omega.{arith}
 use borrow.Author.Tests.{not-true, not-false}
 use lib.ListN.{length, drop}
 use lib.Seq.{sets}
 use Rattle.fox_text.specs.Lines.{lineEnd}
-use Rattle.fox_text.specs.Hex.{isPairs, allHex, pairsOf}
-use Rattle.fox_text.specs.Fields.{valueText, isPairsLine, pairsIn, nextLine}
+use Rattle.fox_text.specs.Hex.{isPairs, pairsOf}
+use Rattle.fox_text.specs.Fields.{valueText, pairsIn, nextLine}
 use Rattle.fox_text.proofs.Laws.Pairs.{even-pairs, length-pairs}
 use Rattle.fox_text.proofs.Laws.Fields.{right-named, stands, not-named-pairs, pairs-tested, pairs-wrong, pairs-right}
 use borrow.Author.Needs.{needs}

@@ -1,8 +1,7 @@
 -- `lines::starts_with` meets its contract: whenever the loop's test is reached, the name begins the text exactly where the rest of it begins the rest.
 -- Assumes nothing.
-use mathlib.Core.Path.{_≡_, refl, sym, ap, _∙_}
-use Prim.Native.Nat.{ℕ, _+_, _-_, _≤_}
-use native.Mathlib.Omega.{arith}
+use mathlib.Core.Path.{_≡_, refl, sym, _∙_}
+use Prim.Native.Nat.{_-_, _≤_}
 use lib.ListN.{length, drop}
 use Rattle.fox_text.specs.Ascii.{startsWith}
 use Rattle.fox_text.proofs.Laws.Lines.{starts-differ, starts-alike, starts-short, starts-done}

@@ -1,6 +1,6 @@
 -- `writing::put_decimal` meets its contract: five places, one after the other.
 -- Assumes nothing.
-use mathlib.Core.Path.{_≡_, refl}
+use mathlib.Core.Path.{refl}
 use native.Mathlib.Omega.{arith}
 use Rattle.fox_text.specs.Decimal.{decimalText}
 use Rattle.fox_text.proofs.Laws.Decimals.{place-short}
