@@ -74,7 +74,8 @@ unfolding valueAt
 right-named name t at e r = sym (ap (λ (v : Value). v .right) e) ∙ r
 
 -- the part of the sheet from a value's start to its end is its text
-pub value-part : (sheet name : List ℕ) (at : ℕ) → take (at + lineEnd (drop at sheet) - (at + length name)) (drop (at + length name) sheet) ≡ valueText name (drop at sheet)
+value-part : (sheet name : List ℕ) (at : ℕ)
+    → take (at + lineEnd (drop at sheet) - (at + length name)) (drop (at + length name) sheet) ≡ valueText name (drop at sheet)
 unfolding valueText line
 value-part sheet name at =
     let t = drop at sheet in
