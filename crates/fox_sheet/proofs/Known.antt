@@ -22,7 +22,24 @@ use Rattle.fox_text.specs.Lines.{lineEnd, hasLine, line, afterLine, afterLines}
 use Rattle.fox_text.specs.Decimal.{isDigit, allDigits, onward, decimalOf, leadingZero, inRange, isDecimal, place, decimalText}
 use Rattle.fox_text.specs.Hex.{isHex, allHex, isPairs, nibble, pairsOf, digit, hexText}
 use Rattle.fox_text.specs.Fields.{valueText, named, isDecimalLine, isPairsLine, decimalIn, pairsIn, decimalLineText, pairsLineText}
-use Rattle.fox_sheet.specs.Sheet.{cipherName, roundsName, keyName, sealWay, openWay, blockName, isWayLine, keeps, settingRules, taskRules, brokenLine, cipherOf, roundsOf, keyOf, opens, blockOf}
+use Rattle.fox_sheet.specs.Sheet.{
+  cipherName,
+  roundsName,
+  keyName,
+  sealWay,
+  openWay,
+  blockName,
+  isWayLine,
+  keeps,
+  settingRules,
+  taskRules,
+  brokenLine,
+  cipherOf,
+  roundsOf,
+  keyOf,
+  opens,
+  blockOf,
+}
 use Rattle.fox_sheet.specs.Answer.{refusalName, lineName, keybitsName, brokenText, servedText, turned, refusal, blockText, answerOf}
 
 -- sheets, each with what is printed for it

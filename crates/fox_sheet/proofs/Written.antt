@@ -13,9 +13,34 @@ use Rattle.fox_text.specs.Ascii.{codes, ascii, empty, startsWith, same}
 use Rattle.fox_text.specs.Lines.{hasLine, line, afterLine, afterLines}
 use Rattle.fox_text.specs.Fields.{decimalLineText, pairsLineText}
 use Rattle.fox_text.proofs.Laws.Tests.{both-first, both-second}
-use Rattle.fox_text.proofs.Laws.Written.{Plain, hasLine-written, line-written, afterLine-written, decimal-line-after, decimal-line-read, decimal-line-right, pairs-line-after, pairs-line-read, pairs-line-right}
+use Rattle.fox_text.proofs.Laws.Written.{
+  Plain,
+  hasLine-written,
+  line-written,
+  afterLine-written,
+  decimal-line-after,
+  decimal-line-read,
+  decimal-line-right,
+  pairs-line-after,
+  pairs-line-read,
+  pairs-line-right,
+}
 use Rattle.fox_text.proofs.Laws.Again.{same-is, ended-split, decimal-line-again, pairs-line-again}
-use Rattle.fox_sheet.specs.Sheet.{cipherName, roundsName, keyName, sealWay, openWay, blockName, isWayLine, brokenLine, cipherOf, roundsOf, keyOf, opens, blockOf}
+use Rattle.fox_sheet.specs.Sheet.{
+  cipherName,
+  roundsName,
+  keyName,
+  sealWay,
+  openWay,
+  blockName,
+  isWayLine,
+  brokenLine,
+  cipherOf,
+  roundsOf,
+  keyOf,
+  opens,
+  blockOf,
+}
 use Rattle.fox_sheet.proofs.Laws.Kept.{Kept, right-kept, kept-right}
 
 -- the way's line

@@ -1,4 +1,5 @@
--- `hex::join_pairs` meets its contract: whenever the loop's test is reached, storing the pairs from number i on gives what storing all of them into the output as it was gives.
+-- `hex::join_pairs` meets its contract: whenever the loop's test is reached, storing the pairs from number i on gives what storing all of them into
+-- the output as it was gives.
 -- Assumes nothing.
 use mathlib.Core.Path.{_≡_, refl, sym, _∙_}
 use Prim.Native.Nat.{_+_, _-_, _*_, _≤_, _<_}

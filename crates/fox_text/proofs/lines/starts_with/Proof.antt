@@ -44,7 +44,8 @@ loop-again : tie.Need-loop-again Inv-loop μ-loop
 loop-again c =
     let at = c .before .before .before .before in
     let a = at .before .before .args in
-    (search needs, refl, at .loop .inv .2, starts-alike (a .name .now) (a .text .now) (at .loop .i) (search needs) (search needs) (c .if2 .left) ∙ at .loop .inv .3)
+    let alike = starts-alike (a .name .now) (a .text .now) (at .loop .i) (search needs) (search needs) (c .if2 .left) in
+    (search needs, refl, at .loop .inv .2, alike ∙ at .loop .inv .3)
 
 returns-3 : tie.Need-returns-3 Inv-loop μ-loop
 returns-3 c =
