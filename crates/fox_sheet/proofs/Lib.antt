@@ -2,3 +2,4 @@
 pub mod Laws
 pub mod Prefix
 pub mod Written
+pub mod Known

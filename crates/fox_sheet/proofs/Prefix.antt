@@ -14,8 +14,37 @@ use Rattle.fox_calls.specs.Refusals.{refusalOf}
 use Rattle.fox_text.specs.Ascii.{codes, ascii, same}
 use Rattle.fox_text.specs.Lines.{afterLines}
 use Rattle.fox_text.specs.Fields.{isDecimalLine, isPairsLine, decimalIn, pairsIn, valueText}
-use Rattle.fox_text.proofs.Laws.Prefixes.{Prefix, empty-prefix, lineRule, Within, Rule, rule-prefix, line-prefix, after-prefix, decimal-rule, pairs-rule, same-length}
-use Rattle.fox_sheet.specs.Sheet.{cipherName, roundsName, keyName, sealWay, openWay, blockName, isWayLine, keeps, settingRules, taskRules, brokenLine, cipherOf, roundsOf, keyOf, opens, blockOf}
+use Rattle.fox_text.proofs.Laws.Prefixes.{
+  Prefix,
+  empty-prefix,
+  lineRule,
+  Within,
+  Rule,
+  rule-prefix,
+  line-prefix,
+  after-prefix,
+  decimal-rule,
+  pairs-rule,
+  same-length,
+}
+use Rattle.fox_sheet.specs.Sheet.{
+  cipherName,
+  roundsName,
+  keyName,
+  sealWay,
+  openWay,
+  blockName,
+  isWayLine,
+  keeps,
+  settingRules,
+  taskRules,
+  brokenLine,
+  cipherOf,
+  roundsOf,
+  keyOf,
+  opens,
+  blockOf,
+}
 use Rattle.fox_sheet.specs.Answer.{answerOf}
 use Rattle.fox_sheet.proofs.Laws.Kept.{Kept, right-kept}
 

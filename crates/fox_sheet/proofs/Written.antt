@@ -13,20 +13,45 @@ use Rattle.fox_text.specs.Ascii.{codes, ascii, empty, startsWith, same}
 use Rattle.fox_text.specs.Lines.{hasLine, line, afterLine, afterLines}
 use Rattle.fox_text.specs.Fields.{decimalLineText, pairsLineText}
 use Rattle.fox_text.proofs.Laws.Tests.{both-first, both-second}
-use Rattle.fox_text.proofs.Laws.Written.{Plain, hasLine-written, line-written, afterLine-written, decimal-line-after, decimal-line-read, decimal-line-right, pairs-line-after, pairs-line-read, pairs-line-right}
+use Rattle.fox_text.proofs.Laws.Written.{
+  Plain,
+  hasLine-written,
+  line-written,
+  afterLine-written,
+  decimal-line-after,
+  decimal-line-read,
+  decimal-line-right,
+  pairs-line-after,
+  pairs-line-read,
+  pairs-line-right,
+}
 use Rattle.fox_text.proofs.Laws.Again.{same-is, ended-split, decimal-line-again, pairs-line-again}
-use Rattle.fox_sheet.specs.Sheet.{cipherName, roundsName, keyName, sealWay, openWay, blockName, isWayLine, brokenLine, cipherOf, roundsOf, keyOf, opens, blockOf}
+use Rattle.fox_sheet.specs.Sheet.{
+  cipherName,
+  roundsName,
+  keyName,
+  sealWay,
+  openWay,
+  blockName,
+  isWayLine,
+  brokenLine,
+  cipherOf,
+  roundsOf,
+  keyOf,
+  opens,
+  blockOf,
+}
 use Rattle.fox_sheet.proofs.Laws.Kept.{Kept, right-kept, kept-right}
 
 -- the way's line
-wayText : Bool → List ℕ
+unfoldable pub wayText : Bool → List ℕ
 wayText opening = cond opening openWay sealWay
 
 -- a sheet as it is written
 unfoldable pub sheetText : ℕ → ℕ → List ℕ → Bool → List ℕ → List ℕ
 sheetText cipher rounds key opening block =
     decimalLineText cipherName cipher ++ decimalLineText roundsName rounds ++ pairsLineText keyName key
-    ++ (cond opening openWay sealWay ++ (10 ∷ [])) ++ pairsLineText blockName block
+    ++ (wayText opening ++ (10 ∷ [])) ++ pairsLineText blockName block
 
 -- a sheet that is right, and what it says
 pub record Says (t : List ℕ) (cipher rounds : ℕ) (key : List ℕ) (opening : Bool) (block : List ℕ) : Type 0 where
@@ -104,7 +129,7 @@ module _ (cipher rounds : ℕ) (key : List ℕ) (opening : Bool) (block : List �
   first = decimalLineText cipherName cipher ++ second
 
   grouped : text ≡ first
-  unfolding text sheetText first second third fourth fifth wayText
+  unfolding text sheetText first second third fourth fifth
   grouped = simp (append-assoc, append-nil)
 
   module _ (bytes : Bytes key) (block-bytes : Bytes block) where

@@ -8,6 +8,8 @@ use lib.ListN.{length}
 use lib.Seq.{sets}
 use lib.Dec.{eqb}
 use Rattle.fox_calls.specs.Refusals.{refusalOf, forBlock}
+use Rattle.fox_calls.specs.Reply.{Reply}
+use Rattle.fox_calls.specs.declared.answer.Answer.{Answer}
 use Rattle.fox_cipher.specs.Block.{sealBlock, openBlock}
 use Rattle.fox_text.specs.Ascii.{ascii}
 use Rattle.fox_text.specs.Fields.{decimalLineText, pairsLineText}
@@ -38,6 +40,11 @@ turned opening cipher rounds key block =
     let opened = openBlock cipher rounds key block in
     let sealed = sealBlock cipher rounds key block in
     cond opening opened sealed
+
+-- a call that turns a block
+abbrev pub Turns : Bool → ℕ → ℕ → List ℕ → List ℕ → List ℕ → List ℕ → Answer → Type 0
+Turns opening cipher rounds key block before after r =
+    Reply (forBlock cipher rounds (length key) (length block) (length before)) (turned opening cipher rounds key block) before after r
 
 -- the refusals of one block, with an output as long as the block
 unfoldable pub refusal : ℕ → ℕ → List ℕ → List ℕ → ℕ

@@ -2,10 +2,8 @@
 ghost use mathlib.Core.Path.{_≡_};
 ghost use Prim.Native.Nat.{_≤_};
 ghost use lib.ListN.{length};
-ghost use Rattle.fox_calls.specs.Refusals.{forBlock};
-ghost use Rattle.fox_calls.specs.Reply.{Reply};
 ghost use Rattle.fox_text.specs.Put.{Put};
-ghost use Rattle.fox_sheet.specs.Answer.{Answers, blockText, brokenText, servedText, turned};
+ghost use Rattle.fox_sheet.specs.Answer.{Answers, Turns, blockText, brokenText, servedText};
 use crate::sheet::read_settings;
 use crate::sheet::read_task;
 use fox_calls::answer::Answer;
@@ -34,7 +32,7 @@ fn put_served(cipher: u32, rounds: u32, key: usize, block: &[u8], out: &mut [u8;
 
 // The block sealed or opened, as the sheet asks.
 fn turn(opening: bool, cipher: u32, rounds: u32, key: &[u8], block: &[u8], out: &mut [u8]) -> Answer
-    ensures { λ r. ⌜ Reply (forBlock cipher rounds (length (now (key .entry))) (length (now (block .entry))) (length (now (out .entry)))) (turned opening cipher rounds (now (key .entry)) (now (block .entry))) (now (out .entry)) (now (out .exit)) r ⌝ }
+    ensures { λ r. ⌜ Turns opening cipher rounds (now (key .entry)) (now (block .entry)) (now (out .entry)) (now (out .exit)) r ⌝ }
 {
     if opening {
         return open(cipher, rounds, key, block, out);

@@ -1,16 +1,10 @@
 // The sheet's five lines, read in two steps: the settings (cipher, rounds and key), and the task (way and block, with nothing after them). Each hands
 // back the number of the first line that breaks its rule, or 0.
 ghost use mathlib.Core.Path.{_≡_};
-ghost use mathlib.Core.Bool.{cond, false};
+ghost use mathlib.Core.Bool.{false};
 ghost use Prim.Native.Nat.{_≤_};
 ghost use lib.ListN.{length, drop};
-ghost use lib.Dec.{eqb};
-ghost use lib.Seq.{sets};
-ghost use Rattle.fox_calls.specs.Refusals.{refusalOf};
-ghost use Rattle.fox_text.specs.Lines.{afterLines};
-ghost use Rattle.fox_text.specs.Fields.{pairsIn};
-ghost use Rattle.fox_sheet.specs.Sheet.{blockName, keyOf, settingRules};
-ghost use Rattle.fox_sheet.specs.Reading.{hasBlock, readWayLine, settingsOf, taskOf};
+ghost use Rattle.fox_sheet.specs.Reading.{ReadsSettings, ReadsTask, readWayLine};
 use fox_text::fields::decimal_line;
 use fox_text::fields::pairs_line;
 use fox_text::lines::line_end;
@@ -65,7 +59,7 @@ impl Task {
 }
 
 pub fn read_settings(sheet: &[u8], key: &mut [u8; 64]) -> Settings
-    ensures { λ r. ⌜ (r ≡ settingsOf (now (sheet .entry))) × (now (key .exit) ≡ cond (eqb (refusalOf (settingRules (now (sheet .entry)))) 0) (sets (now (key .entry)) 0 (keyOf (now (sheet .entry)))) (now (key .entry))) ⌝ }
+    ensures { λ r. ⌜ ReadsSettings (now (sheet .entry)) (now (key .entry)) (now (key .exit)) r ⌝ }
 {
     let c = decimal_line(sheet, 0, b"cipher=");
     if !c.right {
@@ -122,7 +116,7 @@ pub fn way_line(sheet: &[u8], at: usize) -> WayLine
 // From the place where the fourth line begins.
 pub fn read_task(sheet: &[u8], at: usize, block: &mut [u8; 64]) -> Task
     requires { ⌜ at ≤ length (now sheet) ⌝ }
-    ensures { λ r. ⌜ (r ≡ taskOf (drop at (now (sheet .entry)))) × (now (block .exit) ≡ cond (hasBlock (drop at (now (sheet .entry)))) (sets (now (block .entry)) 0 (pairsIn blockName (afterLines 1 (drop at (now (sheet .entry)))))) (now (block .entry))) ⌝ }
+    ensures { λ r. ⌜ ReadsTask (drop at (now (sheet .entry))) (now (block .entry)) (now (block .exit)) r ⌝ }
 {
     let w = way_line(sheet, at);
     if !w.right {

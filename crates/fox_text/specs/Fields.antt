@@ -1,9 +1,11 @@
 -- A line that is a name, with its `=`, and a value: whether a text begins with one, and what reading it from its place in a sheet finds.
 -- Assumes nothing.
-use Prim.Native.Nat.{ℕ, suc, _+_, _/_}
+use mathlib.Core.Path.{_≡_}
+use Prim.Native.Nat.{ℕ, suc, _+_}
 use mathlib.Core.Bool.{Bool, cond, _&&_}
 use mathlib.Core.List.{List, [], _∷_, _++_}
 use lib.ListN.{length, drop}
+use lib.Seq.{sets}
 use Rattle.fox_text.specs.Ascii.{startsWith}
 use Rattle.fox_text.specs.Lines.{lineEnd, hasLine, line}
 use Rattle.fox_text.specs.Decimal.{isDecimal, decimalOf, decimalText}
@@ -59,6 +61,11 @@ readPairsLine most name at t =
       count = cond (isPairsLine most name t) (length (pairsIn name t)) 0;
       next = cond (isPairsLine most name t) (nextLine at t) 0;
     }
+
+-- a line of pairs read from place `at` on, with its bytes at the start of the output where it is right
+abbrev pub ReadsPairs : ℕ → List ℕ → ℕ → List ℕ → List ℕ → List ℕ → PairsLine → Type 0
+ReadsPairs most name at t before after r =
+    (r ≡ readPairsLine most name at t) × (after ≡ cond (isPairsLine most name t) (sets before 0 (pairsIn name t)) before)
 
 -- such lines as they are written
 unfoldable pub decimalLineText : List ℕ → ℕ → List ℕ

@@ -1,10 +1,8 @@
 // A line that is a name and a value, read from its place in a sheet. Where a line breaks its rule, the numbers handed back are 0.
 ghost use mathlib.Core.Path.{_≡_};
-ghost use mathlib.Core.Bool.{cond};
 ghost use Prim.Native.Nat.{_≤_};
 ghost use lib.ListN.{length, drop};
-ghost use lib.Seq.{sets};
-ghost use Rattle.fox_text.specs.Fields.{isPairsLine, pairsIn, readDecimalLine, readPairsLine, valueAt};
+ghost use Rattle.fox_text.specs.Fields.{ReadsPairs, readDecimalLine, valueAt};
 use crate::decimal::read_decimal;
 use crate::hex::is_pairs;
 use crate::hex::join_pairs;
@@ -89,7 +87,7 @@ pub fn pairs_line(
     out: &mut [u8; 64],
 ) -> PairsLine
     requires { ⌜ (at ≤ length (now sheet)) × (most ≤ 64) ⌝ }
-    ensures { λ r. ⌜ (r ≡ readPairsLine most (now (name .entry)) at (drop at (now (sheet .entry)))) × (now (out .exit) ≡ cond (isPairsLine most (now (name .entry)) (drop at (now (sheet .entry)))) (sets (now (out .entry)) 0 (pairsIn (now (name .entry)) (drop at (now (sheet .entry))))) (now (out .entry))) ⌝ }
+    ensures { λ r. ⌜ ReadsPairs most (now (name .entry)) at (drop at (now (sheet .entry))) (now (out .entry)) (now (out .exit)) r ⌝ }
 {
     let wrong = PairsLine {
         right: false,

@@ -1,13 +1,11 @@
 -- The first broken line of the settings, and of the task, as their lines keep their rules or not; and what is read then.
 -- Assumes nothing.
 use mathlib.Core.Path.{_≡_, refl, sym, ap, _∙_}
-use mathlib.Core.List.{List, _++_}
+use mathlib.Core.List.{List}
 use mathlib.Core.Bool.{Bool, true, false, cond, _&&_, _||_}
 use Prim.Native.Nat.{ℕ, _+_, _-_, _≤_, _<_}
 use native.Mathlib.Omega.{arith}
 use lib.ListN.{length, take, drop, drop-of-length-le}
-use lib.Seq.{sets}
-use lib.Dec.{eqb}
 use borrow.Author.Tests.{le-ltb, lt-ltb, ltb-true, ne-eqb}
 use Rattle.fox_calls.specs.Refusals.{refusalOf}
 use Rattle.fox_text.specs.Ascii.{same, empty}
@@ -31,7 +29,7 @@ use Rattle.fox_sheet.specs.Sheet.{
   roundsOf,
   keyOf,
 }
-use Rattle.fox_sheet.specs.Reading.{fourthLine, settingsOf, readWayLine, taskOf, hasBlock}
+use Rattle.fox_sheet.specs.Reading.{fourthLine, settingsOf, readWayLine, taskOf, ReadsSettings}
 use Rattle.fox_sheet.specs.declared.sheet.Settings.{Settings}
 use Rattle.fox_sheet.specs.declared.sheet.WayLine.{WayLine}
 use Rattle.fox_sheet.specs.declared.sheet.Task.{Task}
@@ -57,7 +55,7 @@ settings-kept t a b c = rw (a, b, c)
 -- a broken line: its number, and the key's buffer as it was
 pub settings-broken : {r : Settings} (t key : List ℕ) (l : ℕ) → 0 < l → refusalOf (settingRules t) ≡ l
     → r ≡ record { line = l; cipher = 0; rounds = 0; size = 0; next = 0 }
-    → (r ≡ settingsOf t) × (key ≡ cond (eqb (refusalOf (settingRules t)) 0) (sets key 0 (keyOf t)) key)
+    → ReadsSettings t key key r
 unfolding settingsOf
 settings-broken t key l h e r =
     let other = ne-eqb l 0 (λ z. omega arith) in

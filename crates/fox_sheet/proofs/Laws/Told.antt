@@ -1,9 +1,9 @@
 -- The answer, by whether the sheet is right and the block served, and that writing it is what the contract asks for.
 -- Assumes nothing.
 use mathlib.Core.Path.{_≡_, refl, sym, ap, _∙_}
-use mathlib.Core.List.{List, _++_}
-use mathlib.Core.Bool.{Bool, true, cond}
-use Prim.Native.Nat.{ℕ, _+_, _≤_, _<_}
+use mathlib.Core.List.{List}
+use mathlib.Core.Bool.{Bool, true}
+use Prim.Native.Nat.{ℕ, _≤_}
 use native.Mathlib.Omega.{arith}
 use lib.ListN.{length, take, drop, length-take}
 use lib.Seq.{sets, length-sets}
@@ -39,7 +39,7 @@ use Rattle.fox_sheet.specs.Sheet.{
   opens,
   blockOf,
 }
-use Rattle.fox_sheet.specs.Reading.{fourthLine, settingsOf, taskOf, hasBlock}
+use Rattle.fox_sheet.specs.Reading.{fourthLine, settingsOf, taskOf, hasBlock, ReadsSettings, ReadsTask}
 use Rattle.fox_sheet.specs.declared.sheet.Settings.{Settings}
 use Rattle.fox_sheet.specs.declared.sheet.Task.{Task}
 use Rattle.fox_sheet.proofs.Laws.Reading.{settings-read, task-read}
@@ -158,7 +158,7 @@ pub record Known (t key after : List ℕ) (s : Settings) : Type 0 where
   pub rest : drop (s .next) t ≡ afterLines 3 t
 
 pub settings-known : {s : Settings} {after : List ℕ} (t key : List ℕ)
-    → (s ≡ settingsOf t) × (after ≡ cond (eqb (refusalOf (settingRules t)) 0) (sets key 0 (keyOf t)) key) → s .line ≡ 0 → Known t key after s
+    → ReadsSettings t key after s → s .line ≡ 0 → Known t key after s
 settings-known {s} {after} t key (e, b) z =
     let rules = settings-line t e ∙ z in
     let all = e ∙ settings-read t rules in
@@ -186,7 +186,7 @@ pub record Ready (t block after : List ℕ) (s : Task) : Type 0 where
   pub block-bytes : length block ≡ 64 → take (s .size) after ≡ pairsIn blockName (afterLines 1 t)
 
 pub task-ready : {s : Task} {after : List ℕ} (t block : List ℕ)
-    → (s ≡ taskOf t) × (after ≡ cond (hasBlock t) (sets block 0 (pairsIn blockName (afterLines 1 t))) block) → s .line ≡ 0 → Ready t block after s
+    → ReadsTask t block after s → s .line ≡ 0 → Ready t block after s
 task-ready {s} {after} t block (e, b) z =
     let rules = task-line t e ∙ z in
     let all = e ∙ task-read t rules in

@@ -9,7 +9,7 @@ use native.Mathlib.Nat.{div-div-eq-div-mul}
 use native.Mathlib.Omega.{arith}
 use lib.ListN.{length, take, drop, drop-of-length-le}
 use lib.Seq.{append-snoc}
-use lib.Dec.{leb, ltb, eqb}
+use lib.Dec.{ltb, eqb}
 use borrow.Author.Tests.{ltb-true, ltb-false, eqb-true, lt-ltb, le-ltb}
 use Rattle.fox_text.specs.Ascii.{empty, startsWith, same}
 use Rattle.fox_text.specs.Lines.{lineEnd, hasLine, line, afterLine}
@@ -18,7 +18,9 @@ use Rattle.fox_text.specs.Hex.{isHex, allHex, isPairs, nibble, pairsOf, 
 use Rattle.fox_text.specs.Fields.{valueText, named, isDecimalLine, isPairsLine, decimalIn, pairsIn, decimalLineText, pairsLineText}
 use Rattle.fox_text.proofs.Laws.Written.{hex-nibble}
 use Rattle.fox_text.proofs.Laws.Tests.{both-first, both-second, by-test}
-use Rattle.fox_text.proofs.Laws.Prefixes.{decimal-digits, digit-low, digit-high, first-digit, same-length}
+use Rattle.fox_text.proofs.Laws.Decimals.{digit-from, digit-to, grows}
+use Rattle.fox_text.proofs.Laws.Pairs.{even-pairs}
+use Rattle.fox_text.proofs.Laws.Prefixes.{decimal-digits, first-digit, same-length}
 
 -- lines
 
@@ -85,19 +87,14 @@ text-next n d low top h =
     let one : place 10 (n * 10 + d) ≡ (48 + n % 10) ∷ [] = rw (place-some 10 (n * 10 + d) (omega arith), cut) in
     rw (place-next 1000 10000 n d refl h, place-next 100 1000 n d refl h, place-next 10 100 n d refl h, one, last, place-none 10000 n top)
 
-onward-le : (v : ℕ) (ds : List ℕ) → v ≤ onward v ds
-unfolding onward
-onward-le v [] = omega arith
-onward-le v (d ∷ ds) = omega (arith, onward-le (v * 10 + (d - 48)) ds)
-
 text-onward : (v : ℕ) (ds : List ℕ) → 1 ≤ v → allDigits ds ≡ true → onward v ds < 100000 → decimalText (onward v ds) ≡ decimalText v ++ ds
 unfolding onward allDigits
 text-onward v [] low e top = sym (append-nil (decimalText v))
 text-onward v (d ∷ ds) low e top =
     let right = both-first (isDigit d) (allDigits ds) e in
-    let high = digit-high d right in
-    let more = onward-le (v * 10 + (d - 48)) ds in
-    let same : 48 + (d - 48) ≡ d = omega (arith, digit-low d right) in
+    let high = digit-to d right in
+    let more = grows (v * 10 + (d - 48)) ds in
+    let same : 48 + (d - 48) ≡ d = omega (arith, digit-from d right) in
     text-onward (v * 10 + (d - 48)) ds (omega arith) (both-second (isDigit d) (allDigits ds) e) top
     ∙ ap (λ (xs : List ℕ). xs ++ ds) (text-next v (d - 48) low (omega arith) (omega arith) ∙ ap (λ (x : ℕ). decimalText v ++ (x ∷ [])) same)
     ∙ append-snoc (decimalText v) d ds
@@ -106,11 +103,11 @@ text-digit : (d : ℕ) → isDigit d ≡ true → decimalText (0 * 10 + (d - 48)
 unfolding decimalText
 text-digit d e =
     let n = 0 * 10 + (d - 48) in
-    let high = digit-high d e in
-    let same : 48 + n % 10 ≡ d = omega (arith, digit-low d e) in
+    let high = digit-to d e in
+    let same : 48 + n % 10 ≡ d = omega (arith, digit-from d e) in
     rw (place-none 10000 n (omega arith), place-none 1000 n (omega arith), place-none 100 n (omega arith), place-none 10 n (omega arith), same)
 
-pub decimal-again : (ds : List ℕ) → isDecimal ds ≡ true → decimalText (decimalOf ds) ≡ ds
+decimal-again : (ds : List ℕ) → isDecimal ds ≡ true → decimalText (decimalOf ds) ≡ ds
 unfolding decimalOf onward empty allDigits
 decimal-again [] e = absurd (true≢false (decimal-digits [] e .some))
 decimal-again (d ∷ []) e = text-digit d (both-first (isDigit d) true (decimal-digits (d ∷ []) e .all))
@@ -123,7 +120,7 @@ decimal-again (d ∷ x ∷ ds) e =
 
 -- pairs of digits
 
-pub pairs-again : (ds : List ℕ) → length ds % 2 ≡ 0 → allHex ds ≡ true → hexText (pairsOf ds) ≡ ds
+pairs-again : (ds : List ℕ) → length ds % 2 ≡ 0 → allHex ds ≡ true → hexText (pairsOf ds) ≡ ds
 unfolding hexText pairsOf allHex
 pairs-again [] even e = refl
 pairs-again (a ∷ []) even e = absurd (omega arith)
@@ -146,12 +143,9 @@ decimal-line-again name t e =
     ∙ ap (λ (xs : List ℕ). name ++ xs ++ (10 ∷ []) ++ afterLine t) (sym (decimal-again v (both-second (named name t) (isDecimal v) e)))
 
 pub pairs-line-again : (most : ℕ) (name t : List ℕ) → isPairsLine most name t ≡ true → t ≡ pairsLineText name (pairsIn name t) ++ afterLine t
-unfolding isPairsLine pairsLineText pairsIn isPairs
+unfolding isPairsLine pairsLineText pairsIn
 pairs-line-again most name t e =
     let v = valueText name t in
-    let right = both-second (named name t) (isPairs most v) e in
-    let even = eqb (length v % 2) 0 in
-    let few = leb (length v / 2) most in
-    let pairs = eqb-true (length v % 2) 0 (both-first even few (both-first (even && few) (allHex v) right)) in
+    let p = even-pairs most v (both-second (named name t) (isPairs most v) e) in
     named-split name t (both-first (named name t) (isPairs most v) e)
-    ∙ ap (λ (xs : List ℕ). name ++ xs ++ (10 ∷ []) ++ afterLine t) (sym (pairs-again v pairs (both-second (even && few) (allHex v) right)))
+    ∙ ap (λ (xs : List ℕ). name ++ xs ++ (10 ∷ []) ++ afterLine t) (sym (pairs-again v (omega (arith, p .even)) (p .hex)))

@@ -1,16 +1,17 @@
 -- Decimals, one digit further.
 -- Assumes nothing.
-use mathlib.Core.Path.{_≡_, refl, sym, ap, _∙_}
-use mathlib.Core.List.{List, [], _∷_, _++_}
-use mathlib.Core.Bool.{Bool, true, false, cond, _&&_}
-use Prim.Native.Nat.{ℕ, zero, suc, _+_, _-_, _*_, _/_, _%_, _≤_, _<_}
+use mathlib.Core.Path.{_≡_, refl, sym, _∙_}
+use mathlib.Core.List.{List, [], _∷_}
+use mathlib.Core.Bool.{true, false, _&&_}
+use Prim.Native.Nat.{ℕ, _+_, _-_, _*_, _≤_, _<_}
 use native.Mathlib.Omega.{arith}
 use lib.ListN.{length, drop, getD, length-append, drop-of-length-le}
 use lib.Dec.{leb, ltb}
-use borrow.Author.Tests.{le-leb, lt-leb, eq-eqb, ne-eqb}
+use borrow.Author.Tests.{le-leb, lt-leb, leb-true, eq-eqb, ne-eqb}
 use Rattle.fox_text.specs.Ascii.{empty}
 use Rattle.fox_text.specs.Decimal.{isDigit, allDigits, onward, decimalOf, leadingZero, inRange, isDecimal, place, decimalText}
 use Rattle.fox_text.specs.Fields.{decimalLineText}
+use Rattle.fox_text.proofs.Laws.Tests.{both-first, both-second, by-test}
 use Rattle.fox_text.proofs.Laws.Lines.{from-here}
 
 digits-here : (ds : List ℕ) (i : ℕ) → i < length ds → allDigits (drop i ds) ≡ (isDigit (getD ds i 0) && allDigits (drop (i + 1) ds))
@@ -49,6 +50,15 @@ pub digit-right : (d : ℕ) → 48 ≤ d → d ≤ 57 → isDigit d ≡ true
 unfolding isDigit
 digit-right d l h = rw (le-leb 48 d l, le-leb d 57 h)
 
+-- and the other way about
+pub digit-from : (d : ℕ) → isDigit d ≡ true → 48 ≤ d
+unfolding isDigit
+digit-from d e = leb-true 48 d (both-first (leb 48 d) (leb d 57) e)
+
+pub digit-to : (d : ℕ) → isDigit d ≡ true → d ≤ 57
+unfolding isDigit
+digit-to d e = leb-true d 57 (both-second (leb 48 d) (leb d 57) e)
+
 -- a byte that is no digit, or a number that is too large, settles the matter
 pub no-digits : (ds : List ℕ) → allDigits ds ≡ false → inRange ds ≡ false
 unfolding inRange
@@ -56,11 +66,7 @@ no-digits ds e = rw e
 
 pub too-large : (ds : List ℕ) → 65535 < decimalOf ds → inRange ds ≡ false
 unfolding inRange
-too-large ds h = rw (lt-leb (decimalOf ds) 65535 h) (either (allDigits ds))
-  where
-    either : (b : Bool) → (b && false) ≡ false
-    either true = refl
-    either false = refl
+too-large ds h = rw (lt-leb (decimalOf ds) 65535 h) (by-test (allDigits ds) (λ e. rw e) (λ e. rw e))
 
 pub in-range : (ds : List ℕ) → allDigits ds ≡ true → decimalOf ds ≤ 65535 → inRange ds ≡ true
 unfolding inRange
@@ -92,11 +98,7 @@ more-digits (d ∷ f ∷ ds) h z = rw (ne-eqb d 48 z)
 
 pub place-short : (p n : ℕ) → length (place p n) ≤ 1
 unfolding place
-place-short p n = either (ltb n p)
-  where
-    either : (b : Bool) → length (cond b [] ((48 + n / p % 10) ∷ [])) ≤ 1
-    either true = omega arith
-    either false = omega arith
+place-short p n = by-test (ltb n p) (λ e. rw e (omega arith)) (λ e. rw e (omega arith))
 
 pub decimal-short : (n : ℕ) → length (decimalText n) ≤ 5
 unfolding decimalText

@@ -1,9 +1,9 @@
 -- A line of a name and a value: where its value stands, and what reading the line finds, as its rule is kept or broken.
 -- Assumes nothing.
-use mathlib.Core.Path.{_≡_, refl, sym, ap, _∙_}
+use mathlib.Core.Path.{_≡_, sym, ap, _∙_}
 use mathlib.Core.List.{List}
-use mathlib.Core.Bool.{Bool, true, false, _&&_, true≢false}
-use Prim.Native.Nat.{ℕ, suc, _+_, _-_, _≤_, _<_}
+use mathlib.Core.Bool.{Bool, true, false, true≢false}
+use Prim.Native.Nat.{ℕ, _+_, _-_, _≤_, _<_}
 use native.Mathlib.Omega.{arith}
 use lib.ListN.{length, take, drop, length-take, length-drop}
 use lib.Seq.{drop-drop}
@@ -26,8 +26,6 @@ use Rattle.fox_text.specs.Fields.{
   readPairsLine,
 }
 use Rattle.fox_text.specs.declared.fields.Value.{Value}
-use Rattle.fox_text.specs.declared.fields.DecimalLine.{DecimalLine}
-use Rattle.fox_text.specs.declared.fields.PairsLine.{PairsLine}
 use Rattle.fox_text.proofs.Laws.Tests.{both-first, both-second, by-test}
 use Rattle.fox_text.proofs.Laws.Lines.{starts-short, drop-take}
 
@@ -76,7 +74,8 @@ unfolding valueAt
 right-named name t at e r = sym (ap (λ (v : Value). v .right) e) ∙ r
 
 -- the part of the sheet from a value's start to its end is its text
-pub value-part : (sheet name : List ℕ) (at : ℕ) → take (at + lineEnd (drop at sheet) - (at + length name)) (drop (at + length name) sheet) ≡ valueText name (drop at sheet)
+value-part : (sheet name : List ℕ) (at : ℕ)
+    → take (at + lineEnd (drop at sheet) - (at + length name)) (drop (at + length name) sheet) ≡ valueText name (drop at sheet)
 unfolding valueText line
 value-part sheet name at =
     let t = drop at sheet in

@@ -2,8 +2,8 @@
 -- Assumes nothing.
 use mathlib.Core.Path.{_≡_, refl, sym, ap, _∙_}
 use mathlib.Core.List.{List, [], _∷_}
-use mathlib.Core.Bool.{Bool, true, false, cond, _&&_, _||_}
-use Prim.Native.Nat.{ℕ, zero, suc, _+_, _-_, _*_, _/_, _%_, _≤_, _<_}
+use mathlib.Core.Bool.{true, false, _&&_}
+use Prim.Native.Nat.{ℕ, zero, suc, _+_, _*_, _/_, _%_, _≤_, _<_}
 use native.Mathlib.Numerals.{add-one}
 use native.Mathlib.Nat.{div-add-mod'}
 use native.Mathlib.Omega.{arith}
@@ -14,7 +14,7 @@ use borrow.Author.Tests.{leb-true, eqb-true, ltb-true, ltb-false}
 use Rattle.fox_text.specs.Decimal.{isDigit}
 use Rattle.fox_text.specs.Hex.{isHex, allHex, isPairs, nibble, pairsOf, hexText, digit}
 use Rattle.fox_text.specs.Fields.{named, valueText, isPairsLine, pairsIn, pairsLineText}
-use Rattle.fox_text.proofs.Laws.Tests.{both-first, both-second}
+use Rattle.fox_text.proofs.Laws.Tests.{both-first, both-second, by-test}
 use Rattle.fox_text.proofs.Laws.Lines.{from-here}
 
 hex-here : (ds : List ℕ) (i : ℕ) → i < length ds → allHex (drop i ds) ≡ (isHex (getD ds i 0) && allHex (drop (i + 1) ds))
@@ -48,25 +48,18 @@ within l h d e = (leb-true l d (both-first (leb l d) (leb d h) e), leb-true d h 
 
 pub ranges : (d : ℕ) → isHex d ≡ true → Ranges d
 unfolding isHex isDigit
-ranges d e = go (isDigit d) refl
-  where
-    go : (b : Bool) → isDigit d ≡ b → Ranges d
-    go true p = let (l, h) = within 48 57 d p in record { low = l; high = omega arith; between = λ _. h }
-    go false p = let (l, h) = within 65 70 d (rw p at e) in record { low = omega arith; high = h; between = λ k. omega arith }
+ranges d e =
+    by-test (isDigit d) (λ p. let (l, h) = within 48 57 d p in record { low = l; high = omega arith; between = λ _. h })
+    (λ p. let (l, h) = within 65 70 d (rw p at e) in record { low = omega arith; high = h; between = λ k. omega arith })
 
 pub nibble-small : (d : ℕ) → isHex d ≡ true → nibble d < 16
 unfolding nibble
-nibble-small d e = go (ltb d 65) refl
-  where
-    r : Ranges d
-    r = ranges d e
-
-    go : (b : Bool) → ltb d 65 ≡ b → cond (ltb d 65) (d - 48) (d - 55) < 16
-    go true p = rw p (omega (arith, r .between (ltb-true d 65 p)))
-    go false p = rw p (omega (arith, r .high, ltb-false d 65 p))
+nibble-small d e =
+    let r = ranges d e in
+    by-test (ltb d 65) (λ p. rw p (omega (arith, r .between (ltb-true d 65 p)))) (λ p. rw p (omega (arith, r .high, ltb-false d 65 p)))
 
 -- the pair number i, and those after it
-pub pairs-here : (ds : List ℕ) (i : ℕ) → i * 2 + 1 < length ds
+pairs-here : (ds : List ℕ) (i : ℕ) → i * 2 + 1 < length ds
     → pairsOf (drop (i * 2) ds) ≡ (nibble (getD ds (i * 2) 0) * 16 + nibble (getD ds (i * 2 + 1) 0)) ∷ pairsOf (drop ((i + 1) * 2) ds)
 unfolding pairsOf
 pairs-here ds i h =
@@ -75,7 +68,7 @@ pairs-here ds i h =
     rw (from-here ds (i * 2) a, from-here ds (i * 2 + 1) h, e)
 
 -- after the last pair
-pub pairs-end : (ds : List ℕ) → length ds < 2 → pairsOf ds ≡ []
+pairs-end : (ds : List ℕ) → length ds < 2 → pairsOf ds ≡ []
 unfolding pairsOf
 pairs-end [] h = refl
 pairs-end (a ∷ []) h = refl

@@ -4,22 +4,24 @@
 -- six that does not begin with 0 is 100,000 or more.
 -- Assumes nothing.
 use mathlib.Core.Path.{_≡_, refl, sym, ap, _∙_}
-use mathlib.Core.Bool.{Bool, true, false, cond, not, _&&_, true≢false, and-assoc}
+use mathlib.Core.Bool.{Bool, true, false, cond, not, _&&_, and-assoc}
 use mathlib.Core.List.{List, [], _∷_}
-use Prim.Native.Nat.{ℕ, zero, suc, _+_, _-_, _*_, _/_, _%_, _^_, _≤_, _<_, min}
-use native.Mathlib.Nat.{zero-sub, zero-min, min-zero, suc-min-suc, suc-sub-suc, sub-zero, pow-succ', mul-assoc, le-trans, mul-le-mul-right, pow-le-pow-right}
+use Prim.Native.Nat.{ℕ, zero, suc, _+_, _-_, _*_, _^_, _≤_, _<_, min}
+use native.Mathlib.Nat.{zero-min, min-zero, suc-min-suc, pow-succ', mul-assoc, le-trans, mul-le-mul-right, pow-le-pow-right}
 use native.Mathlib.Omega.{arith}
 use lib.ListN.{length, take, drop, length-take, length-drop}
-use lib.Seq.{take-take, take-nil, length-take-le}
+use lib.Seq.{take-take, length-take-le}
 use lib.Dec.{leb, ltb, eqb}
 use borrow.Author.Tests.{ltb-true, ltb-false, leb-true, eqb-true, eqb-false, lt-ltb, le-ltb, not-true}
 use Rattle.fox_text.specs.Ascii.{empty, startsWith, same}
 use Rattle.fox_text.specs.Lines.{lineEnd, hasLine, line, afterLine}
 use Rattle.fox_text.specs.Decimal.{isDigit, allDigits, onward, decimalOf, leadingZero, inRange, isDecimal}
-use Rattle.fox_text.specs.Hex.{allHex, isPairs}
+use Rattle.fox_text.specs.Hex.{isPairs}
 use Rattle.fox_text.specs.Fields.{valueText, named, isDecimalLine, isPairsLine}
 use Rattle.fox_text.proofs.Laws.Tests.{both-first, both-second, by-test}
 use Rattle.fox_text.proofs.Laws.Lines.{line-end-within, drop-take}
+use Rattle.fox_text.proofs.Laws.Decimals.{digit-from}
+use Rattle.fox_text.proofs.Laws.Pairs.{even-pairs}
 
 -- the first line of a part
 
@@ -27,7 +29,7 @@ min-end : (b : Bool) (m n : ℕ) → cond b 0 (suc (min m n)) ≡ min (suc m) (c
 min-end true m n = sym (min-zero (suc m))
 min-end false m n = sym (suc-min-suc m n)
 
-pub lineEnd-take : (m : ℕ) (t : List ℕ) → lineEnd (take m t) ≡ min m (lineEnd t)
+lineEnd-take : (m : ℕ) (t : List ℕ) → lineEnd (take m t) ≡ min m (lineEnd t)
 unfolding lineEnd
 lineEnd-take zero t = sym (zero-min (lineEnd t))
 lineEnd-take (suc m) [] = sym (min-zero (suc m))
@@ -56,7 +58,7 @@ lineRule good t = hasLine t && good (line t)
 abbrev pub Within : ℕ → (List ℕ → Bool) → Type 0
 Within m good = (l : List ℕ) → good l ≡ true → length l ≤ m
 
-pub length-line : (t : List ℕ) → length (line t) ≡ lineEnd t
+length-line : (t : List ℕ) → length (line t) ≡ lineEnd t
 unfolding line
 length-line t = length-take-le (lineEnd t) t (line-end-within t)
 
@@ -154,7 +156,7 @@ unfolding isPairsLine named valueText lineRule pairsRule
 pairs-line-rule most name t = and-assoc (hasLine t) (startsWith name (line t)) (isPairs most (drop (length name) (line t)))
 
 -- digits go on from v to at least v times the power of ten
-pub onward-low : (v : ℕ) (ds : List ℕ) → v * 10 ^ length ds ≤ onward v ds
+onward-low : (v : ℕ) (ds : List ℕ) → v * 10 ^ length ds ≤ onward v ds
 unfolding onward
 onward-low v [] = omega arith
 onward-low v (d ∷ ds) =
@@ -183,23 +185,15 @@ decimal-digits ds e =
       small = leb-true (decimalOf ds) 65535 (both-second (allDigits ds) (leb (decimalOf ds) 65535) b);
     }
 
-pub digit-low : (d : ℕ) → isDigit d ≡ true → 48 ≤ d
-unfolding isDigit
-digit-low d e = leb-true 48 d (both-first (leb 48 d) (leb d 57) e)
-
-pub digit-high : (d : ℕ) → isDigit d ≡ true → d ≤ 57
-unfolding isDigit
-digit-high d e = leb-true d 57 (both-second (leb 48 d) (leb d 57) e)
-
 -- a first digit that is not 0 is worth 1 or more
 pub first-digit : (d x : ℕ) (ds : List ℕ) → Digits (d ∷ x ∷ ds) → 49 ≤ d
 unfolding leadingZero allDigits
 first-digit d x ds r =
-    let low = digit-low d (both-first (isDigit d) (allDigits (x ∷ ds)) (r .all)) in
+    let low = digit-from d (both-first (isDigit d) (allDigits (x ∷ ds)) (r .all)) in
     let other = eqb-false d 48 (r .first) in
     omega arith
 
-pub decimal-length : (ds : List ℕ) → isDecimal ds ≡ true → length ds ≤ 5
+decimal-length : (ds : List ℕ) → isDecimal ds ≡ true → length ds ≤ 5
 unfolding decimalOf onward
 decimal-length [] e = omega arith
 decimal-length (d ∷ []) e = omega arith
@@ -217,15 +211,10 @@ decimal-length (d ∷ x ∷ ds) e =
     absurd (omega arith))
     (λ q. let few = ltb-false 4 (suc (length ds)) q in omega arith)
 
-pub pairs-length : (most : ℕ) (ds : List ℕ) → isPairs most ds ≡ true → length ds ≤ 2 * most
-unfolding isPairs
+pairs-length : (most : ℕ) (ds : List ℕ) → isPairs most ds ≡ true → length ds ≤ 2 * most
 pairs-length most ds e =
-    let even = eqb (length ds % 2) 0 in
-    let few = leb (length ds / 2) most in
-    let front : (even && few) ≡ true = both-first (even && few) (allHex ds) e in
-    let half = leb-true (length ds / 2) most (both-second even few front) in
-    let rest = eqb-true (length ds % 2) 0 (both-first even few front) in
-    omega arith
+    let p = even-pairs most ds e in
+    omega (arith, p .even, p .few)
 
 -- a line of a name and a value is as long as both
 value-within : (m : ℕ) (name l : List ℕ) → length (drop (length name) l) ≤ m → length l ≤ length name + m

@@ -1,9 +1,8 @@
 -- Bytes stored one after the other: one more of them, and two texts one after the other.
 -- Assumes nothing.
-use mathlib.Core.Path.{_≡_, refl, sym, ap, _∙_}
+use mathlib.Core.Path.{_≡_, sym, ap, _∙_}
 use mathlib.Core.List.{List, [], _∷_, _++_}
-use Prim.Native.Nat.{ℕ, zero, suc, _+_, _*_, _/_, _%_, _≤_, _<_}
-use native.Mathlib.Numerals.{add-one}
+use Prim.Native.Nat.{ℕ, suc, _+_, _*_, _/_, _%_, _≤_, _<_}
 use native.Mathlib.Omega.{arith}
 use lib.ListN.{length, take, drop, getD, set, length-append, drop-of-length-le}
 use lib.Seq.{sets, sets-eq, take-append-seam}
@@ -12,12 +11,13 @@ use Rattle.fox_text.specs.Put.{Put}
 use Rattle.fox_text.proofs.Laws.Lines.{from-here}
 use Rattle.fox_text.proofs.Laws.Pairs.{hex-text-here}
 
-pub sets-append : (l : List ℕ) (i : ℕ) (a b : List ℕ) → sets l i (a ++ b) ≡ sets (sets l i a) (i + length a) b
+sets-append : (l : List ℕ) (i : ℕ) (a b : List ℕ) → sets l i (a ++ b) ≡ sets (sets l i a) (i + length a) b
 sets-append l i [] b = ap (λ (n : ℕ). sets l n b) (omega arith)
 sets-append l i (x ∷ a) b = sets-append (set l i x) (suc i) a b ∙ ap (λ (n : ℕ). sets (sets (set l i x) (suc i) a) n b) (omega arith)
 
 -- the text's byte number i stored, with those after it still to be stored
-pub text-stored : (out t : List ℕ) (at i : ℕ) → i < length t → sets (set out (at + i) (getD t i 0)) (at + (i + 1)) (drop (i + 1) t) ≡ sets out (at + i) (drop i t)
+pub text-stored : (out t : List ℕ) (at i : ℕ) → i < length t
+    → sets (set out (at + i) (getD t i 0)) (at + (i + 1)) (drop (i + 1) t) ≡ sets out (at + i) (drop i t)
 text-stored out t at i h =
     let e : at + (i + 1) ≡ suc (at + i) = omega arith in
     rw (from-here t i h, e)
@@ -46,7 +46,7 @@ then {a} {b} {l} {m} {n} {at} {r} {s} p q =
     }
 
 -- bytes stored at the start of a list that has room for them stand there, and what is after them stays
-pub stored-first : (l v : List ℕ) → length v ≤ length l → sets l 0 v ≡ v ++ drop (length v) l
+stored-first : (l v : List ℕ) → length v ≤ length l → sets l 0 v ≡ v ++ drop (length v) l
 stored-first l v h =
     let e : 0 + length v ≡ length v = omega arith in
     sets-eq v l 0 (rw e h) ∙ rw e

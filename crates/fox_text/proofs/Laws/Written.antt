@@ -2,22 +2,24 @@
 -- top, make the number place by place, and the first that is written is not 0. Two digits stand for the two halves of a byte.
 -- Assumes nothing.
 use mathlib.Core.Path.{_≡_, refl, ap}
-use mathlib.Core.Bool.{Bool, true, false, _&&_, _||_}
+use mathlib.Core.Bool.{Bool, true, false, _&&_}
 use mathlib.Core.List.{List, [], _∷_, _++_, append-assoc}
 use Prim.Native.Nat.{ℕ, suc, _+_, _-_, _*_, _/_, _%_, _≤_, _<_}
 use native.Mathlib.Nat.{div-eq-of-lt, div-lt-iff-lt-mul, le-div-iff-mul-le}
 use native.Mathlib.Omega.{arith}
 use lib.ListN.{length, drop, getD, length-append}
 use lib.Seq.{append-snoc, take-at, drop-append-seam}
-use lib.Dec.{leb, ltb, eqb}
-use borrow.Author.Tests.{ltb-true, ltb-false, leb-true, lt-ltb, le-ltb, le-leb, lt-leb, eq-eqb, ne-eqb}
+use lib.Dec.{ltb, eqb}
+use borrow.Author.Tests.{ltb-true, ltb-false, lt-ltb, le-ltb, le-leb, lt-leb, eq-eqb, ne-eqb}
 use Rattle.fox_text.specs.Ascii.{empty, startsWith, same}
 use Rattle.fox_text.specs.Lines.{lineEnd, hasLine, line, afterLine}
 use Rattle.fox_text.specs.Decimal.{isDigit, allDigits, onward, decimalOf, leadingZero, inRange, isDecimal, place, decimalText}
 use Rattle.fox_text.specs.Hex.{isHex, allHex, isPairs, nibble, pairsOf, digit, hexText}
 use Rattle.fox_text.specs.Fields.{valueText, named, isDecimalLine, isPairsLine, decimalIn, pairsIn, decimalLineText, pairsLineText}
 use Rattle.fox_text.proofs.Laws.Tests.{both-first, both-second, by-test}
-use Rattle.fox_text.proofs.Laws.Prefixes.{Digits, digit-low, digit-high}
+use Rattle.fox_text.proofs.Laws.Decimals.{digit-from, digit-right}
+use Rattle.fox_text.proofs.Laws.Pairs.{Ranges, ranges, nibble-small, length-hex-text}
+use Rattle.fox_text.proofs.Laws.Prefixes.{Digits}
 
 both : (a b : Bool) → a ≡ true → b ≡ true → (a && b) ≡ true
 both a b p q = rw (p, q)
@@ -29,7 +31,7 @@ unfoldable pub Plain : List ℕ → Type 0
 Plain [] = Unit {0}
 Plain (x ∷ xs) = (eqb x 10 ≡ false) × Plain xs
 
-pub plain-append : (a b : List ℕ) → Plain a → Plain b → Plain (a ++ b)
+plain-append : (a b : List ℕ) → Plain a → Plain b → Plain (a ++ b)
 unfolding Plain
 plain-append [] b p q = q
 plain-append (x ∷ xs) b p q = (p .0, plain-append xs b (p .1) q)
@@ -89,7 +91,7 @@ digits-plain : (ds : List ℕ) → allDigits ds ≡ true → Plain ds
 unfolding allDigits Plain
 digits-plain [] e = tt
 digits-plain (d ∷ ds) e =
-    (digit-plain d (digit-low d (both-first (isDigit d) (allDigits ds) e)), digits-plain ds (both-second (isDigit d) (allDigits ds) e))
+    (digit-plain d (digit-from d (both-first (isDigit d) (allDigits ds) e)), digits-plain ds (both-second (isDigit d) (allDigits ds) e))
 
 digits-append : (a b : List ℕ) → allDigits a ≡ true → allDigits b ≡ true → allDigits (a ++ b) ≡ true
 unfolding allDigits
@@ -99,9 +101,8 @@ digits-append (d ∷ ds) b p q =
     (digits-append ds b (both-second (isDigit d) (allDigits ds) p) q)
 
 -- the digit of a number below ten
-digit-right : (n : ℕ) → n < 10 → isDigit (48 + n) ≡ true
-unfolding isDigit
-digit-right n h = both (leb 48 (48 + n)) (leb (48 + n) 57) (le-leb 48 (48 + n) (omega arith)) (le-leb (48 + n) 57 (omega arith))
+number-digit : (n : ℕ) → n < 10 → isDigit (48 + n) ≡ true
+number-digit n h = digit-right (48 + n) (omega arith) (omega arith)
 
 -- one place
 
@@ -112,7 +113,7 @@ by-place p n f g = by-test (ltb n p) (λ e. f (ltb-true n p e) (rw e)) (λ e. g 
 place-digits : (p n : ℕ) → allDigits (place p n) ≡ true
 unfolding allDigits
 place-digits p n =
-    by-place p n (λ h e. rw e) (λ h e. rw e (both (isDigit (48 + n / p % 10)) true (digit-right (n / p % 10) (omega arith)) refl))
+    by-place p n (λ h e. rw e) (λ h e. rw e (both (isDigit (48 + n / p % 10)) true (number-digit (n / p % 10) (omega arith)) refl))
 
 -- from the number above a place to the number that ends at it
 place-onward : (p n v : ℕ) (ds : List ℕ) → 0 < p → v ≡ n / p / 10 → onward v (place p n ++ ds) ≡ onward (n / p) ds
@@ -146,7 +147,7 @@ places : (n : ℕ) → decimalText n ≡ place 10000 n ++ (place 1000 n ++ (plac
 unfolding decimalText
 places n = simp append-assoc
 
-pub decimal-read : (n : ℕ) → n < 100000 → decimalOf (decimalText n) ≡ n
+decimal-read : (n : ℕ) → n < 100000 → decimalOf (decimalText n) ≡ n
 unfolding decimalOf onward
 decimal-read n h =
     rw (
@@ -163,7 +164,7 @@ unfolding allDigits
 text-digits n =
     rw (places n) (digits-append (place 10000 n) _ (place-digits 10000 n) (digits-append (place 1000 n) _ (place-digits 1000 n)
     (digits-append (place 100 n) _ (place-digits 100 n) (digits-append (place 10 n) _ (place-digits 10 n)
-    (both (isDigit (48 + n % 10)) true (digit-right (n % 10) (omega arith)) refl)))))
+    (both (isDigit (48 + n % 10)) true (number-digit (n % 10) (omega arith)) refl)))))
 
 text-first : (n : ℕ) → n < 100000 → leadingZero (decimalText n) ≡ false
 unfolding leadingZero
@@ -181,7 +182,7 @@ text-some : (n : ℕ) → empty (decimalText n) ≡ false
 unfolding decimalText
 text-some n = empty-snoc (place 10000 n ++ place 1000 n ++ place 100 n ++ place 10 n) (48 + n % 10)
 
-pub decimal-right : (n : ℕ) → n ≤ 65535 → isDecimal (decimalText n) ≡ true
+decimal-right : (n : ℕ) → n ≤ 65535 → isDecimal (decimalText n) ≡ true
 decimal-right n h =
     digits-decimal (decimalText n)
     (record { some = text-some n; first = text-first n (omega arith); all = text-digits n; small = rw (decimal-read n (omega arith)) h })
@@ -206,11 +207,6 @@ nibble-digit n h =
     by-digit (λ (d : ℕ). nibble d ≡ n) n
     (λ l. rw (lt-ltb (48 + n) 65 (omega arith)) (omega arith)) (λ l. rw (le-ltb (55 + n) 65 (omega arith)) (omega arith))
 
-pub length-hex : (bs : List ℕ) → length (hexText bs) ≡ 2 * length bs
-unfolding hexText
-length-hex [] = refl
-length-hex (b ∷ bs) = omega (arith, length-hex bs)
-
 text-hex : (bs : List ℕ) → ((i : ℕ) → getD bs i 0 < 256) → allHex (hexText bs) ≡ true
 unfolding hexText allHex
 text-hex [] h = refl
@@ -218,7 +214,7 @@ text-hex (b ∷ bs) h =
     let byte = h 0 in
     rw (digit-hex (b / 16) (omega arith), digit-hex (b % 16) (omega arith)) (text-hex bs (λ i. h (suc i)))
 
-pub pairs-read : (bs : List ℕ) → ((i : ℕ) → getD bs i 0 < 256) → pairsOf (hexText bs) ≡ bs
+pairs-read : (bs : List ℕ) → ((i : ℕ) → getD bs i 0 < 256) → pairsOf (hexText bs) ≡ bs
 unfolding hexText pairsOf
 pairs-read [] h = refl
 pairs-read (b ∷ bs) h =
@@ -227,14 +223,10 @@ pairs-read (b ∷ bs) h =
     rw (nibble-digit (b / 16) (omega arith), nibble-digit (b % 16) (omega arith), same)
     (ap (λ (xs : List ℕ). b ∷ xs) (pairs-read bs (λ i. h (suc i))))
 
-pub pairs-right : (most : ℕ) (bs : List ℕ) → length bs ≤ most → ((i : ℕ) → getD bs i 0 < 256) → isPairs most (hexText bs) ≡ true
+pairs-right : (most : ℕ) (bs : List ℕ) → length bs ≤ most → ((i : ℕ) → getD bs i 0 < 256) → isPairs most (hexText bs) ≡ true
 unfolding isPairs
 pairs-right most bs few h =
-    rw (length-hex bs, eq-eqb (2 * length bs % 2) 0 (omega arith), le-leb (2 * length bs / 2) most (omega arith)) (text-hex bs h)
-
-either : (a b : Bool) {P : Type 0} → (a ≡ true → P) → (b ≡ true → P) → (a || b) ≡ true → P
-either true b f g e = f e
-either false b f g e = g e
+    rw (length-hex-text bs, eq-eqb (length bs * 2 % 2) 0 (omega arith), le-leb (length bs * 2 / 2) most (omega arith)) (text-hex bs h)
 
 -- what is known of a digit that is right, be it below ten or a letter
 pub record Nibble (d : ℕ) : Type 0 where
@@ -242,21 +234,18 @@ pub record Nibble (d : ℕ) : Type 0 where
   pub small : nibble d < 16
   pub again : digit (nibble d) ≡ d
 
+digit-again : (d : ℕ) → Ranges d → digit (nibble d) ≡ d
+unfolding nibble digit
+digit-again d r =
+    let low = r .low in
+    let high = r .high in
+    by-test (ltb d 65) (λ p. let between = r .between (ltb-true d 65 p) in rw (p, lt-ltb (d - 48) 10 (omega arith)) (omega arith))
+    (λ p. let letter = ltb-false d 65 p in rw (p, le-ltb (d - 55) 10 (omega arith)) (omega arith))
+
 pub hex-nibble : (d : ℕ) → isHex d ≡ true → Nibble d
-unfolding isHex nibble digit
 hex-nibble d e =
-    either (isDigit d) (leb 65 d && leb d 70)
-    (λ q.
-    let low = digit-low d q in
-    let high = digit-high d q in
-    let n : nibble d ≡ d - 48 = rw (lt-ltb d 65 (omega arith)) in
-    record { low = low; small = rw n (omega arith); again = rw (n, lt-ltb (d - 48) 10 (omega arith)) (omega arith) })
-    (λ q.
-    let low = leb-true 65 d (both-first (leb 65 d) (leb d 70) q) in
-    let high = leb-true d 70 (both-second (leb 65 d) (leb d 70) q) in
-    let n : nibble d ≡ d - 55 = rw (le-ltb d 65 low) in
-    record { low = omega arith; small = rw n (omega arith); again = rw (n, le-ltb (d - 55) 10 (omega arith)) (omega arith) })
-    e
+    let r = ranges d e in
+    record { low = r .low; small = nibble-small d e; again = digit-again d r }
 
 hex-plain : (ds : List ℕ) → allHex ds ≡ true → Plain ds
 unfolding allHex Plain

@@ -1,17 +1,11 @@
 -- `answer::answer` meets its contract: the sheet's first broken line is that of its settings, or else that of its task, and where both are right the
 -- block is answered.
 -- Assumes nothing.
-use mathlib.Core.Path.{_≡_, refl, sym, ap, _∙_}
-use mathlib.Core.List.{List}
-use mathlib.Core.Bool.{Bool}
-use Prim.Native.Nat.{ℕ, _≤_}
+use mathlib.Core.Path.{refl, sym}
 use native.Mathlib.Omega.{arith}
-use lib.ListN.{length, take, drop}
 use lib.Seq.{length-take-le}
 use Rattle.fox_text.specs.Lines.{afterLines}
 use Rattle.fox_sheet.specs.Sheet.{opens, blockOf}
-use Rattle.fox_sheet.specs.Reading.{taskOf}
-use Rattle.fox_sheet.specs.Answer.{blockText}
 use Rattle.fox_sheet.proofs.Laws.Told.{
   put-answers,
   settings-line,

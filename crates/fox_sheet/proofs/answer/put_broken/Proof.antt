@@ -25,8 +25,10 @@ put-decimal-line-requires-2 c κs = omega (arith, c .before .before .put-decimal
 returns : tie.Need-returns
 unfolding codes ascii refusalName lineName brokenText
 returns c =
-    let first = c .before .before .before in (
-      omega (arith, first .put-decimal-line .ensures .place, c .put-decimal-line2 .ensures .place, decimal-line-short refusalName 8, decimal-line-short lineName (first .before .before .before .args .line)),
+    let first = c .before .before .before in
+    let one = decimal-line-short refusalName 8 in
+    let two = decimal-line-short lineName (first .before .before .before .args .line) in (
+      omega (arith, first .put-decimal-line .ensures .place, c .put-decimal-line2 .ensures .place, one, two),
       then (first .put-decimal-line .ensures) (c .put-decimal-line2 .ensures),
     )
 

@@ -1,6 +1,6 @@
 -- `answer::put_served` meets its contract: five lines, one after the other, of at most 14, 13, 13, 14 and 71 bytes.
 -- Assumes nothing.
-use Prim.Native.Nat.{ℕ, _*_}
+use Prim.Native.Nat.{_*_}
 use native.Mathlib.Omega.{arith}
 use Rattle.fox_text.specs.Ascii.{codes, ascii}
 use Rattle.fox_text.proofs.Laws.Decimals.{decimal-line-short}

@@ -1,8 +1,7 @@
 -- `answer::tell` meets its contract: the block is served or refused, and the lines for either are written.
 -- Assumes nothing.
-use mathlib.Core.Path.{_≡_, refl, sym, ap, _∙_}
-use mathlib.Core.List.{List}
-use Prim.Native.Nat.{ℕ, _≤_}
+use mathlib.Core.Path.{_≡_, sym, ap, _∙_}
+use Prim.Native.Nat.{ℕ}
 use native.Mathlib.Omega.{arith}
 use lib.ListN.{length}
 use Rattle.fox_calls.specs.Refusals.{refusalOf, forBlock}
@@ -32,7 +31,8 @@ returns c =
     let turn = c .before .before .before .before .before .before .before in
     let start = turn .before .before .before .before .before in
     let a = start .args in
-    let e = turn .turn .ensures .refusal ∙ ap (λ (n : ℕ). refusalOf (forBlock (a .cipher) (a .rounds) (length (a .key .now)) (length (a .block .now)) n)) (start .pre .2) in
+    let room = ap (λ (n : ℕ). refusalOf (forBlock (a .cipher) (a .rounds) (length (a .key .now)) (length (a .block .now)) n)) (start .pre .2) in
+    let e = turn .turn .ensures .refusal ∙ room in
     let told = told-refused (a .opening) (a .cipher) (a .rounds) (a .key .now) (a .block .now) _ e (c .before .before .before .if1 .taken) in (
       omega (arith, c .put-decimal-line .ensures .place, decimal-line-short refusalName (turn .turn .result .refusal)),
       rw told (c .put-decimal-line .ensures),
@@ -56,8 +56,8 @@ returns-2 c =
     let reply = turn .turn .ensures in
     let r = reply .refusal in
     let served = sym r ∙ c .before .before .before .if1 .left in
-    let none : refusal (a .cipher) (a .rounds) (a .key .now) (a .block .now) ≡ 0 =
-    sym (ap (λ (n : ℕ). refusalOf (forBlock (a .cipher) (a .rounds) (length (a .key .now)) (length (a .block .now)) n)) (start .pre .2)) ∙ served in
+    let room = ap (λ (n : ℕ). refusalOf (forBlock (a .cipher) (a .rounds) (length (a .key .now)) (length (a .block .now)) n)) (start .pre .2) in
+    let none : refusal (a .cipher) (a .rounds) (a .key .now) (a .block .now) ≡ 0 = sym room ∙ served in
     let told = told-served (a .opening) (a .cipher) (a .rounds) (a .key .now) (a .block .now) none in
     let block = rw served at (reply .output) in
     (c .put-served .ensures .0, rw (told, ← block) (c .put-served .ensures .1))

@@ -1,11 +1,8 @@
 -- `sheet::read_settings` meets its contract: each line is read where the one before it ended, and the first that is not right is the broken one.
 -- Assumes nothing.
-use mathlib.Core.Path.{_≡_, refl, sym, ap, _∙_}
-use Prim.Native.Nat.{ℕ, _≤_, _<_}
+use mathlib.Core.Path.{refl, sym, _∙_}
 use native.Mathlib.Omega.{arith}
 use borrow.Author.Tests.{not-true, not-false}
-use lib.ListN.{length, drop}
-use lib.Seq.{sets}
 use Rattle.fox_text.specs.Ascii.{codes, ascii}
 use Rattle.fox_text.specs.Lines.{afterLines}
 use Rattle.fox_text.proofs.Laws.Read.{decimal-tested, decimal-read, pairs-line-tested, pairs-read}
@@ -53,7 +50,8 @@ returns-2 c =
     let start = one .before .before .before .before .before in
     let t = start .args .sheet .now in
     let first = decimal-read t cipherName t 0 (omega arith) refl (one .before .before .decimal-line .ensures) (not-false _ (one .if1 .left)) in
-    let no = decimal-tested t roundsName (afterLines 1 t) _ (first .after) (c .before .before .before .decimal-line2 .ensures) (not-true _ (c .before .if2 .taken)) in
+    let wrong = not-true _ (c .before .if2 .taken) in
+    let no = decimal-tested t roundsName (afterLines 1 t) _ (first .after) (c .before .before .before .decimal-line2 .ensures) wrong in
     settings-broken t (start .args .key .now) 2 (omega arith) (line-2 t (first .kept) no) (c .broken2 .ensures)
 
 slice-aggregate-pairs-line : tie.Need-slice-aggregate-pairs-line

@@ -1,13 +1,10 @@
 -- `sheet::read_task` meets its contract: each line is read where the one before it ended, and the first that is not right is the broken one.
 -- Assumes nothing.
-use mathlib.Core.Path.{_≡_, refl, sym, ap, _∙_}
-use mathlib.Core.List.{List}
+use mathlib.Core.Path.{_≡_, sym, ap, _∙_}
 use mathlib.Core.Bool.{true, false}
-use Prim.Native.Nat.{ℕ, _≤_, _<_}
 use native.Mathlib.Omega.{arith}
 use borrow.Author.Tests.{not-true, not-false}
-use lib.ListN.{length, drop}
-use lib.Seq.{sets}
+use lib.ListN.{drop}
 use Rattle.fox_text.specs.Ascii.{codes, ascii, empty}
 use Rattle.fox_text.specs.Lines.{afterLines}
 use Rattle.fox_text.proofs.Laws.Read.{pairs-line-tested, pairs-read}

@@ -1,17 +1,14 @@
 -- `sheet::way_line` meets its contract: the line has its end or not, and is one of the two ways or neither.
 -- Assumes nothing.
-use mathlib.Core.Path.{_≡_, refl, sym, ap, _∙_}
-use mathlib.Core.List.{List}
-use mathlib.Core.Bool.{true, false}
-use Prim.Native.Nat.{ℕ, suc, _+_, _-_, _≤_, _<_}
+use mathlib.Core.Path.{_≡_, sym, _∙_}
+use Prim.Native.Nat.{suc, _+_, _<_}
 use native.Mathlib.Omega.{arith}
-use lib.ListN.{length, take, drop, length-drop}
+use lib.ListN.{length, drop, length-drop}
 use Rattle.fox_text.specs.Ascii.{codes, ascii, same}
-use Rattle.fox_text.specs.Lines.{lineEnd, line}
+use Rattle.fox_text.specs.Lines.{lineEnd}
 use Rattle.fox_text.specs.Fields.{nextLine}
 use Rattle.fox_text.proofs.Laws.Lines.{line-end-within}
 use Rattle.fox_sheet.specs.Sheet.{openWay, sealWay}
-use Rattle.fox_sheet.specs.declared.sheet.WayLine.{WayLine}
 use Rattle.fox_sheet.proofs.Laws.Reading.{no-way-line, way-opens, way-seals, no-way, line-part}
 use borrow.Author.Needs.{needs}
 use Rattle.fox_sheet.proofs.sheet.way_line.Statement.{statement}

@@ -2,11 +2,23 @@
 -- Assumes nothing.
 use mathlib.Core.Path.{_≡_, refl, sym, ap, _∙_}
 use mathlib.Core.Bool.{Bool}
-use Prim.Native.Nat.{ℕ, _+_, _-_, _*_, _≤_, _<_}
+use Prim.Native.Nat.{_+_, _-_, _*_, _≤_, _<_}
 use native.Mathlib.Omega.{arith}
 use lib.ListN.{length, drop, getD}
-use Rattle.fox_text.specs.Decimal.{allDigits, onward, decimalOf, inRange, found}
-use Rattle.fox_text.proofs.Laws.Decimals.{bad-digit, good-digit, onward-here, grows, digits-done, digit-low, digit-high, digit-right, no-digits, too-large, in-range}
+use Rattle.fox_text.specs.Decimal.{allDigits, onward, decimalOf, found}
+use Rattle.fox_text.proofs.Laws.Decimals.{
+  bad-digit,
+  good-digit,
+  onward-here,
+  grows,
+  digits-done,
+  digit-low,
+  digit-high,
+  digit-right,
+  no-digits,
+  too-large,
+  in-range,
+}
 use borrow.Author.Needs.{needs}
 use Rattle.fox_text.proofs.decimal.digits.Statement.{statement}
 use Rattle.fox_text.proofs.decimal.digits.Tie as tie

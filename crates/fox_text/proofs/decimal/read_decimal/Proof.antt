@@ -1,9 +1,8 @@
 -- `decimal::read_decimal` meets its contract, by the number of digits: none, one, or more, of which the first may be a zero.
 -- Assumes nothing.
-use native.Mathlib.Omega.{arith}
-use mathlib.Core.Path.{_≡_, sym, ap, _∙_}
+use mathlib.Core.Path.{sym, ap, _∙_}
 use mathlib.Core.Bool.{Bool}
-use Rattle.fox_text.specs.Decimal.{isDecimal, found}
+use Rattle.fox_text.specs.Decimal.{found}
 use Rattle.fox_text.proofs.Laws.Decimals.{no-decimal, zero-led, one-digit, more-digits}
 use borrow.Author.Needs.{needs}
 use Rattle.fox_text.proofs.decimal.read_decimal.Statement.{statement}

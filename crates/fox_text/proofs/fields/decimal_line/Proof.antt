@@ -23,24 +23,28 @@ returns : tie.Need-returns
 returns c =
     let a = c .before .before .before .before .before .args in
     let t = drop (a .at) (a .sheet .now) in
-    sym (not-named-decimal (a .name .now) t (a .at) (right-named (a .name .now) t (a .at) (c .before .before .find-value .ensures) (not-true _ (c .if1 .taken))))
+    let other = right-named (a .name .now) t (a .at) (c .before .before .find-value .ensures) (not-true _ (c .if1 .taken)) in
+    sym (not-named-decimal (a .name .now) t (a .at) other)
 
 sub-read-decimal : tie.Need-sub-read-decimal
 sub-read-decimal c =
-    let a = c .before .before .before .before .before .args in
-    let v = stands (a .sheet .now) (a .name .now) (a .at) (c .before .before .before .before .before .pre) (c .before .before .find-value .ensures) (not-false _ (c .if1 .left)) in
+    let start = c .before .before .before .before .before in
+    let a = start .args in
+    let v = stands (a .sheet .now) (a .name .now) (a .at) (start .pre) (c .before .before .find-value .ensures) (not-false _ (c .if1 .left)) in
     omega (arith, v .ordered, v .within)
 
 part-read-decimal-start : tie.Need-part-read-decimal-start
 part-read-decimal-start c =
-    let a = c .before .before .before .before .before .args in
-    let v = stands (a .sheet .now) (a .name .now) (a .at) (c .before .before .before .before .before .pre) (c .before .before .find-value .ensures) (not-false _ (c .if1 .left)) in
+    let start = c .before .before .before .before .before in
+    let a = start .args in
+    let v = stands (a .sheet .now) (a .name .now) (a .at) (start .pre) (c .before .before .find-value .ensures) (not-false _ (c .if1 .left)) in
     omega (arith, v .ordered, v .within)
 
 part-read-decimal-end : tie.Need-part-read-decimal-end
 part-read-decimal-end c =
-    let a = c .before .before .before .before .before .args in
-    let v = stands (a .sheet .now) (a .name .now) (a .at) (c .before .before .before .before .before .pre) (c .before .before .find-value .ensures) (not-false _ (c .if1 .left)) in
+    let start = c .before .before .before .before .before in
+    let a = start .args in
+    let v = stands (a .sheet .now) (a .name .now) (a .at) (start .pre) (c .before .before .find-value .ensures) (not-false _ (c .if1 .left)) in
     omega (arith, v .ordered, v .within)
 
 read-decimal-requires : tie.Need-read-decimal-requires

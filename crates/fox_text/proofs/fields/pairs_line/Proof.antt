@@ -2,15 +2,14 @@
 -- Assumes nothing.
 use mathlib.Core.Path.{_≡_, sym, ap, _∙_}
 use mathlib.Core.List.{List}
-use mathlib.Core.Bool.{Bool, true, false, cond}
-use Prim.Native.Nat.{ℕ, suc, _+_, _/_, _*_, _≤_}
+use Prim.Native.Nat.{ℕ, suc, _+_, _/_}
 use native.Mathlib.Omega.{arith}
 use borrow.Author.Tests.{not-true, not-false}
 use lib.ListN.{length, drop}
 use lib.Seq.{sets}
 use Rattle.fox_text.specs.Lines.{lineEnd}
-use Rattle.fox_text.specs.Hex.{isPairs, allHex, pairsOf}
-use Rattle.fox_text.specs.Fields.{valueText, isPairsLine, pairsIn, nextLine}
+use Rattle.fox_text.specs.Hex.{isPairs, pairsOf}
+use Rattle.fox_text.specs.Fields.{valueText, pairsIn, nextLine}
 use Rattle.fox_text.proofs.Laws.Pairs.{even-pairs, length-pairs}
 use Rattle.fox_text.proofs.Laws.Fields.{right-named, stands, not-named-pairs, pairs-tested, pairs-wrong, pairs-right}
 use borrow.Author.Needs.{needs}
@@ -24,25 +23,29 @@ returns : tie.Need-returns
 returns c =
     let a = c .before .before .before .before .before .args in
     let t = drop (a .at) (a .sheet .now) in
-    let e = not-named-pairs (a .most) (a .name .now) t (right-named (a .name .now) t (a .at) (c .before .before .find-value .ensures) (not-true _ (c .if1 .taken))) in
+    let other = right-named (a .name .now) t (a .at) (c .before .before .find-value .ensures) (not-true _ (c .if1 .taken)) in
+    let e = not-named-pairs (a .most) (a .name .now) t other in
     (sym (pairs-wrong (a .most) (a .name .now) t (a .at) e), rw e)
 
 sub-ds : tie.Need-sub-ds
 sub-ds c =
-    let a = c .before .before .before .before .before .args in
-    let v = stands (a .sheet .now) (a .name .now) (a .at) (c .before .before .before .before .before .pre .0) (c .before .before .find-value .ensures) (not-false _ (c .if1 .left)) in
+    let start = c .before .before .before .before .before in
+    let a = start .args in
+    let v = stands (a .sheet .now) (a .name .now) (a .at) (start .pre .0) (c .before .before .find-value .ensures) (not-false _ (c .if1 .left)) in
     omega (arith, v .ordered, v .within)
 
 part-ds-start : tie.Need-part-ds-start
 part-ds-start c =
-    let a = c .before .before .before .before .before .args in
-    let v = stands (a .sheet .now) (a .name .now) (a .at) (c .before .before .before .before .before .pre .0) (c .before .before .find-value .ensures) (not-false _ (c .if1 .left)) in
+    let start = c .before .before .before .before .before in
+    let a = start .args in
+    let v = stands (a .sheet .now) (a .name .now) (a .at) (start .pre .0) (c .before .before .find-value .ensures) (not-false _ (c .if1 .left)) in
     omega (arith, v .ordered, v .within)
 
 part-ds-end : tie.Need-part-ds-end
 part-ds-end c =
-    let a = c .before .before .before .before .before .args in
-    let v = stands (a .sheet .now) (a .name .now) (a .at) (c .before .before .before .before .before .pre .0) (c .before .before .find-value .ensures) (not-false _ (c .if1 .left)) in
+    let start = c .before .before .before .before .before in
+    let a = start .args in
+    let v = stands (a .sheet .now) (a .name .now) (a .at) (start .pre .0) (c .before .before .find-value .ensures) (not-false _ (c .if1 .left)) in
     omega (arith, v .ordered, v .within)
 
 is-pairs-requires : tie.Need-is-pairs-requires
@@ -84,10 +87,13 @@ returns-3 c =
     let v = stands (a .sheet .now) (a .name .now) (a .at) (start .pre .0) (named .before .before .find-value .ensures) (not-false _ (named .if1 .left)) in
     let d = c .before .before .before .is-pairs .ensures ∙ ap (λ (ds : List ℕ). isPairs (a .most) ds) (v .part) in
     let right = pairs-tested (a .most) (a .name .now) t (v .has-name) ∙ sym d ∙ not-false _ (c .before .before .if2 .left) in
-    let p = even-pairs (a .most) (valueText (a .name .now) t) (sym d ∙ not-false _ (c .before .before .if2 .left)) in
+    let text = valueText (a .name .now) t in
+    let p = even-pairs (a .most) text (sym d ∙ not-false _ (c .before .before .if2 .left)) in
     let next : named .before .before .find-value .result .end + 1 ≡ suc (a .at + lineEnd t) = omega (arith, v .ends) in
-    let count : length (valueText (a .name .now) t) / 2 ≡ length (pairsOf (valueText (a .name .now) t)) = sym (length-pairs _ (valueText (a .name .now) t) (p .even)) in
-    (rw (v .part, count, next) (sym (pairs-right (a .most) (a .name .now) t (a .at) right)), rw right (c .join-pairs .ensures ∙ ap (λ (ds : List ℕ). sets (a .out .now) 0 (pairsOf ds)) (v .part)))
+    let count : length text / 2 ≡ length (pairsOf text) = sym (length-pairs _ text (p .even)) in (
+      rw (v .part, count, next) (sym (pairs-right (a .most) (a .name .now) t (a .at) right)),
+      rw right (c .join-pairs .ensures ∙ ap (λ (ds : List ℕ). sets (a .out .now) 0 (pairsOf ds)) (v .part)),
+    )
 
 pub pairs-line-spec : {M : Type 1} → statement M
 pairs-line-spec =

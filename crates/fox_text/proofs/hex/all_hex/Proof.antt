@@ -1,11 +1,10 @@
 -- `hex::all_hex` meets its contract: whenever the loop's test is reached, all digits are hex digits exactly where those from i on are.
 -- Assumes nothing.
-use mathlib.Core.Path.{_≡_, refl, sym, ap, _∙_}
-use Prim.Native.Nat.{ℕ, _+_, _-_, _≤_}
+use mathlib.Core.Path.{_≡_, refl, sym, _∙_}
+use Prim.Native.Nat.{_-_, _≤_}
 use borrow.Author.Tests.{not-true, not-false}
-use native.Mathlib.Omega.{arith}
-use lib.ListN.{length, drop, getD}
-use Rattle.fox_text.specs.Hex.{allHex, isHex}
+use lib.ListN.{length, drop}
+use Rattle.fox_text.specs.Hex.{allHex}
 use Rattle.fox_text.proofs.Laws.Pairs.{bad-hex, good-hex, hex-done}
 use borrow.Author.Needs.{needs}
 use Rattle.fox_text.proofs.hex.all_hex.Statement.{statement}

@@ -1,6 +1,5 @@
 -- `hex::is_hex` meets its contract: the match's ranges are the definition's.
 -- Assumes nothing.
-use mathlib.Core.Path.{_≡_}
 use Prim.Native.Nat.{_≤_, _<_}
 use borrow.Author.Tests.{le-leb, lt-leb}
 use native.Mathlib.Omega.{arith}

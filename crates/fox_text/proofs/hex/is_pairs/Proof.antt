@@ -1,7 +1,7 @@
 -- `hex::is_pairs` meets its contract: the tests are the definition's, in its order.
 -- Assumes nothing.
 use borrow.Author.Tests.{eq-eqb, ne-eqb, le-leb, lt-leb}
-use mathlib.Core.Path.{_≡_, sym, ap, _∙_}
+use mathlib.Core.Path.{_∙_}
 use Rattle.fox_text.specs.Hex.{isPairs}
 use borrow.Author.Needs.{needs}
 use Rattle.fox_text.proofs.hex.is_pairs.Statement.{statement}

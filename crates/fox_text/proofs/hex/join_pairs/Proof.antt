@@ -1,14 +1,13 @@
--- `hex::join_pairs` meets its contract: whenever the loop's test is reached, storing the pairs from number i on gives what storing all of them into the output as it was gives.
+-- `hex::join_pairs` meets its contract: whenever the loop's test is reached, storing the pairs from number i on gives what storing all of them into
+-- the output as it was gives.
 -- Assumes nothing.
-use mathlib.Core.Path.{_≡_, refl, sym, ap, _∙_}
-use mathlib.Core.Bool.{true}
-use mathlib.Core.List.{List, []}
-use Prim.Native.Nat.{ℕ, _+_, _-_, _*_, _/_, _≤_, _<_}
+use mathlib.Core.Path.{_≡_, refl, sym, _∙_}
+use Prim.Native.Nat.{_+_, _-_, _*_, _≤_, _<_}
 use native.Mathlib.Omega.{arith}
 use native.Mathlib.Nat.{div-add-mod', mod-lt}
-use lib.ListN.{length, drop, getD, length-set, length-drop}
-use lib.Seq.{sets, length-sets}
-use Rattle.fox_text.specs.Hex.{allHex, isHex, nibble, pairsOf}
+use lib.ListN.{length, drop, getD, length-set}
+use lib.Seq.{sets}
+use Rattle.fox_text.specs.Hex.{nibble, pairsOf}
 use Rattle.fox_text.proofs.Laws.Pairs.{hex-at, nibble-small, pairs-stored, pairs-done}
 use borrow.Author.Needs.{needs}
 use Rattle.fox_text.proofs.hex.join_pairs.Statement.{statement}

@@ -1,7 +1,6 @@
 -- `hex::nibble` meets its contract: a hex digit below 65 is a decimal one.
 -- Assumes nothing.
 use borrow.Author.Tests.{lt-ltb, le-ltb}
-use mathlib.Core.Path.{_≡_, sym}
 use native.Mathlib.Omega.{arith}
 use Rattle.fox_text.specs.Hex.{nibble}
 use Rattle.fox_text.proofs.Laws.Pairs.{ranges}

@@ -1,7 +1,7 @@
 -- `lines::line_end` meets its contract: whenever the loop's test is reached, the line's end found from i on is the one found from the start on.
 -- Assumes nothing.
-use mathlib.Core.Path.{_≡_, refl, sym, ap, _∙_}
-use Prim.Native.Nat.{ℕ, _+_, _-_, _≤_}
+use mathlib.Core.Path.{_≡_}
+use Prim.Native.Nat.{_+_, _-_, _≤_}
 use native.Mathlib.Omega.{arith}
 use lib.ListN.{length, drop, length-drop}
 use Rattle.fox_text.specs.Lines.{lineEnd}

@@ -1,7 +1,7 @@
 -- `lines::same` meets its contract: texts of other lengths differ, and of one length the one begins with the other.
 -- Assumes nothing.
 use borrow.Author.Tests.{eq-eqb, ne-eqb}
-use mathlib.Core.Path.{_≡_, sym, ap, _∙_}
+use mathlib.Core.Path.{_∙_}
 use Rattle.fox_text.specs.Ascii.{same}
 use borrow.Author.Needs.{needs}
 use Rattle.fox_text.proofs.lines.same.Statement.{statement}

@@ -1,8 +1,7 @@
 -- `lines::starts_with` meets its contract: whenever the loop's test is reached, the name begins the text exactly where the rest of it begins the rest.
 -- Assumes nothing.
-use mathlib.Core.Path.{_≡_, refl, sym, ap, _∙_}
-use Prim.Native.Nat.{ℕ, _+_, _-_, _≤_}
-use native.Mathlib.Omega.{arith}
+use mathlib.Core.Path.{_≡_, refl, sym, _∙_}
+use Prim.Native.Nat.{_-_, _≤_}
 use lib.ListN.{length, drop}
 use Rattle.fox_text.specs.Ascii.{startsWith}
 use Rattle.fox_text.proofs.Laws.Lines.{starts-differ, starts-alike, starts-short, starts-done}
@@ -45,7 +44,8 @@ loop-again : tie.Need-loop-again Inv-loop μ-loop
 loop-again c =
     let at = c .before .before .before .before in
     let a = at .before .before .args in
-    (search needs, refl, at .loop .inv .2, starts-alike (a .name .now) (a .text .now) (at .loop .i) (search needs) (search needs) (c .if2 .left) ∙ at .loop .inv .3)
+    let alike = starts-alike (a .name .now) (a .text .now) (at .loop .i) (search needs) (search needs) (c .if2 .left) in
+    (search needs, refl, at .loop .inv .2, alike ∙ at .loop .inv .3)
 
 returns-3 : tie.Need-returns-3 Inv-loop μ-loop
 returns-3 c =

@@ -1,6 +1,6 @@
 -- `writing::put_decimal` meets its contract: five places, one after the other.
 -- Assumes nothing.
-use mathlib.Core.Path.{_≡_, refl}
+use mathlib.Core.Path.{refl}
 use native.Mathlib.Omega.{arith}
 use Rattle.fox_text.specs.Decimal.{decimalText}
 use Rattle.fox_text.proofs.Laws.Decimals.{place-short}
@@ -27,7 +27,9 @@ put-place-requires-4 : tie.Need-put-place-requires-4
 put-place-requires-4 c κs =
     let s = c .before .before .before in
     let n = s .before .before .before .before .args .n in
-    (omega (arith, s .before .before .put-place .ensures .place, s .put-place2 .ensures .place, c .before .put-place3 .ensures .place, place-short 10000 n, place-short 1000 n, place-short 100 n), omega arith)
+    let one = s .before .before .put-place .ensures .place in
+    let two = s .put-place2 .ensures .place in
+    (omega (arith, one, two, c .before .put-place3 .ensures .place, place-short 10000 n, place-short 1000 n, place-short 100 n), omega arith)
 
 cast-out : tie.Need-cast-out
 cast-out c = search needs
@@ -71,8 +73,9 @@ returns : tie.Need-returns
 unfolding decimalText
 returns c =
     let s = c .before .before .before .before .before .before in
-    then (then (then (then (s .put-place .ensures) (c .before .before .before .before .put-place2 .ensures)) (c .before .before .put-place3 .ensures)) (c .put-place4 .ensures))
-    (record { place = refl; bytes = refl })
+    let two = then (s .put-place .ensures) (c .before .before .before .before .put-place2 .ensures) in
+    let four = then (then two (c .before .before .put-place3 .ensures)) (c .put-place4 .ensures) in
+    then four (record { place = refl; bytes = refl })
 
 pub put-decimal-spec : {M : Type 1} → statement M
 put-decimal-spec =

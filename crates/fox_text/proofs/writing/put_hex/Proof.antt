@@ -1,7 +1,8 @@
--- `writing::put_hex` meets its contract: whenever the loop's test is reached, storing the digits of the bytes from number i on gives what storing all of them gives.
+-- `writing::put_hex` meets its contract: whenever the loop's test is reached, storing the digits of the bytes from number i on gives what storing all of
+-- them gives.
 -- Assumes nothing.
 use mathlib.Core.Path.{_≡_, refl, sym, ap, _∙_}
-use Prim.Native.Nat.{ℕ, _+_, _-_, _*_, _/_, _≤_}
+use Prim.Native.Nat.{ℕ, _+_, _-_, _*_, _≤_}
 use native.Mathlib.Omega.{arith}
 use native.Mathlib.Nat.{div-add-mod', mod-lt}
 use lib.ListN.{length, drop, getD}
@@ -71,12 +72,9 @@ loop-less c = search needs
 loop-again : tie.Need-loop-again Inv-loop μ-loop
 loop-again c =
     let at = c .before .before .before .before .before in
-    let a = at .before .before .args in (
-      search needs,
-      refl,
-      at .loop .inv .2,
-      hex-stored (at .loop .out) (a .bytes .now) (a .at) (at .loop .i) _ _ (search needs) (c .before .before .digit .ensures) (c .digit2 .ensures) ∙ at .loop .inv .3,
-    )
+    let a = at .before .before .args in
+    let stored = hex-stored (at .loop .out) (a .bytes .now) (a .at) (at .loop .i) _ _ (search needs) (c .before .before .digit .ensures) (c .digit2 .ensures) in
+    (search needs, refl, at .loop .inv .2, stored ∙ at .loop .inv .3)
 
 mul-result : tie.Need-mul-result Inv-loop μ-loop
 mul-result c = search needs

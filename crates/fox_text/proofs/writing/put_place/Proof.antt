@@ -1,7 +1,6 @@
 -- `writing::put_place` meets its contract, by whether the number reaches the place.
 -- Assumes nothing.
 use borrow.Author.Tests.{lt-ltb, le-ltb}
-use mathlib.Core.Path.{_≡_, refl}
 use native.Mathlib.Omega.{arith}
 use Rattle.fox_text.specs.Decimal.{place}
 use borrow.Author.Needs.{needs}
