@@ -219,3 +219,13 @@ right-is-written t e =
     (pairs-line-again 32 blockName (afterLines 4 t) (k .block)
     ∙ ap (λ (r : List ℕ). pairsLineText blockName (blockOf t) ++ r) (empty-nil (afterLines 5 t) (k .end))))))
     ∙ sym (grouped (cipherOf t) (roundsOf t) (keyOf t) (opens t) (blockOf t))
+
+-- so no two sheets say the same
+
+says-written : {t : List ℕ} {cipher rounds : ℕ} {key : List ℕ} {opening : Bool} {block : List ℕ}
+    → Says t cipher rounds key opening block → t ≡ sheetText cipher rounds key opening block
+says-written {t} s = rw (s .of-cipher, s .of-rounds, s .of-key, s .of-way, s .of-block) at (right-is-written t (s .right))
+
+pub says-once : {s t : List ℕ} {cipher rounds : ℕ} {key : List ℕ} {opening : Bool} {block : List ℕ}
+    → Says s cipher rounds key opening block → Says t cipher rounds key opening block → s ≡ t
+says-once a b = says-written a ∙ sym (says-written b)
