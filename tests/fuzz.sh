@@ -1,0 +1,159 @@
+#!/bin/sh
+# Fuzzes the bench sheet and the station's six calls by clang's libFuzzer, with the second implementation beside them:
+# sh tests/fuzz.sh [SECONDS] [sheet|calls]. Without a name both are run, each for half of the seconds, 600 in all.
+# SEED=.. in the environment gives the seed that an earlier run printed. FAULT=.. puts that fault of tests/fuzz/wrong_*.c
+# into the library. What is found stays in build/fuzz/found; build/fuzz/sheet.fuzzer FILE, or calls.fuzzer, shows it again.
+# The exit status is 1 where anything was found, and 2 where something could not be run.
+set -u
+cd "$(dirname "$0")/.." || exit 2
+. tests/host.sh
+. tests/here.sh
+seconds=${1:-600} names=${2:-sheet calls} seed=${SEED:-$(date +%s)}
+clang=${CLANG:-clang}
+s=tests/second t=tests/fuzz libraries=build/fuzz into=build/fuzz${FAULT:+/wrong}
+second="$s/second.c $s/schedule.c $s/rounds.c $s/matrix.c $s/box.c $s/field.c"
+flags="-std=gnu11 -g -O2 -Wall -Wextra -Werror -Iinclude -I$s"
+flags="$flags -fsanitize=fuzzer,address,undefined -fno-sanitize-recover=all"
+# The library allocates nothing, and a search for leaks does not work on every machine.
+export ASAN_OPTIONS=detect_leaks=0:quarantine_size_mb=32
+
+stop() { # WHAT
+    echo "fuzz: $1"
+    exit 2
+}
+
+part() { # WHAT sheet|calls
+    case $1-$2 in
+        crate-sheet) echo fox_probe ;;
+        crate-calls) echo fox_station ;;
+        sources-sheet) echo "$t/sheet.c $t/exact.c $t/answers.c $s/sheet.c $second" ;;
+        sources-calls)
+            echo "$t/calls.c $t/take.c $t/change.c $t/exact.c $t/answers.c $s/ways.c $s/hex.c $s/tally.c $second"
+            ;;
+        wrapped-sheet) echo fox_probe_sheet ;;
+        wrapped-calls) echo fox_card_open_block fox_server_run ;;
+        words-sheet) echo "-dict=$t/sheet.dict -max_len=400" ;;
+        words-calls) echo "-max_len=256 -len_control=0 -entropic_scale_per_exec_time=1" ;;
+    esac
+}
+
+fuzzer_or_stop() {
+    command -v rt >/dev/null 2>&1 || stop "the Rattle kit is missing: there is no rt on the PATH"
+    command -v "$clang" >/dev/null 2>&1 || stop "clang is missing: there is no $clang on the PATH"
+    printf '#include <stddef.h>\nint LLVMFuzzerTestOneInput(const char *d, size_t n);\n%s\n' \
+        'int LLVMFuzzerTestOneInput(const char *d, size_t n) { return d == NULL && n > 0; }' >"$into/try.c"
+    { "$clang" $flags -o "$into/try" "$into/try.c" && "$into/try" -runs=1; } >"$into/try.log" 2>&1 ||
+        stop "$clang has no libFuzzer that works here (Debian has it in libclang-rt-*-dev): $(tail -n 1 "$into/try.log")"
+}
+
+# The library's module as Rattle hands it to its compiler, compiled for this processor so that the fuzzer sees its
+# branches, and the address sanitizer its reads and writes. The sanitizer looks only at functions that ask for it, so all
+# are made to ask.
+guarded_library() { # CRATE
+    library=$libraries/$1.o
+    [ ! -f "$library" ] || [ -n "$(find crates crates.txt tests/fuzz.sh -newer "$library" | head -n 1)" ] || return 0
+    library_here "$1" || return 1
+    compiler="$kit/on/$(uname -m)/toolchain/bin/clang --target=$(uname -m)-linux-gnu -Wno-override-module"
+    $compiler -S -emit-llvm -Xclang -disable-llvm-passes -x ir "$shadow/module.bc" -o - 2>>"target/log/$1.here" |
+        sed 's/^attributes #[0-9]* = {/& sanitize_address/' >"$libraries/$1.ll"
+    grep -q sanitize_address "$libraries/$1.ll" || return 1
+    $compiler -O1 -fPIC -fsanitize=address -fsanitize-coverage=inline-8bit-counters,pc-table,trace-cmp \
+        -c -x ir "$libraries/$1.ll" -o "$library" 2>>"target/log/$1.here"
+}
+
+library_or_stop() { # CRATE
+    guarded_library "$1" && return
+    [ "$(uname -m)" = x86_64 ] || stop "$1 was not made for this processor; target/log/$1.here says why"
+    echo "fuzz: $1 is linked as it is shipped: the fuzzer does not see its branches, nor the sanitizer its reads"
+    static_library "$1" || stop "$1 was not built"
+    library=target/staticlib/lib$1.a
+}
+
+# Besides the fuzzer itself, where it sees the library's branches, there is one to which these alone count.
+build() { # sheet|calls
+    library_or_stop "$(part crate "$1")"
+    sources="$(part sources "$1") $library"
+    if [ -n "${FAULT:-}" ]; then
+        sources="$sources -DFAULT=$FAULT $t/wrong_$1.c"
+        for w in $(part wrapped "$1"); do sources="$sources -Wl,--wrap=$w"; done
+    fi
+    "$clang" $flags -o "$into/$1.fuzzer" $sources || stop "$t/$1.c was not built"
+    rm -f "$into/$1.edges"
+    [ "$library" = "$libraries/$(part crate "$1").o" ] || return 0
+    "$clang" $flags -fno-sanitize-coverage=edge,inline-8bit-counters,pc-table,trace-cmp,indirect-calls,stack-depth \
+        -o "$into/$1.edges" $sources || stop "$t/$1.c was not built"
+}
+
+seed_sheet() { # FOLDER: right sheets of all kinds
+    pairs=0123456789ABCDEFFEDCBA9876543210
+    for cipher in 64 128; do
+        block=$pairs
+        [ "$cipher" = 128 ] || block=${pairs%????????????????}
+        for key in '' 00 "$pairs" "$pairs$pairs"; do
+            sheet='cipher=%s\nrounds=%s\nkey=%s\nway=%s\nblock=%s\n'
+            printf "$sheet" "$cipher" 12 "$key" seal "$block" >"$1/$cipher.seal.${#key}"
+            printf "$sheet" "$cipher" 255 "$key" open "$block" >"$1/$cipher.open.${#key}"
+        done
+    done
+}
+
+# The choices that tests/fuzz/take.h lists, each of a kind and of four bytes that these leave aside.
+seed_calls() { # FOLDER: a served call of each kind, and a run of the most data
+    n='\000\000\000\000'
+    for call in 0.021 1.021 2.021 3.021 4.021 5.021 5.370; do
+        for cipher in 0 1; do
+            printf "\\00${call%.*}$n\\00$cipher$n\\004$n\\020$n\\000$n\\${call#*.}$n\\000$n\\000$n\\000$n%s" \
+                0123456789abcdefghijklmnopqrstuvwxyzABCDEF >"$1/$call.$cipher"
+        done
+    done
+}
+
+number() { # LOG EXPRESSION: the last number that stands in its place
+    sed -n "s/.*$2.*/\\1/p" "$into/$1" | tail -n 1
+}
+
+edges() { # LOG
+    echo "$(number "$1" ' cov: \([0-9]*\)') of $(number "$1" '(\([0-9]*\) inline 8-bit counters)')"
+}
+
+show_found() { # NAME
+    grep -a -E "^$1: |ERROR: |runtime error: |Test unit written" "$into/$1.log" | cut -c 1-2000
+    echo "fuzz: $1: FOUND something; the log is $into/$1.log"
+    found=1
+}
+
+show() { # NAME STATUS
+    echo "fuzz: $1: $(number "$1.log" 'number_of_executed_units: \([0-9]*\)') executions," \
+        "$(edges "$1.log") edges, $(ls "$into/$1" | wc -l) files in the corpus"
+    sed -n "s/^answers: /fuzz: $1: /p" "$into/$1.log"
+    [ "$2" -eq 0 ] || { show_found "$1" && return; }
+    if [ -x "$into/$1.edges" ]; then
+        "$into/$1.edges" -runs=0 -artifact_prefix="$into/found/$1-" "$into/$1" "$into/$1.seeds" \
+            >"$into/$1.edges.log" 2>&1
+        echo "fuzz: $1: the corpus reaches $(edges "$1.edges.log") edges of the library"
+    fi
+    echo "fuzz: $1: nothing found"
+}
+
+fuzz() { # NAME SECONDS
+    mkdir -p "$into/$1" "$into/$1.seeds"
+    "seed_$1" "$into/$1.seeds"
+    echo "fuzz: $1: for $2 s with seed $seed"
+    "$into/$1.fuzzer" $(part words "$1") -seed="$seed" -max_total_time="$2" -timeout=60 -print_final_stats=1 \
+        -artifact_prefix="$into/found/$1-" "$into/$1" "$into/$1.seeds" >"$into/$1.log" 2>&1
+    show "$1" $?
+}
+
+case $seconds in '' | *[!0-9]*) stop "the seconds are to be a number" ;; esac
+case $names in
+    'sheet calls') seconds=$((seconds / 2)) ;;
+    sheet | calls) ;;
+    *) stop "there is no fuzzer named $names" ;;
+esac
+[ "$seconds" -gt 0 ] || stop "so few seconds leave no time to run"
+mkdir -p "$into/found"
+found=0
+fuzzer_or_stop
+for name in $names; do build "$name"; done
+for name in $names; do fuzz "$name" "$seconds"; done
+exit "$found"

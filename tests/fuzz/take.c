@@ -1,0 +1,151 @@
+/* A fuzzer's input taken apart into a call. A choice of a kind below USUAL makes an argument that is served, and one
+ * above it an odd one. */
+#include "take.h"
+#include "fox.h"
+
+enum { USUAL = 240, ODDER = 248, MANY_ROUNDS = 32 };
+
+struct input {
+    const uint8_t *at;
+    size_t left;
+};
+
+struct choice {
+    uint8_t kind;
+    uint32_t number;
+};
+
+/* After the end of the input come zeros. */
+static uint8_t take(struct input *in)
+{
+    if (in->left == 0)
+        return 0;
+    in->left--;
+    return *in->at++;
+}
+
+static void take_bytes(struct input *in, uint8_t *bytes, size_t len)
+{
+    for (size_t i = 0; i < len; i++)
+        bytes[i] = take(in);
+}
+
+static struct choice take_choice(struct input *in)
+{
+    struct choice c = {take(in), 0};
+    for (int i = 1; i < CHOICE; i++)
+        c.number = c.number << 8 | take(in);
+    return c;
+}
+
+/* One bit changed: a number that would be right if only a part of it were looked at. */
+static uint32_t one_bit_off(uint32_t right, uint32_t bit)
+{
+    return right ^ 1u << bit % 32;
+}
+
+static uint32_t cipher_of(struct choice c)
+{
+    uint32_t right = c.kind % 2 == 0 ? FOX64 : FOX128;
+    if (c.kind < USUAL)
+        return right;
+    return c.kind < ODDER ? one_bit_off(right, c.number) : c.number;
+}
+
+/* Few rounds most often, since many take their time. */
+static uint32_t rounds_of(struct choice c)
+{
+    uint32_t few = FOX_LEAST_ROUNDS + c.kind % 6;
+    if (c.kind < 216)
+        return few;
+    if (c.kind < 220)
+        return FOX_MOST_ROUNDS;
+    if (c.kind < USUAL)
+        return FOX_LEAST_ROUNDS + c.number % (FOX_MOST_ROUNDS - FOX_LEAST_ROUNDS + 1);
+    if (c.kind < ODDER)
+        return one_bit_off(few, c.number);
+    return c.kind % 2 == 0 ? c.number % 512 : c.number;
+}
+
+static size_t key_len_of(struct choice c)
+{
+    if (c.kind < USUAL)
+        return c.kind % (FOX_MOST_KEY + 1);
+    return FOX_MOST_KEY + 1 + c.number % (SHORT_ROOM - FOX_MOST_KEY);
+}
+
+static size_t first_len_of(struct choice c, uint32_t cipher)
+{
+    if (c.kind < USUAL)
+        return cipher == FOX128 ? FOX128_BLOCK : FOX64_BLOCK;
+    return c.number % (SHORT_ROOM + 1);
+}
+
+/* Short most often, and now and then up to the most that a call takes, or more; but never long together with many
+ * rounds, since that would take seconds. */
+static size_t data_len_of(struct choice c, uint32_t rounds)
+{
+    if (c.kind < 160)
+        return c.kind;
+    if (c.kind < ODDER)
+        return c.number % (rounds < MANY_ROUNDS ? 1024 : 256);
+    if (c.kind < ODDER + 2 && rounds < MANY_ROUNDS)
+        return FOX_MOST_DATA - c.number % (c.kind % 2 == 0 ? 4 : FOX_MOST_DATA);
+    return FOX_MOST_DATA + 1 + c.number % 4;
+}
+
+/* The edges are the run's end, and those of 32 and 64 bits, from where a sum with the length would wrap. */
+static uint64_t offset_of(struct choice low, struct choice high, size_t data_len)
+{
+    if (low.kind < 128)
+        return low.number % (low.kind % 2 == 0 ? 256 : 65536);
+    if (low.kind < 192)
+        return low.number % FOX_RUN_END;
+    if (low.kind < USUAL)
+        return FOX_RUN_END + UINT64_C(2) - data_len - low.number % 256;
+    if (low.kind < ODDER)
+        return UINT64_C(2) - data_len - low.number % 256;
+    return (uint64_t)high.number << 32 | (low.kind % 2 == 0 ? low.number % 256 : low.number);
+}
+
+static size_t out_len_of(struct choice c, size_t right)
+{
+    if (c.kind < USUAL)
+        return right;
+    if (c.kind < ODDER)
+        return c.kind % 2 == 0 && right > 0 ? right - 1 : right + 1;
+    return c.number % 256;
+}
+
+/* What is left of the input, again and again, and each time another. */
+static void take_data(const struct input *in, uint8_t *data, size_t len)
+{
+    for (size_t i = 0; i < len; i++)
+        data[i] = in->left == 0 ? (uint8_t)(i * 29) : (uint8_t)(in->at[i % in->left] + i / in->left);
+}
+
+struct job take_job(const uint8_t *bytes, size_t len)
+{
+    static uint8_t data[LONG_ROOM];
+    struct choice made[CHOICES];
+    struct input in = {bytes, len};
+    for (int i = 0; i < CHOICES; i++)
+        made[i] = take_choice(&in);
+    int which = made[WHICH].kind % (WAYS * VERBS);
+    struct job job = {.verb = (enum verb)(which / WAYS), .way = which % WAYS};
+    struct call *c = &job.call;
+    c->cipher = cipher_of(made[CIPHER]);
+    c->rounds = rounds_of(made[ROUNDS]);
+    c->key_len = key_len_of(made[KEY_LEN]);
+    c->first_len = first_len_of(made[FIRST_LEN], c->cipher);
+    if (job.verb == RUN) {
+        c->data_len = data_len_of(made[DATA_LEN], c->rounds);
+        c->offset = offset_of(made[OFFSET], made[OFFSET_HIGH], c->data_len);
+    }
+    c->out_len = out_len_of(made[OUT_LEN], job.verb == RUN ? c->data_len : c->first_len);
+    take_bytes(&in, c->key, c->key_len);
+    take_bytes(&in, c->first, c->first_len);
+    take_data(&in, data, c->data_len);
+    c->data = data;
+    return job;
+}

@@ -1,0 +1,24 @@
+/* A fuzzer's input taken apart into one call of the station's library. Every input is a call, and most of them are ones
+ * that are served; each argument can be wrong too, alone or together with others. */
+#ifndef FUZZ_TAKE_H
+#define FUZZ_TAKE_H
+
+#include "ways.h"
+
+enum verb { SEAL, OPEN, RUN, VERBS };
+
+struct job {
+    enum verb verb;
+    int way;
+    struct call call;
+};
+
+/* The choices stand first in the input, in this order and each in CHOICE bytes: a byte for the kind of thing, and a
+ * number that it may be made of. The bytes of key, block or counter, and data follow. */
+enum { WHICH, CIPHER, ROUNDS, KEY_LEN, FIRST_LEN, DATA_LEN, OFFSET, OFFSET_HIGH, OUT_LEN, CHOICES };
+enum { CHOICE = 5, HEAD = CHOICES * CHOICE };
+
+/* The data of every call stands in the same place. */
+struct job take_job(const uint8_t *bytes, size_t len);
+
+#endif

@@ -1,0 +1,76 @@
+/* Stands before two of the station's exports, by the linker's --wrap, and puts the one fault named by FAULT into them, so
+ * that one sees whether the fuzzer finds it. */
+#include "fox.h"
+
+#include <string.h>
+
+enum {
+    BYTE_WRONG = 1,
+    REFUSALS_EXCHANGED,
+    SUM_WRAPS,
+    COUNTER_CARRIES,
+    LAST_LENGTH_REFUSED,
+    CIPHER_CUT,
+    MOST_ROUNDS_WRONG,
+    REFUSED_WRITES,
+    KEY_READ_AFTER
+};
+
+uint32_t __real_fox_server_run(uint32_t cipher, uint32_t rounds, const uint8_t *key, size_t key_len,
+                               const uint8_t *counter, size_t counter_len, uint64_t offset,
+                               const uint8_t *data, size_t data_len, uint8_t *out, size_t out_len);
+uint32_t __wrap_fox_server_run(uint32_t cipher, uint32_t rounds, const uint8_t *key, size_t key_len,
+                               const uint8_t *counter, size_t counter_len, uint64_t offset,
+                               const uint8_t *data, size_t data_len, uint8_t *out, size_t out_len);
+uint32_t __real_fox_card_open_block(uint32_t cipher, uint32_t rounds, const uint8_t *key, size_t key_len,
+                                    const uint8_t *block, size_t block_len, uint8_t *out, size_t out_len);
+uint32_t __wrap_fox_card_open_block(uint32_t cipher, uint32_t rounds, const uint8_t *key, size_t key_len,
+                                    const uint8_t *block, size_t block_len, uint8_t *out, size_t out_len);
+
+/* Whether the counting bytes of the counter wrap before the last byte of a run. */
+static int wraps(const uint8_t *counter, size_t counter_len, uint64_t last)
+{
+    uint64_t count = 0;
+    for (size_t i = counter_len - 4; i < counter_len; i++)
+        count = count << 8 | counter[i];
+    return count + last / counter_len > UINT32_MAX;
+}
+
+/* Whether a served run gets one byte changed. */
+static int spoilt(const uint8_t *counter, size_t counter_len, uint64_t offset, size_t data_len)
+{
+    if (FAULT == BYTE_WRONG)
+        return offset % 8 == 3 && data_len > 40;
+    return FAULT == COUNTER_CARRIES && data_len > 0 && wraps(counter, counter_len, offset + data_len - 1);
+}
+
+uint32_t __wrap_fox_server_run(uint32_t cipher, uint32_t rounds, const uint8_t *key, size_t key_len,
+                               const uint8_t *counter, size_t counter_len, uint64_t offset,
+                               const uint8_t *data, size_t data_len, uint8_t *out, size_t out_len)
+{
+    uint32_t answer = __real_fox_server_run(cipher, rounds, key, key_len, counter, counter_len, offset, data, data_len,
+                                            out, out_len);
+    if (FAULT == REFUSALS_EXCHANGED && answer == FOX_REFUSED_DATA && out_len != data_len)
+        return FOX_REFUSED_OUTPUT;
+    if (FAULT == SUM_WRAPS && answer == FOX_REFUSED_END && offset + data_len <= FOX_RUN_END)
+        return FOX_SERVED;
+    if (FAULT == LAST_LENGTH_REFUSED && data_len == FOX_MOST_DATA && answer == FOX_SERVED)
+        return FOX_REFUSED_DATA;
+    if (answer == FOX_SERVED && spoilt(counter, counter_len, offset, data_len))
+        out[data_len - 1] ^= 1;
+    return answer;
+}
+
+uint32_t __wrap_fox_card_open_block(uint32_t cipher, uint32_t rounds, const uint8_t *key, size_t key_len,
+                                    const uint8_t *block, size_t block_len, uint8_t *out, size_t out_len)
+{
+    uint32_t looked_at = FAULT == CIPHER_CUT ? cipher & 0xFFFF : cipher;
+    uint32_t answer = __real_fox_card_open_block(looked_at, rounds, key, key_len, block, block_len, out, out_len);
+    if (FAULT == MOST_ROUNDS_WRONG && rounds == FOX_MOST_ROUNDS && answer == FOX_SERVED)
+        out[0] ^= 1;
+    if (FAULT == REFUSED_WRITES && answer == FOX_REFUSED_OUTPUT && out_len > 0)
+        out[0] = 0;
+    if (FAULT == KEY_READ_AFTER && answer == FOX_SERVED && key[key_len] == 0x77)
+        out[0] = 0;
+    return answer;
+}
