@@ -1,5 +1,6 @@
-# Sourced by tests/speed.sh on a processor that is not x86-64: a library for this processor, made from the very module that Rattle hands to its
-# compiler, by that compiler at the same level. What is shipped is x86-64 code, so figures taken this way stand beside those and not in their place.
+# Sourced by tests/speed.sh on a processor that is not x86-64, and by tests/fuzz.sh: a library for this processor, made from the very module that Rattle
+# hands to its compiler, by that compiler at the same level. What is shipped is x86-64 code, so figures taken this way stand beside those and not in
+# their place.
 
 # A kit like the one in use, but for a compiler that keeps a copy of what it is given.
 shadow_kit() { # KIT SHADOW
