@@ -1,0 +1,38 @@
+-- Sheets whose block is served, and what the bench program prints for them, computed by the definitions: 01's own sheet, its answer opened again, and a sheet
+-- with an empty key.
+-- Assumes nothing.
+use mathlib.Core.Path.{_≡_, refl}
+use mathlib.Core.List.{List, [], _∷_, map}
+use Prim.Native.Nat.{ℕ}
+use Prim.Native.String.{String}
+use Rattle.fox_layers.specs.Words.{joined, split, sum, summed}
+use Rattle.fox_layers.specs.Field.{polynomial, rest, product}
+use Rattle.fox_layers.specs.Substitution.{S₁, S₂, S₃, halves, whole, or4, lmid4, lmor4, sbox, sigma}
+use Rattle.fox_layers.specs.Diffusion.{dot, times, mu4Rows, diffused, mu4}
+use Rattle.fox_rounds.specs.Rounds.{left, right, or, io, f, f32, lmid64, or64, io64}
+use Rattle.fox_rounds.specs.Skeleton.{numbered, through, seal64, open64}
+use Rattle.fox_keying.specs.Padding.{pad, padded, mixed, mkey}
+use Rattle.fox_keying.specs.Register.{seed, clocked, iterate, LFSR, stream, groups, dkey}
+use Rattle.fox_nonlinear.specs.Nonlinear.{words, mix64, flipped, layers, number64, NL64}
+use Rattle.fox_schedule.specs.Schedule.{ek64, key64, roundKey64}
+use Rattle.fox_calls.specs.Refusals.{refusalOf, blockSize, noCipher, noRounds, longKey, noBlock, noOutput, forKey, forBlock}
+use Rattle.fox_cipher.specs.Block.{state64, bytes64, sealWith, openWith, roundKey, roundKeys, sealBlock, openBlock}
+use Rattle.fox_text.specs.Ascii.{codes, ascii, empty, startsWith, same}
+use Rattle.fox_text.specs.Lines.{lineEnd, hasLine, line, afterLine, afterLines}
+use Rattle.fox_text.specs.Decimal.{isDigit, allDigits, onward, decimalOf, leadingZero, inRange, isDecimal, place, decimalText}
+use Rattle.fox_text.specs.Hex.{isHex, allHex, isPairs, nibble, pairsOf, digit, hexText}
+use Rattle.fox_text.specs.Fields.{valueText, named, isDecimalLine, isPairsLine, decimalIn, pairsIn, decimalLineText, pairsLineText}
+use Rattle.fox_sheet.specs.Sheet.{cipherName, roundsName, keyName, sealWay, openWay, blockName, isWayLine, keeps, settingRules, taskRules, brokenLine, cipherOf, roundsOf, keyOf, opens, blockOf}
+use Rattle.fox_sheet.specs.Answer.{refusalName, lineName, keybitsName, brokenText, servedText, turned, refusal, blockText, answerOf}
+
+-- sheets, each with what is printed for it
+unfoldable pub served : List (List ℕ × String)
+served =
+    (ascii "cipher=64\nrounds=16\nkey=00112233445566778899AABBCCDDEEFF\nway=seal\nblock=0123456789ABCDEF\n", "refusal=0\ncipher=64\nrounds=16\nkeybits=128\nblock=B85D6B766DCE952E\n")
+    ∷ (ascii "cipher=64\nrounds=16\nkey=00112233445566778899AABBCCDDEEFF\nway=open\nblock=B85D6B766DCE952E\n", "refusal=0\ncipher=64\nrounds=16\nkeybits=128\nblock=0123456789ABCDEF\n")
+    ∷ (ascii "cipher=64\nrounds=12\nkey=\nway=seal\nblock=0000000000000000\n", "refusal=0\ncipher=64\nrounds=12\nkeybits=0\nblock=143F1DD7FBF5DEAC\n")
+    ∷ []
+
+pub served-printed : map (λ x. answerOf (x .0)) served ≡ map (λ x. ascii (x .1)) served
+unfolding served joined split sum summed polynomial rest product S₁ S₂ S₃ halves whole or4 lmid4 lmor4 sbox sigma dot times mu4Rows diffused mu4 left right or io f f32 lmid64 or64 io64 numbered through seal64 open64 pad padded mixed mkey seed clocked iterate LFSR stream groups dkey words mix64 flipped layers number64 NL64 ek64 key64 roundKey64 refusalOf blockSize noCipher noRounds longKey noBlock noOutput forKey forBlock state64 bytes64 sealWith openWith roundKey roundKeys sealBlock openBlock codes ascii empty startsWith same lineEnd hasLine line afterLine afterLines isDigit allDigits onward decimalOf leadingZero inRange isDecimal place decimalText isHex allHex isPairs nibble pairsOf digit hexText valueText named isDecimalLine isPairsLine decimalIn pairsIn decimalLineText pairsLineText cipherName roundsName keyName sealWay openWay blockName isWayLine keeps settingRules taskRules brokenLine cipherOf roundsOf keyOf opens blockOf refusalName lineName keybitsName brokenText servedText turned refusal blockText answerOf
+served-printed = refl
