@@ -11,10 +11,17 @@ use Rattle.fox_text.specs.Lines.{lineEnd}
 use Rattle.fox_text.specs.Decimal.{isDecimal, decimalOf, found}
 use Rattle.fox_text.specs.declared.decimal.Decimal.{Decimal}
 use Rattle.fox_text.specs.Fields.{valueText, decimalIn, nextLine}
-use Rattle.fox_text.proofs.Laws.Fields.{right-named, stands, not-named-decimal, no-decimal-line, decimal-line}
+use Rattle.fox_text.proofs.Laws.Fields.{right-named, Stands, stands, not-named-decimal, no-decimal-line, decimal-line}
 use borrow.Author.Needs.{needs}
 use Rattle.fox_text.proofs.fields.decimal_line.Statement.{statement}
 use Rattle.fox_text.proofs.fields.decimal_line.Tie as tie
+
+-- past the first test: what is known of the value that was found
+module _ (c : tie.Else1) where
+  found-here :
+      Stands (c .before .before .before .before .before .args .sheet .now) (c .before .before .before .before .before .args .name .now)
+      (c .before .before .before .before .before .args .at) (c .before .before .find-value .result)
+  found-here = stands _ _ _ (c .before .before .before .before .before .pre) (c .before .before .find-value .ensures) (not-false _ (c .if1 .left))
 
 find-value-requires : tie.Need-find-value-requires
 find-value-requires c κs = search needs
@@ -28,23 +35,17 @@ returns c =
 
 sub-read-decimal : tie.Need-sub-read-decimal
 sub-read-decimal c =
-    let start = c .before .before .before .before .before in
-    let a = start .args in
-    let v = stands (a .sheet .now) (a .name .now) (a .at) (start .pre) (c .before .before .find-value .ensures) (not-false _ (c .if1 .left)) in
+    let v = found-here c in
     omega (arith, v .ordered, v .within)
 
 part-read-decimal-start : tie.Need-part-read-decimal-start
 part-read-decimal-start c =
-    let start = c .before .before .before .before .before in
-    let a = start .args in
-    let v = stands (a .sheet .now) (a .name .now) (a .at) (start .pre) (c .before .before .find-value .ensures) (not-false _ (c .if1 .left)) in
+    let v = found-here c in
     omega (arith, v .ordered, v .within)
 
 part-read-decimal-end : tie.Need-part-read-decimal-end
 part-read-decimal-end c =
-    let start = c .before .before .before .before .before in
-    let a = start .args in
-    let v = stands (a .sheet .now) (a .name .now) (a .at) (start .pre) (c .before .before .find-value .ensures) (not-false _ (c .if1 .left)) in
+    let v = found-here c in
     omega (arith, v .ordered, v .within)
 
 read-decimal-requires : tie.Need-read-decimal-requires
@@ -54,29 +55,22 @@ returns-2 : tie.Need-returns-2
 unfolding found
 returns-2 c =
     let named = c .before .before .before .before in
-    let start = named .before .before .before .before .before in
-    let a = start .args in
+    let a = named .before .before .before .before .before .args in
     let t = drop (a .at) (a .sheet .now) in
-    let v = stands (a .sheet .now) (a .name .now) (a .at) (start .pre) (named .before .before .find-value .ensures) (not-false _ (named .if1 .left)) in
+    let v = found-here named in
     let d = c .before .before .read-decimal .ensures ∙ ap (λ (ds : List ℕ). found (isDecimal ds) ds) (v .part) in
     sym (no-decimal-line (a .name .now) t (a .at) (v .has-name) (sym (ap (λ (r : Decimal). r .right) d) ∙ not-true _ (c .if2 .taken)))
 
 add-t11 : tie.Need-add-t11
-add-t11 c =
-    let named = c .before .before .before .before in
-    let start = named .before .before .before .before .before in
-    let a = start .args in
-    let v = stands (a .sheet .now) (a .name .now) (a .at) (start .pre) (named .before .before .find-value .ensures) (not-false _ (named .if1 .left)) in
-    omega (arith, v .within)
+add-t11 c = omega (arith, found-here (c .before .before .before .before) .within)
 
 returns-3 : tie.Need-returns-3
 unfolding found decimalIn nextLine
 returns-3 c =
     let named = c .before .before .before .before in
-    let start = named .before .before .before .before .before in
-    let a = start .args in
+    let a = named .before .before .before .before .before .args in
     let t = drop (a .at) (a .sheet .now) in
-    let v = stands (a .sheet .now) (a .name .now) (a .at) (start .pre) (named .before .before .find-value .ensures) (not-false _ (named .if1 .left)) in
+    let v = found-here named in
     let d = c .before .before .read-decimal .ensures ∙ ap (λ (ds : List ℕ). found (isDecimal ds) ds) (v .part) in
     let right : isDecimal (valueText (a .name .now) t) ≡ true = sym (ap (λ (r : Decimal). r .right) d) ∙ not-false _ (c .if2 .left) in
     let value : c .before .before .read-decimal .result .value ≡ decimalOf (valueText (a .name .now) t) = ap (λ (r : Decimal). r .value) d ∙ rw right in

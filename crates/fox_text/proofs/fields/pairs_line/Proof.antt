@@ -11,10 +11,17 @@ use Rattle.fox_text.specs.Lines.{lineEnd}
 use Rattle.fox_text.specs.Hex.{isPairs, pairsOf}
 use Rattle.fox_text.specs.Fields.{valueText, pairsIn, nextLine}
 use Rattle.fox_text.proofs.Laws.Pairs.{even-pairs, length-pairs}
-use Rattle.fox_text.proofs.Laws.Fields.{right-named, stands, not-named-pairs, pairs-tested, pairs-wrong, pairs-right}
+use Rattle.fox_text.proofs.Laws.Fields.{right-named, Stands, stands, not-named-pairs, pairs-tested, pairs-wrong, pairs-right}
 use borrow.Author.Needs.{needs}
 use Rattle.fox_text.proofs.fields.pairs_line.Statement.{statement}
 use Rattle.fox_text.proofs.fields.pairs_line.Tie as tie
+
+-- past the first test: what is known of the value that was found
+module _ (c : tie.Else1) where
+  found-here :
+      Stands (c .before .before .before .before .before .args .sheet .now) (c .before .before .before .before .before .args .name .now)
+      (c .before .before .before .before .before .args .at) (c .before .before .find-value .result)
+  found-here = stands _ _ _ (c .before .before .before .before .before .pre .0) (c .before .before .find-value .ensures) (not-false _ (c .if1 .left))
 
 find-value-requires : tie.Need-find-value-requires
 find-value-requires c κs = search needs
@@ -29,23 +36,17 @@ returns c =
 
 sub-ds : tie.Need-sub-ds
 sub-ds c =
-    let start = c .before .before .before .before .before in
-    let a = start .args in
-    let v = stands (a .sheet .now) (a .name .now) (a .at) (start .pre .0) (c .before .before .find-value .ensures) (not-false _ (c .if1 .left)) in
+    let v = found-here c in
     omega (arith, v .ordered, v .within)
 
 part-ds-start : tie.Need-part-ds-start
 part-ds-start c =
-    let start = c .before .before .before .before .before in
-    let a = start .args in
-    let v = stands (a .sheet .now) (a .name .now) (a .at) (start .pre .0) (c .before .before .find-value .ensures) (not-false _ (c .if1 .left)) in
+    let v = found-here c in
     omega (arith, v .ordered, v .within)
 
 part-ds-end : tie.Need-part-ds-end
 part-ds-end c =
-    let start = c .before .before .before .before .before in
-    let a = start .args in
-    let v = stands (a .sheet .now) (a .name .now) (a .at) (start .pre .0) (c .before .before .find-value .ensures) (not-false _ (c .if1 .left)) in
+    let v = found-here c in
     omega (arith, v .ordered, v .within)
 
 is-pairs-requires : tie.Need-is-pairs-requires
@@ -54,10 +55,9 @@ is-pairs-requires c κs = search needs
 returns-2 : tie.Need-returns-2
 returns-2 c =
     let named = c .before .before .before in
-    let start = named .before .before .before .before .before in
-    let a = start .args in
+    let a = named .before .before .before .before .before .args in
     let t = drop (a .at) (a .sheet .now) in
-    let v = stands (a .sheet .now) (a .name .now) (a .at) (start .pre .0) (named .before .before .find-value .ensures) (not-false _ (named .if1 .left)) in
+    let v = found-here named in
     let d = c .before .is-pairs .ensures ∙ ap (λ (ds : List ℕ). isPairs (a .most) ds) (v .part) in
     let e = pairs-tested (a .most) (a .name .now) t (v .has-name) ∙ sym d ∙ not-true _ (c .if2 .taken) in
     (sym (pairs-wrong (a .most) (a .name .now) t (a .at) e), rw e)
@@ -69,22 +69,15 @@ join-pairs-requires c κs =
     (p .hex, omega (arith, p .even, p .few, start .pre .1))
 
 add-t20 : tie.Need-add-t20
-add-t20 c =
-    let named = c .before .before .before .before .before in
-    let start = named .before .before .before .before .before in
-    let a = start .args in
-    let t = drop (a .at) (a .sheet .now) in
-    let v = stands (a .sheet .now) (a .name .now) (a .at) (start .pre .0) (named .before .before .find-value .ensures) (not-false _ (named .if1 .left)) in
-    omega (arith, v .within)
+add-t20 c = omega (arith, found-here (c .before .before .before .before .before) .within)
 
 returns-3 : tie.Need-returns-3
 unfolding pairsIn nextLine
 returns-3 c =
     let named = c .before .before .before .before .before in
-    let start = named .before .before .before .before .before in
-    let a = start .args in
+    let a = named .before .before .before .before .before .args in
     let t = drop (a .at) (a .sheet .now) in
-    let v = stands (a .sheet .now) (a .name .now) (a .at) (start .pre .0) (named .before .before .find-value .ensures) (not-false _ (named .if1 .left)) in
+    let v = found-here named in
     let d = c .before .before .before .is-pairs .ensures ∙ ap (λ (ds : List ℕ). isPairs (a .most) ds) (v .part) in
     let right = pairs-tested (a .most) (a .name .now) t (v .has-name) ∙ sym d ∙ not-false _ (c .before .before .if2 .left) in
     let text = valueText (a .name .now) t in
