@@ -1,3 +1,2 @@
--- The definitions on the specification's vectors, and on bench sheets.
+-- The definitions on the specification's vectors.
 pub mod Vectors
-pub mod Sheets

@@ -1,5 +1,5 @@
 -- Sheets and what is printed for them, computed by the definitions: sheets whose lines are broken in the ways that 01 names, each line's in turn, and sheets
--- with a block that is refused, where a refusal comes before those of higher numbers. Those with a block that is served are in `fox_definitions`.
+-- with a block that is refused, where a refusal comes before those of higher numbers. Those with a block that is served are in `fox_bench`.
 -- Assumes nothing.
 use mathlib.Core.Path.{_≡_, refl}
 use mathlib.Core.List.{List, [], _∷_, _++_, map}

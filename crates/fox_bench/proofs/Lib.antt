@@ -1,0 +1,2 @@
+-- What the program prints for sheets, computed by the definitions.
+pub mod Sheets
