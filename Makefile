@@ -2,56 +2,89 @@
 PREFIX = /usr/local
 DESTDIR =
 VERSION = 0.1.0
+# Programs linked with the shared library ask for it by this name. It changes when a program would have to be linked anew.
+SONAME = libfox.so.0
 
-STATION = target/staticlib/libfox_station.a
+# The machine's own processor; with another one named, what is made for it stands apart.
+MACHINE := $(shell uname -m)
+PROCESSOR ?= $(MACHINE)
+OUT := $(if $(filter $(MACHINE),$(PROCESSOR)),build,build/$(PROCESSOR))
+SHARED = $(OUT)/libfox.so.$(VERSION)
 ROOT = $(DESTDIR)$(PREFIX)
+BUILD = @PROCESSOR=$(PROCESSOR) sh tools/build.sh
 
-.PHONY: all help run vectors test count speed fuzz fmt install uninstall clean
+# Folders too, so that a file taken away counts as a change.
+SOURCES := $(shell find crates crates.txt)
 
-all: build/libfox.a build/stretch
+# rt proves in one folder, and as many crates at once as the machine can.
+.NOTPARALLEL:
+.PHONY: all help run bench vectors test host count speed fuzz fmt install uninstall clean
+
+LIBRARIES = $(OUT)/libfox.a $(OUT)/libfox_card.a $(SHARED)
+
+all: $(LIBRARIES) $(OUT)/stretch
 
 help:
-	@echo "make            build/libfox.a, the library for C programs, and build/stretch, the example over it"
+	@echo "make            the library for C programs, build/libfox.a and build/libfox.so, its part for a card alone,"
+	@echo "                build/libfox_card.a, and the example program build/stretch"
 	@echo "make run        the main job, as a newcomer would first want to see it"
-	@echo "make test       the whole gate"
+	@echo "make bench      the bench program on a sheet: make bench <sheet"
+	@echo "make test       the whole gate: rt ci, which proves all, and the host tests"
+	@echo "make host       the host tests alone, on what they link and run"
 	@echo "make vectors    the compiled ciphers on the specification's vectors"
 	@echo "make count      instructions and stack of the compiled code"
 	@echo "make speed      the library's speed beside that of straight C code"
 	@echo "make fuzz       ten minutes of clang's fuzzer on the calls and the bench sheet"
 	@echo "make fmt        sets the Rattle code in its layout"
-	@echo "make install    libfox.a, fox.h and fox.pc below PREFIX ($(PREFIX)); DESTDIR goes before it"
-	@echo "make uninstall  takes these three files away again"
+	@echo "make install    the libraries, fox.h and files for pkg-config below PREFIX ($(PREFIX)); DESTDIR goes before it"
+	@echo "make uninstall  takes these files away again"
 	@echo "make clean      takes away all that was made"
 
-# Folders too, so that a file taken away counts as a change.
-$(STATION): $(shell find crates crates.txt)
-	@sh c/build.sh station $@
+# Each engine's calls, and exports that the tests measure, which are no part of the library.
+CALLS = $(OUT)/fox_station_card.o $(OUT)/fox_station_server.o
+TEXTS = $(OUT)/fox_refusal_text.o
 
-build/fox_refusal_text.o: c/fox_refusal_text.c include/fox.h c/build.sh
-	@sh c/build.sh object $@ $<
+$(CALLS) $(OUT)/fox_probe.o: $(OUT)/%.o: $(SOURCES) tools/build.sh
+	$(BUILD) crate $@ $*
 
-build/libfox.a: $(STATION) build/fox_refusal_text.o
-	@sh c/build.sh library $@ $^
+$(TEXTS): c/fox_refusal_text.c include/fox.h tools/build.sh
+	$(BUILD) object $@ $<
+
+$(OUT)/libfox.a: $(CALLS) $(TEXTS)
+$(OUT)/libfox_card.a: $(OUT)/fox_station_card.o $(TEXTS)
+$(OUT)/libfox_probe.a: $(OUT)/fox_probe.o
+
+$(OUT)/%.a:
+	$(BUILD) archive $@ $^
 	@echo "built $@"
 
-build/stretch: examples/stretch.c build/libfox.a include/fox.h
-	@sh c/build.sh program $@ $< build/libfox.a
+$(SHARED): $(CALLS) $(TEXTS)
+	$(BUILD) shared $@ $(SONAME) $^
+	@echo "built $(OUT)/libfox.so"
+
+$(OUT)/stretch: examples/stretch.c $(OUT)/libfox.a include/fox.h
+	$(BUILD) program $@ $< $(OUT)/libfox.a
 	@echo "built $@"
 
 run:
 	@sh tests/show.sh
 
+bench:
+	@sh tools/bench.sh
+
 vectors:
-	@echo "proving and building (some three minutes the first time)"
-	@rt check fox_vectors >/dev/null || rt check fox_vectors
+	@sh tools/needs.sh
+	@sh tools/prove.sh fox_vectors
 	@echo "cipher, rounds, key bytes: sealed and opened by the card's way, by the server's way from a prepared key, and from key bytes"
 	@cat target/log/fox_vectors.stdout
 
 test:
 	@sh tests/gate.sh
 
+host:
+	@sh tests/gate.sh host
+
 count:
-	@rt check fox_probe >/dev/null || rt check fox_probe
 	@sh tests/instructions.sh
 	@sh tests/measure.sh
 
@@ -64,15 +97,20 @@ fuzz:
 fmt:
 	@rt fmt
 
-install: build/libfox.a
+install: $(LIBRARIES)
 	install -d "$(ROOT)/lib/pkgconfig" "$(ROOT)/include"
-	install -m 644 build/libfox.a "$(ROOT)/lib/libfox.a"
+	install -m 644 $(OUT)/libfox.a $(OUT)/libfox_card.a $(SHARED) "$(ROOT)/lib"
+	ln -sf libfox.so.$(VERSION) "$(ROOT)/lib/$(SONAME)"
+	ln -sf $(SONAME) "$(ROOT)/lib/libfox.so"
 	install -m 644 include/fox.h "$(ROOT)/include/fox.h"
-	sed -e 's|@PREFIX@|$(PREFIX)|' -e 's|@VERSION@|$(VERSION)|' fox.pc.in >build/fox.pc
-	install -m 644 build/fox.pc "$(ROOT)/lib/pkgconfig/fox.pc"
+	for name in fox fox_card; do \
+	    sed -e 's|@PREFIX@|$(PREFIX)|' -e 's|@VERSION@|$(VERSION)|' $$name.pc.in >$(OUT)/$$name.pc && \
+	    install -m 644 $(OUT)/$$name.pc "$(ROOT)/lib/pkgconfig" || exit 1; \
+	done
 
 uninstall:
-	rm -f "$(ROOT)/lib/libfox.a" "$(ROOT)/include/fox.h" "$(ROOT)/lib/pkgconfig/fox.pc"
+	cd "$(ROOT)" && rm -f lib/libfox.a lib/libfox_card.a lib/libfox.so.$(VERSION) lib/$(SONAME) lib/libfox.so \
+	    include/fox.h lib/pkgconfig/fox.pc lib/pkgconfig/fox_card.pc
 
 clean:
 	rm -rf target build

@@ -6,12 +6,11 @@
 # The exit status is 1 where anything was found, and 2 where something could not be run.
 set -u
 cd "$(dirname "$0")/.." || exit 2
+unset PROCESSOR
 . tests/host.sh
-. tests/here.sh
 seconds=${1:-600} names=${2:-sheet calls} seed=${SEED:-$(date +%s)}
 clang=${CLANG:-clang}
-s=tests/second t=tests/fuzz libraries=build/fuzz into=build/fuzz${FAULT:+/wrong}
-second="$s/second.c $s/schedule.c $s/rounds.c $s/matrix.c $s/box.c $s/field.c"
+t=tests/fuzz libraries=build/fuzz into=build/fuzz${FAULT:+/wrong}
 flags="-std=gnu11 -g -O2 -Wall -Wextra -Werror -Iinclude -I$s"
 flags="$flags -fsanitize=fuzzer,address,undefined -fno-sanitize-recover=all"
 # The library allocates nothing, and a search for leaks does not work on every machine.
@@ -24,8 +23,8 @@ stop() { # WHAT
 
 part() { # WHAT sheet|calls
     case $1-$2 in
-        crate-sheet) echo fox_probe ;;
-        crate-calls) echo fox_station ;;
+        crates-sheet) echo fox_probe ;;
+        crates-calls) echo fox_station_card fox_station_server ;;
         sources-sheet) echo "$t/sheet.c $t/exact.c $t/answers.c $s/sheet.c $second" ;;
         sources-calls)
             echo "$t/calls.c $t/take.c $t/change.c $t/exact.c $t/answers.c $s/ways.c $s/hex.c $s/tally.c $second"
@@ -38,12 +37,12 @@ part() { # WHAT sheet|calls
 }
 
 fuzzer_or_stop() {
-    command -v rt >/dev/null 2>&1 || stop "the Rattle kit is missing: there is no rt on the PATH"
-    command -v "$clang" >/dev/null 2>&1 || stop "clang is missing: there is no $clang on the PATH"
+    sh tools/needs.sh || stop "something is missing that it cannot do without"
+    command -v "$clang" >/dev/null 2>&1 || stop "clang is missing: there is no $clang on the PATH (Debian: clang)"
     printf '#include <stddef.h>\nint LLVMFuzzerTestOneInput(const char *d, size_t n);\n%s\n' \
         'int LLVMFuzzerTestOneInput(const char *d, size_t n) { return d == NULL && n > 0; }' >"$into/try.c"
     { "$clang" $flags -o "$into/try" "$into/try.c" && "$into/try" -runs=1; } >"$into/try.log" 2>&1 ||
-        stop "$clang has no libFuzzer that works here (Debian has it in libclang-rt-*-dev): $(tail -n 1 "$into/try.log")"
+        stop "$clang has no libFuzzer that works here (Debian: libclang-rt-14-dev): $(tail -n 1 "$into/try.log")"
 }
 
 # The library's module as Rattle hands it to its compiler, compiled for this processor so that the fuzzer sees its
@@ -52,34 +51,27 @@ fuzzer_or_stop() {
 guarded_library() { # CRATE
     library=$libraries/$1.o
     [ ! -f "$library" ] || [ -n "$(find crates crates.txt tests/fuzz.sh -newer "$library" | head -n 1)" ] || return 0
-    library_here "$1" || return 1
-    compiler="$kit/on/$(uname -m)/toolchain/bin/clang --target=$(uname -m)-linux-gnu -Wno-override-module"
-    $compiler -S -emit-llvm -Xclang -disable-llvm-passes -x ir "$shadow/module.bc" -o - 2>>"target/log/$1.here" |
+    sh tools/build.sh module "build/$1.bc" "$1" || return 1
+    compiler="$KIT_TOOLS/bin/clang --target=$MACHINE-linux-gnu -Wno-override-module"
+    $compiler -S -emit-llvm -Xclang -disable-llvm-passes -x ir "build/$1.bc" -o - 2>"target/log/$1.guarded" |
         sed 's/^attributes #[0-9]* = {/& sanitize_address/' >"$libraries/$1.ll"
     grep -q sanitize_address "$libraries/$1.ll" || return 1
     $compiler -O1 -fPIC -fsanitize=address -fsanitize-coverage=inline-8bit-counters,pc-table,trace-cmp \
-        -c -x ir "$libraries/$1.ll" -o "$library" 2>>"target/log/$1.here"
+        -c -x ir "$libraries/$1.ll" -o "$library" 2>>"target/log/$1.guarded"
 }
 
-library_or_stop() { # CRATE
-    guarded_library "$1" && return
-    [ "$(uname -m)" = x86_64 ] || stop "$1 was not made for this processor; target/log/$1.here says why"
-    echo "fuzz: $1 is linked as it is shipped: the fuzzer does not see its branches, nor the sanitizer its reads"
-    static_library "$1" || stop "$1 was not built"
-    library=target/staticlib/lib$1.a
-}
-
-# Besides the fuzzer itself, where it sees the library's branches, there is one to which these alone count.
+# Besides the fuzzer itself there is one to which the library's branches alone count.
 build() { # sheet|calls
-    library_or_stop "$(part crate "$1")"
-    sources="$(part sources "$1") $library"
+    sources=$(part sources "$1")
+    for crate in $(part crates "$1"); do
+        guarded_library "$crate" || stop "the library of $crate was not made"
+        sources="$sources $library"
+    done
     if [ -n "${FAULT:-}" ]; then
         sources="$sources -DFAULT=$FAULT $t/wrong_$1.c"
         for w in $(part wrapped "$1"); do sources="$sources -Wl,--wrap=$w"; done
     fi
     "$clang" $flags -o "$into/$1.fuzzer" $sources || stop "$t/$1.c was not built"
-    rm -f "$into/$1.edges"
-    [ "$library" = "$libraries/$(part crate "$1").o" ] || return 0
     "$clang" $flags -fno-sanitize-coverage=edge,inline-8bit-counters,pc-table,trace-cmp,indirect-calls,stack-depth \
         -o "$into/$1.edges" $sources || stop "$t/$1.c was not built"
 }
@@ -127,11 +119,8 @@ show() { # NAME STATUS
         "$(edges "$1.log") edges, $(ls "$into/$1" | wc -l) files in the corpus"
     sed -n "s/^answers: /fuzz: $1: /p" "$into/$1.log"
     [ "$2" -eq 0 ] || { show_found "$1" && return; }
-    if [ -x "$into/$1.edges" ]; then
-        "$into/$1.edges" -runs=0 -artifact_prefix="$into/found/$1-" "$into/$1" "$into/$1.seeds" \
-            >"$into/$1.edges.log" 2>&1
-        echo "fuzz: $1: the corpus reaches $(edges "$1.edges.log") edges of the library"
-    fi
+    "$into/$1.edges" -runs=0 -artifact_prefix="$into/found/$1-" "$into/$1" "$into/$1.seeds" >"$into/$1.edges.log" 2>&1
+    echo "fuzz: $1: the corpus reaches $(edges "$1.edges.log") edges of the library"
     echo "fuzz: $1: nothing found"
 }
 

@@ -1,12 +1,9 @@
 #!/bin/sh
-# The second implementation: by itself, on the machine's own processor, and then beside the proved library. A seed for
-# the comparison may be given, as an earlier run printed it. Last line: 'N passed, M failed', the sum of both.
+# The second implementation: by itself, where the processor is the machine's own, and then beside the proved library. A seed
+# for the comparison may be given, as an earlier run printed it. Last line: 'N passed, M failed', the sum of both.
 set -u
 cd "$(dirname "$0")/.." || exit 2
 . tests/host.sh
-mkdir -p build target/log
-s=tests/second
-second="$s/second.c $s/schedule.c $s/rounds.c $s/matrix.c $s/box.c $s/field.c"
 passed=0 failed=0
 log=$(mktemp) || exit 2
 trap 'rm -f "$log" "$log.status"' EXIT
@@ -25,28 +22,21 @@ add() { # COMMAND..: adds its last line to the sum; a program that ends in anoth
 }
 
 alone() {
-    ${CC:-gcc} -std=c11 -O1 -Wall -Wextra -Werror -o build/vectors \
+    $CC_HOST -std=c11 -O1 -Wall -Wextra -Werror -o "$OUT/vectors" \
         $s/vectors.c $s/sheet.c $s/hex.c $s/tally.c $second ||
         failed_to second "tests/second/vectors.c was not built"
-    ./build/vectors tests/vectors/block.csv tests/vectors/run.csv
+    "./$OUT/vectors" tests/vectors/block.csv tests/vectors/run.csv
 }
 
 beside() { # [SEED]
-    make --no-print-directory build/libfox.a >target/log/libfox.second 2>&1 || {
-        tail -n 5 target/log/libfox.second
-        failed_to second "build/libfox.a was not built"
-    }
-    $CC_HOST -std=gnu11 -O2 -Wall -Wextra -Werror -Iinclude -o build/compare \
-        $s/compare.c $s/calls.c $s/large.c $s/ways.c $s/hex.c $s/chance.c $s/tally.c $second build/libfox.a ||
+    made second libfox.a
+    $CC_HOST -std=gnu11 -O2 -Wall -Wextra -Werror -Iinclude -o "$OUT/compare" \
+        $s/compare.c $s/calls.c $s/large.c $s/ways.c $s/hex.c $s/chance.c $s/tally.c $second "$OUT/libfox.a" ||
         failed_to second "tests/second/compare.c was not built"
-    run_host ./build/compare "$@"
+    run_host "./$OUT/compare" "$@"
 }
 
-add alone
-if [ -n "$CC_HOST" ]; then
-    add beside "$@"
-else
-    echo "second: not compared with the library, since x86-64 code can be neither made nor run on this machine"
-fi
+[ "$PROCESSOR" != "$MACHINE" ] || add alone
+add beside "$@"
 echo "$passed passed, $failed failed"
 [ "$failed" -eq 0 ]

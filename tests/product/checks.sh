@@ -14,14 +14,10 @@ check() { # NAME COMMAND..: passes where the command, which may be a function, s
     fi
 }
 
-left_out() { # NAME WHY
-    echo "product: $1: left out, since $2"
-}
-
-compiled() { # PROGRAM SOURCE WORDS..: a program over build/libfox.a
+compiled() { # PROGRAM SOURCE WORDS..: a program over libfox.a
     out=$1
     shift
-    $CC_HOST -std=gnu11 -O1 $strict -Iinclude -o "$room/$out" "$@" build/libfox.a
+    $CC_HOST -std=gnu11 -O1 $strict -Iinclude -o "$room/$out" "$@" "$OUT/libfox.a"
 }
 
 compiled_and_right() { # PROGRAM SOURCE WORDS..: it says by its exit status whether all is right

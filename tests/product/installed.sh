@@ -1,68 +1,76 @@
-# Sourced by tests/product.sh: what make makes anew, installs, takes away and shows, and what it says where it cannot.
+# Sourced by tests/product.sh: what make installs and takes away, and programs made from the installed files alone.
 
-makes_nothing() {
-    make -q || {
-        echo "a second make would do:"
-        make -n
-        return 1
-    }
-}
-
-# A changed file leads to each step that depends on it.
-remakes() { # FILE STEP..
-    changed=$1
-    shift
-    make -n -W "$changed" >"$room/remade"
-    for step; do
-        grep -q "build.sh $step " "$room/remade" || {
-            echo "make with another $changed does not make: $step"
-            return 1
-        }
-    done
-}
-
-remade_by_need() {
-    remakes crates/fox_station/src/lib.rt station library program &&
-        remakes c/fox_refusal_text.c object library program &&
-        remakes include/fox.h object library program && remakes examples/stretch.c program
-}
+version=$(sed -n 's/^VERSION = //p' Makefile) soname=$(sed -n 's/^SONAME = //p' Makefile)
 
 # Installed under a mask that would shut others out.
 installs() {
     (umask 077 && make install "PREFIX=$room/prefix") || return 1
-    expected="$(printf '%s\n' ./include/fox.h ./lib/libfox.a ./lib/pkgconfig/fox.pc)"
+    expected="$(printf '%s\n' ./include/fox.h ./lib/libfox.a "./lib/libfox.so.$version" ./lib/libfox_card.a \
+        ./lib/pkgconfig/fox.pc ./lib/pkgconfig/fox_card.pc)"
     same_text "$expected" "$(cd "$room/prefix" && find . -type f -perm 644 | sort)" &&
         same_text "4" "$(find "$room/prefix" -type d -perm 755 | wc -l | tr -d ' ')" &&
-        cmp build/libfox.a "$room/prefix/lib/libfox.a" && cmp include/fox.h "$room/prefix/include/fox.h"
+        same_text "libfox.so.$version" "$(readlink "$room/prefix/lib/$soname")" &&
+        same_text "$soname" "$(readlink "$room/prefix/lib/libfox.so")" || return 1
+    for file in libfox.a libfox_card.a "libfox.so.$version"; do
+        cmp "$OUT/$file" "$room/prefix/lib/$file" || return 1
+    done
+    cmp include/fox.h "$room/prefix/include/fox.h"
 }
 
-# The flags that fox.pc asks for, taken out of it without pkg-config.
-flags_by_sed() {
-    prefix=$(sed -n 's/^prefix=//p' "$room/prefix/lib/pkgconfig/fox.pc")
-    sed -n -e 's/^Cflags: //p' -e 's/^Libs: //p' "$room/prefix/lib/pkgconfig/fox.pc" |
+# The flags that a file for pkg-config asks for, taken out of it by hand.
+flags_by_sed() { # NAME
+    file=$room/prefix/lib/pkgconfig/$1.pc
+    prefix=$(sed -n 's/^prefix=//p' "$file")
+    sed -n -e 's/^Cflags: //p' -e 's/^Libs: //p' "$file" |
         sed -e "s|\${includedir}|$prefix/include|" -e "s|\${libdir}|$prefix/lib|" | tr '\n' ' '
 }
 
-flags_by_pkg_config() {
-    PKG_CONFIG_PATH='' PKG_CONFIG_LIBDIR="$room/prefix/lib/pkgconfig" pkg-config --cflags --libs fox
+flags_by_pkg_config() { # NAME
+    PKG_CONFIG_PATH='' PKG_CONFIG_LIBDIR="$room/prefix/lib/pkgconfig" pkg-config --cflags --libs "$1"
 }
 
-# Away from the repository, so that nothing but the installed files is there.
-builds_by() { # COMMAND: prints the flags
-    flags=$("$1") || return 1
+# Away from the repository, so that nothing but the installed files is there. Where both kinds of library are found, the
+# linker takes the shared one unless it is told otherwise.
+builds_by() ( # COMMAND archive|shared: the command prints the flags
+    flags=$("$1" fox) && card_flags=$("$1" fox_card) || return 1
     mkdir -p "$room/away"
-    cp tests/product/joined.c tests/product/joined_other.c "$room/away"
-    (cd "$room/away" && joined "$CC_HOST" "-std=c99 $flags" . $flags)
+    cp tests/product/joined.c tests/product/joined_other.c tests/product/card.c "$room/away"
+    cd "$room/away" || return 1
+    if [ "$2" = archive ]; then
+        words=$flags
+        [ "$PROCESSOR" != "$MACHINE" ] || words="-Wl,-Bstatic $flags -Wl,-Bdynamic"
+        joined "$CC_HOST" "-std=c99 $flags" . $words && needs_shared '' &&
+            $CC_HOST -std=c99 $strict -o "$room/card" card.c $card_flags &&
+            same_text "B85D6B766DCE952E sealed and opened" "$(run_host "$room/card")"
+    else
+        export LD_LIBRARY_PATH="$room/prefix/lib"
+        joined "$CC_HOST" "-std=c99 $flags" . $flags && needs_shared "$soname"
+    fi
+)
+
+needs_shared() { # SONAME: that one of ours, or none
+    same_text "$1" "$($(tool objdump) -p "$room/joined" | awk '$1 == "NEEDED" && /fox/ { print $2 }')"
+}
+
+# Programs for an emulator are linked statically, so the shared library is tried on the machine's own processor alone.
+builds_from_both() { # WORDS COMMAND
+    check "a program from the installed archives, by $1" builds_by "$2" archive
+    [ "$PROCESSOR" != "$MACHINE" ] || check "a program from the installed shared library, by $1" builds_by "$2" shared
 }
 
 says_its_version() {
-    same_text "$(sed -n 's/^VERSION = //p' Makefile)" "$(sed -n 's/^Version: //p' "$room/prefix/lib/pkgconfig/fox.pc")"
+    for file in fox fox_card; do
+        same_text "$version" "$(sed -n 's/^Version: //p' "$room/prefix/lib/pkgconfig/$file.pc")" || return 1
+    done
+    said=$($(tool objdump) -p "$OUT/libfox.so" | awk '$1 == "SONAME" { print $2 }')
+    same_text "$soname" "$said"
 }
 
 stages() {
     make install "DESTDIR=$room/stage" PREFIX=/opt/fox || return 1
     same_text "prefix=/opt/fox" "$(grep '^prefix=' "$room/stage/opt/fox/lib/pkgconfig/fox.pc")" &&
-        [ -f "$room/stage/opt/fox/lib/libfox.a" ] && [ -f "$room/stage/opt/fox/include/fox.h" ]
+        [ -f "$room/stage/opt/fox/lib/libfox.a" ] && [ -f "$room/stage/opt/fox/lib/libfox.so" ] &&
+        [ -f "$room/stage/opt/fox/include/fox.h" ]
 }
 
 uninstalls() {
@@ -71,47 +79,13 @@ uninstalls() {
     same_text "$room/prefix/lib/other" "$(find "$room/prefix" "$room/stage" ! -type d)"
 }
 
-# With only these tools on the PATH there is neither the kit nor a compiler; uname says what it is told to.
-cannot_make() { # STEP PROCESSOR COMPILER TEXT: that step fails and says so
-    mkdir -p "$room/bare"
-    for tool in sh mkdir cat tail tee; do
-        ln -sf "$(command -v "$tool")" "$room/bare/$tool"
-    done
-    printf '#!/bin/sh\necho %s\n' "$2" >"$room/bare/uname"
-    chmod +x "$room/bare/uname"
-    if (export CC="$3" PATH="$room/bare" && sh c/build.sh "$1" "$room/none" c/fox_refusal_text.c) 2>"$room/error"; then
-        echo "it went on"
-        return 1
-    fi
-    cat "$room/error"
-    grep -q "$4" "$room/error" && [ ! -f "$room/none" ]
-}
-
-# The bench program's answer, and the stretch that was opened.
-shows() {
-    make run >"$room/run" 2>&1 && grep -qx '    block=B85D6B766DCE952E' "$room/run" &&
-        grep -q '^They agree in each of their [1-9]' "$room/run" && return
-    tail -n 5 "$room/run"
-    return 1
-}
-
-check "a second make does nothing" makes_nothing
-check "a changed file is made anew, with all that stands on it" remade_by_need
-check "make install: three files, readable by all" installs
+check "make install: the libraries, the header and the files for pkg-config, readable by all" installs
 if command -v pkg-config >/dev/null 2>&1; then
-    check "a program from the installed files alone, by pkg-config" builds_by flags_by_pkg_config
+    builds_from_both pkg-config flags_by_pkg_config
 else
-    left_out "pkg-config" "there is none"
+    left_out product "programs by pkg-config" "there is none (Debian: pkg-config)"
 fi
-check "a program from the installed files alone, by the flags in fox.pc" builds_by flags_by_sed
-check "fox.pc says the version" says_its_version
+builds_from_both "the flags in the files for it" flags_by_sed
+check "the files for pkg-config say the version, and the shared library its soname" says_its_version
 check "make install below DESTDIR, which fox.pc does not name" stages
 check "make uninstall leaves none of its files, and all others" uninstalls
-check "without a cross compiler make fails and says so" cannot_make object unknown gcc "unknown, x86_64-linux-gnu-gcc"
-check "without a C compiler make fails and says so" cannot_make object x86_64 gcc "no gcc on the PATH"
-check "without the Rattle kit make fails and says so" cannot_make station x86_64 sh "no rt on the PATH"
-if [ -d crates/fox_bench ]; then
-    check "make run shows the main job and ends well" shows
-else
-    left_out "make run" "there is no crate fox_bench"
-fi

@@ -23,14 +23,36 @@ joined() { # COMPILER COMPILE-WORDS FOLDER LINK-WORDS..: two files that include 
     same_text "$(printf '200E1F5847D8A2CE opened\n%s' "$(run_host "$room/texts" 2)")" "$(run_host "$room/joined")"
 }
 
-# The archive defines what the header declares and nothing else, so that it cannot clash with a program's own names.
-symbols() {
-    lister=$($CC_HOST -print-prog-name=nm)
-    grep -o 'fox_[a-z_]*(' include/fox.h | tr -d '(' | sort >"$room/declared"
-    "$lister" -g build/libfox.a | awk 'NF == 3 { print $3 }' | sort >"$room/defined"
-    same_text "$(cat "$room/declared")" "$(cat "$room/defined")" || return 1
-    "$lister" -gu build/libfox.a | awk '$1 == "U" && $2 !~ /^_/ { print $2 }' | sort -u >"$room/wanted"
-    same_text "$(printf 'memcpy\nmemset')" "$(cat "$room/wanted")"
+declared() { # EXPRESSION: the calls of the header that it matches
+    grep -o 'fox_[a-z_]*(' include/fox.h | tr -d '(' | grep -E "$1" | sort
+}
+
+# It defines those calls and nothing else, so that it cannot clash with a program's own names.
+symbols() { # LIBRARY EXPRESSION WORDS..: those of nm
+    library=$OUT/$1 calls=$2
+    shift 2
+    lister=$(tool nm)
+    "$lister" -g "$@" "$library" | awk 'NF == 3 && $2 == "T" { print $3 }' | sort >"$room/defined"
+    same_text "$(declared "$calls")" "$(cat "$room/defined")" || return 1
+    "$lister" -gu "$@" "$library" | awk '$1 == "U" && $2 !~ /^_/ { sub(/@.*/, "", $2); print $2 }' | sort -u >"$room/wanted"
+    same_text '' "$(grep -v -x -e memcpy -e memset "$room/wanted")"
+}
+
+text_of() { # FILE: bytes of code and constants
+    $(tool size) "$1" | awk 'NR > 1 { sum += $1 } END { print sum }'
+}
+
+# A card's program has no part of the server's way in it, neither by the card's library nor, where the linker takes out what
+# is not reached, by the whole one.
+card_alone() {
+    for library in libfox_card.a "libfox.a -Wl,--gc-sections"; do
+        $CC_HOST -std=c99 -O1 $strict -Iinclude -o "$room/card" tests/product/card.c "$OUT/"$library || return 1
+        same_text "B85D6B766DCE952E sealed and opened" "$(run_host "$room/card")" || return 1
+        ! $(tool nm) "$room/card" | grep fox_server || return 1
+    done
+    text=$(text_of "$OUT/libfox_card.a")
+    echo "the card's library has $text bytes of code and constants"
+    [ "$text" -lt 40000 ] && [ "$((text * 4))" -lt "$(text_of "$OUT/libfox.a")" ]
 }
 
 readme_block() { # MARK: the block of README.md that is marked so, the first for C or the next after that
@@ -41,34 +63,44 @@ readme_block() { # MARK: the block of README.md that is marked so, the first for
         on' README.md
 }
 
+# As printed, in a folder with the names that the command has.
 readme_example() {
-    readme_block c >"$room/readme.c"
+    readme_block c >"$room/example.c"
     readme_block text >"$room/readme.shown"
-    [ -s "$room/readme.c" ] && [ -s "$room/readme.shown" ] || {
-        echo "README.md has no block marked c, or none marked text after it"
+    command=$(sed -n 's/^    \(gcc example.c .*\)$/\1/p' README.md)
+    [ -s "$room/example.c" ] && [ -s "$room/readme.shown" ] && [ -n "$command" ] || {
+        echo "README.md has no block marked c, none marked text after it, or no command that compiles example.c"
         return 1
     }
-    $CC_HOST -std=c99 -Wall -Wextra -Wpedantic -Werror -Iinclude -o "$room/readme" "$room/readme.c" build/libfox.a &&
-        run_host "$room/readme" >"$room/readme.out" && diff "$room/readme.shown" "$room/readme.out"
+    if [ "$PROCESSOR" = "$MACHINE" ]; then
+        ln -s "$PWD/include" "$PWD/build" "$room"
+        (cd "$room" && sh -c "$command") >"$room/readme.out"
+    else
+        $CC_HOST -std=c99 -Iinclude -o "$room/readme" "$room/example.c" "$OUT/libfox.a" && run_host "$room/readme" >"$room/readme.out"
+    fi && diff "$room/readme.shown" "$room/readme.out" &&
+        $CC_HOST -std=c99 -Wall -Wextra -Wpedantic -Werror -Iinclude -fsyntax-only "$room/example.c"
 }
 
 check "every refusal's text is there, names what is right, and is no other's" compiled_and_right texts tests/product/texts.c
 check "the header alone in C99, C11 and C17" header_alone "$CC_HOST" c c99 c11 c17
-check "two files that include the header, in C99" joined "$CC_HOST" "-std=c99 -Iinclude" tests/product build/libfox.a
+check "two files that include the header, in C99" joined "$CC_HOST" "-std=c99 -Iinclude" tests/product "$OUT/libfox.a"
 if command -v "${CXX_HOST%% *}" >/dev/null 2>&1; then
     check "the header alone in C++98, C++11 and C++17" header_alone "$CXX_HOST" c++ c++98 c++11 c++17
     check "two files that include the header, in C++98" \
-        joined "$CXX_HOST" "-x c++ -std=c++98 -Iinclude" tests/product build/libfox.a
+        joined "$CXX_HOST" "-x c++ -std=c++98 -Iinclude" tests/product "$OUT/libfox.a"
 else
-    left_out "the header in C++" "there is no ${CXX_HOST%% *}"
+    left_out product "the header in C++" "there is no ${CXX_HOST%% *} (Debian: g++$DEBIAN)"
 fi
 if command -v clang >/dev/null 2>&1; then
     check "the header alone in C99 and C17, by clang" header_alone clang c c99 c17
     check "the header alone in C++98 and C++17, by clang" header_alone clang c++ c++98 c++17
 else
-    left_out "the header by clang" "there is no clang"
+    left_out product "the header by clang" "there is no clang (Debian: clang)"
 fi
-check "the archive defines what the header declares, and nothing else" symbols
+check "the archive defines what the header declares, and nothing else" symbols libfox.a .
+check "the card's archive defines the card's calls, and nothing else" symbols libfox_card.a 'fox_card|text'
+check "the shared library defines what the header declares, and nothing else" symbols libfox.so . -D
+check "a card's program has nothing of the server's in it" card_alone
 check "every call on vectors, refusals and limits" compiled_and_right calls tests/product/calls.c
 check "four threads at once get the bytes that one alone gets" compiled_and_right threads tests/product/threads.c -pthread
 check "the C example of README.md is compiled as printed and prints what is shown" readme_example

@@ -1,4 +1,4 @@
-# Sourced by tests/product.sh after trouble.sh: the progress line of build/stretch, on a terminal and elsewhere.
+# Sourced by tests/product.sh after trouble.sh: the progress line of stretch, on a terminal and elsewhere.
 # The program that makes the terminal is for this processor, as the shell is.
 
 long_last=9999999
@@ -7,7 +7,7 @@ head -c $((long_last + 1)) /dev/zero >"$room/long"
 on_terminal() { # OUT WORDS..: what came on the terminal is in the file shown
     out=$1
     shift
-    "$room/terminal" "$out" $EMULATOR ./build/stretch "$@" >"$room/shown"
+    "$room/terminal" "$out" $EMULATOR "./$OUT/stretch" "$@" >"$room/shown"
 }
 
 # Rewritten in place: no line's end, more than one text between returns, and in the end blanks over the whole of the last.
@@ -50,6 +50,6 @@ if ${CC:-gcc} -std=gnu11 $strict -o "$room/terminal" tests/product/terminal.c 2>
     check "stretch: short work on a terminal shows nothing" shows_nothing_of_short_work
     check "stretch: a message comes on a cleared line" clears_before_trouble
 else
-    left_out "stretch: progress on a terminal" "there is no ${CC:-gcc} for this processor"
+    left_out product "stretch: progress on a terminal" "${CC:-gcc} makes no program for this machine"
 fi
 check "stretch: long work shows nothing where there is no terminal" shows_nothing_elsewhere

@@ -1,11 +1,11 @@
-# Sourced by tests/product.sh: what build/stretch seals and opens.
+# Sourced by tests/product.sh: what stretch seals and opens.
 
 key64=00112233445566778899AABBCCDDEEFF counter64=0123456789ABCDEF
 key128=00112233445566778899aabbccddeeffffeeddccbbaa99887766554433221100 counter128=0123456789ABCDEFFEDCBA98FFFFFF00
 size=200001 last=200000
 
 stretch() {
-    run_host ./build/stretch "$@"
+    run_host "./$OUT/stretch" "$@"
 }
 
 # In a list of numbers no stretch comes twice, so one that is off by a byte or a piece shows.

@@ -1,4 +1,4 @@
-# Sourced by tests/product.sh after stretch.sh: what build/stretch says and does where it cannot serve.
+# Sourced by tests/product.sh after stretch.sh: what stretch says and does where it cannot serve.
 
 served="64 16 $key64 $counter64"
 
@@ -6,7 +6,7 @@ served="64 16 $key64 $counter64"
 says() { # STATUS TEXT WORDS..
     asked=$1 text=$2
     shift 2
-    timeout 20 $EMULATOR ./build/stretch "$@" >"$room/out" 2>"$room/error"
+    timeout 20 $EMULATOR "./$OUT/stretch" "$@" >"$room/out" 2>"$room/error"
     told "$asked" "$text" "$?" && same_text 1 "$(wc -l <"$room/error" | tr -d ' ')"
 }
 

@@ -1,4 +1,2 @@
-// The station's library: the calls on numbers and byte slices that its C program makes. Each hands back the refusal number, 0 for success, from which
-// the count follows: the output length, or 0. The server's way prepares the key within the call.
-pub mod block;
-pub mod run;
+// No code: specs/Exports.antt has what the calls that C programs make promise. Each engine's calls are a crate apart, fox_station_card and
+// fox_station_server, so that a program for one has nothing of the other's in it.

@@ -1,9 +1,9 @@
-// One block, sealed and opened by either way.
-ghost use Rattle.fox_station.specs.Exports.{OpenHanded, SealHanded};
+// The station's calls by the card's way, on numbers and byte slices. Each hands back the refusal number, 0 for success, from which the count follows: the
+// output length, or 0.
+ghost use Rattle.fox_station.specs.Exports.{OpenHanded, RunHanded, SealHanded};
 use fox_card::block::open;
 use fox_card::block::seal;
-use fox_server::block::open_from_key;
-use fox_server::block::seal_from_key;
+use fox_card_run::run::run;
 
 #[no_mangle]
 pub extern "C" fn fox_card_seal_block(
@@ -34,29 +34,17 @@ pub extern "C" fn fox_card_open_block(
 }
 
 #[no_mangle]
-pub extern "C" fn fox_server_seal_block(
+pub extern "C" fn fox_card_run(
     cipher: u32,
     rounds: u32,
     key: &[u8],
-    block: &[u8],
+    counter: &[u8],
+    offset: u64,
+    input: &[u8],
     out: &mut [u8],
 ) -> u32
-    ensures { λ r. ⌜ SealHanded cipher rounds (now (key .entry)) (now (block .entry)) (now (out .entry)) (now (out .exit)) r ⌝ }
+    ensures { λ r. ⌜ RunHanded cipher rounds (now (key .entry)) (now (counter .entry)) offset (now (input .entry)) (now (out .entry)) (now (out .exit)) r ⌝ }
 {
-    let answer = seal_from_key(cipher, rounds, key, block, out);
-    answer.refusal
-}
-
-#[no_mangle]
-pub extern "C" fn fox_server_open_block(
-    cipher: u32,
-    rounds: u32,
-    key: &[u8],
-    block: &[u8],
-    out: &mut [u8],
-) -> u32
-    ensures { λ r. ⌜ OpenHanded cipher rounds (now (key .entry)) (now (block .entry)) (now (out .entry)) (now (out .exit)) r ⌝ }
-{
-    let answer = open_from_key(cipher, rounds, key, block, out);
+    let answer = run(cipher, rounds, key, counter, offset, input, out);
     answer.refusal
 }
