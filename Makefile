@@ -87,6 +87,7 @@ host:
 count:
 	@sh tests/instructions.sh
 	@sh tests/measure.sh
+	@sh tests/sizes.sh
 
 speed:
 	@sh tests/speed.sh

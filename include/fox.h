@@ -1,5 +1,6 @@
 /* FOX64 and FOX128 for the station's C programs: one block sealed and opened, and any stretch of a run in counter mode.
- * Link with libfox.a, which is x86-64 code. C99 and C++.
+ * Link with libfox.a or libfox.so; or with libfox_card.a, which has the calls named fox_card_ and fox_refusal_text alone, and a ninth of
+ * the code. C99 and C++.
  *
  * There are two ways to do the same work, the card's (fox_card_...) and the server's (fox_server_...). Both give the same
  * answer and the same bytes for the same parameters, so what one seals the other opens. The card's way keeps no list of

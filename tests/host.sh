@@ -21,9 +21,10 @@ made() { # PART FILE..: has make make these in the folder OUT, or ends the part
     shift
     sh tools/needs.sh || failed_to "$part" "something is missing that it cannot do without"
     for file; do
-        make --no-print-directory "$OUT/$file" >"target/log/$file.made" 2>&1 || {
-            tail -n 5 "target/log/$file.made"
-            failed_to "$part" "$OUT/$file was not made"
-        }
+        make --no-print-directory -s "$OUT/$file" || failed_to "$part" "$OUT/$file was not made"
     done
+}
+
+text_of() { # FILE: its bytes of code and constants
+    $(tool size) "$1" | awk 'NR > 1 { sum += $1 } END { print sum }'
 }

@@ -6,10 +6,7 @@ cd "$(dirname "$0")/.." || exit 2
 . tests/host.sh
 
 program=target/bin/fox_bench
-sh tools/bench.sh <examples/sheet.txt >target/log/fox_bench.sheets 2>&1 || {
-    tail -n 5 target/log/fox_bench.sheets
-    failed_to sheets "the bench program was not built or does not run"
-}
+sh tools/bench.sh <examples/sheet.txt >target/log/fox_bench.sheets || failed_to sheets "the bench program was not built or does not run"
 $CC_HOST -std=gnu11 -O1 -Wall -Wextra -Werror -o "$OUT/sheets" \
     $s/sheets.c $s/written.c $s/program.c $s/chance.c $s/tally.c $s/sheet.c $second ||
     failed_to sheets "tests/second/sheets.c was not built"

@@ -30,7 +30,9 @@ so_far() {
 news() {
     left=''
     for crate in $waiting; do
-        case $(cat "target/log/$crate.res" 2>/dev/null) in
+        word=''
+        [ ! -f "target/log/$crate.res" ] || read -r word <"target/log/$crate.res"
+        case $word in
             '') left="$left $crate" ;;
             failed)
                 case " $taken " in

@@ -114,6 +114,18 @@ optional_told() {
     done
 }
 
+# Where packages cannot be installed, .ci/run shows what was said and goes on; apt-get and make are stand-ins.
+ci_shows_why() {
+    without g++ apt-get make
+    printf '#!/bin/sh\necho "E: no such archive"\nexit 100\n' >"$room/bare/apt-get"
+    printf '#!/bin/sh\necho "1 passed, 0 failed"\n' >"$room/bare/make"
+    chmod +x "$room/bare/apt-get" "$room/bare/make"
+    PATH="$room/bare" sh .ci/run >"$room/out" 2>&1 || return 1
+    cat "$room/out"
+    grep -q '^could not be installed: g++' "$room/out" && grep -qx '    E: no such archive' "$room/out" &&
+        same_text "1 passed, 0 failed" "$(tail -n 1 "$room/out")"
+}
+
 check "a second make does nothing" makes_nothing
 check "a changed file is made anew, with all that stands on it" remade_by_need
 check "make run shows the main job and ends well" shows
@@ -123,3 +135,4 @@ check "without the Rattle kit it is said at once" missing "the Rattle kit: there
 check "without a C compiler it is said at once" missing "there is no C compiler $CC_PLAIN on the PATH (Debian: gcc)" "$CC_PLAIN"
 check "with a C compiler that makes no program it is said at once" cannot_compile
 check "what only some tests want is said at once" optional_told
+check "where packages cannot be installed .ci/run shows what was said" ci_shows_why

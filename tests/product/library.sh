@@ -38,10 +38,6 @@ symbols() { # LIBRARY EXPRESSION WORDS..: those of nm
     same_text '' "$(grep -v -x -e memcpy -e memset "$room/wanted")"
 }
 
-text_of() { # FILE: bytes of code and constants
-    $(tool size) "$1" | awk 'NR > 1 { sum += $1 } END { print sum }'
-}
-
 # A card's program has no part of the server's way in it, neither by the card's library nor, where the linker takes out what
 # is not reached, by the whole one.
 card_alone() {
