@@ -114,6 +114,23 @@ optional_told() {
     done
 }
 
+# Two small crates, of which the second is not proved: a sum that can wrap.
+shows_proving() {
+    try=$room/proving
+    mkdir -p "$try/crates/first/src" "$try/crates/then/src"
+    cp -r tools "$try"
+    printf 'first:\nthen: first\n' >"$try/crates.txt"
+    echo 'pub fn same(x: u32) -> u32 { x }' >"$try/crates/first/src/lib.rt"
+    echo 'pub fn next(x: u32) -> u32 { first::same(x) + 1 }' >"$try/crates/then/src/lib.rt"
+    if sh "$try/tools/prove.sh" then >"$room/out" 2>&1; then
+        echo "it went on"
+        return 1
+    fi
+    cat "$room/out"
+    grep -q '^    proving first, 1 of 2, 0 min [0-9]* s so far$' "$room/out" &&
+        grep -q '^    proving then, 2 of 2, 0 min [0-9]* s so far$' "$room/out" && grep -q 'then NOT PROVED' "$room/out"
+}
+
 # Where packages cannot be installed, .ci/run shows what was said and goes on; apt-get and make are stand-ins.
 ci_shows_why() {
     without g++ apt-get make
@@ -135,4 +152,5 @@ check "without the Rattle kit it is said at once" missing "the Rattle kit: there
 check "without a C compiler it is said at once" missing "there is no C compiler $CC_PLAIN on the PATH (Debian: gcc)" "$CC_PLAIN"
 check "with a C compiler that makes no program it is said at once" cannot_compile
 check "what only some tests want is said at once" optional_told
+check "while crates are proved it is said which, how many of how many, and how long so far" shows_proving
 check "where packages cannot be installed .ci/run shows what was said" ci_shows_why
