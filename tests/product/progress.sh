@@ -38,6 +38,7 @@ clears_before_trouble() {
     reader=$!
     on_terminal "$room/reader" $served 0 "$long_last" "$room/long"
     status=$?
+    kill "$reader" 2>/dev/null # which waits for ever where nothing opened the pipe
     wait "$reader"
     tr '\r' '\n' <"$room/shown" | sed '/^$/d' >"$room/lines"
     cat "$room/lines"
@@ -45,11 +46,11 @@ clears_before_trouble() {
         same_text "stretch: standard output cannot be written: Broken pipe" "$(tail -n 1 "$room/lines")"
 }
 
-if ${CC:-gcc} -std=gnu11 $strict -o "$room/terminal" tests/product/terminal.c 2>"$room/said"; then
+if ${CC:-gcc} -std=gnu11 $strict -o "$room/terminal" tests/product/terminal.c && "$room/terminal" /dev/null true; then
     check "stretch: long work on a terminal shows how far it is, in place, and clears it" shows_and_clears
     check "stretch: short work on a terminal shows nothing" shows_nothing_of_short_work
     check "stretch: a message comes on a cleared line" clears_before_trouble
 else
-    left_out product "stretch: progress on a terminal" "${CC:-gcc} makes no program for this machine"
+    left_out product "stretch: progress on a terminal" "this machine hands out no terminal (is /dev/pts there?)"
 fi
 check "stretch: long work shows nothing where there is no terminal" shows_nothing_elsewhere
