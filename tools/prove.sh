@@ -53,7 +53,7 @@ watch() { # PROCESS: says the news until its status is there, or it has gone
     number=0 waiting=$crates taken=''
     while [ ! -f "$status" ] && kill -0 "$1" 2>/dev/null; do
         news
-        sleep 1
+        sleep 0.4 2>/dev/null || sleep 1
     done
 }
 

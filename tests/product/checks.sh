@@ -2,14 +2,14 @@
 passed=0 failed=0
 
 check() { # NAME COMMAND..: passes where the command, which may be a function, succeeds
-    name=$1
+    checked=$1
     shift
     if "$@" >"$room/said" 2>&1; then
         passed=$((passed + 1))
-        echo "product: $name"
+        echo "product: $checked"
     else
         failed=$((failed + 1))
-        echo "product: $name: FAILED"
+        echo "product: $checked: FAILED"
         head -n 10 "$room/said" | sed 's/^/    /'
     fi
 }
