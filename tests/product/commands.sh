@@ -66,7 +66,7 @@ without() { # NAME..
     for name; do rm -f "$room/bare/$name"; done
 }
 
-# It ends in two seconds with these words, and nothing was proved or made.
+# It ends in some seconds with these words, and nothing was proved or made.
 says_missing() { # TEXT WORDS..: those of make
     text=$1
     shift
@@ -78,7 +78,7 @@ says_missing() { # TEXT WORDS..: those of make
     fi
     took=$(($(date +%s) - since))
     cat "$room/error"
-    [ "$took" -le 2 ] || {
+    [ "$took" -le 5 ] || {
         echo "make $* took $took s to say so"
         return 1
     }
