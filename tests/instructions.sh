@@ -6,7 +6,7 @@ set -u
 cd "$(dirname "$0")/.." || exit 2
 . tests/host.sh
 made instructions libfox_probe.a
-"$(tool objdump)" -d --no-show-raw-insn "$OUT/libfox_probe.a" >target/log/fox_probe.code ||
+"$(tool objdump)" -d --no-show-raw-insn "$OUT/libfox_probe.a" >"$OUT/fox_probe.code" ||
     failed_to instructions "the code was not disassembled"
 
 case $PROCESSOR in
@@ -18,10 +18,10 @@ passed=0 failed=0
 while read -r symbol x86_64 aarch64; do
     case $symbol in '' | '#'*) continue ;; esac
     [ "$PROCESSOR" = x86_64 ] && limit=$x86_64 || limit=$aarch64
-    awk -v s="<$symbol>:" '$2 == s { on = 1; next } on && /^$/ { exit } on && /^ / { print }' target/log/fox_probe.code \
-        >target/log/fox_probe.symbol
-    count=$(($(wc -l <target/log/fox_probe.symbol)))
-    if grep -Eq "[[:space:]]$jumps[[:space:]]" target/log/fox_probe.symbol; then
+    awk -v s="<$symbol>:" '$2 == s { on = 1; next } on && /^$/ { exit } on && /^ / { print }' "$OUT/fox_probe.code" \
+        >"$OUT/fox_probe.symbol"
+    count=$(($(wc -l <"$OUT/fox_probe.symbol")))
+    if grep -Eq "[[:space:]]$jumps[[:space:]]" "$OUT/fox_probe.symbol"; then
         failed=$((failed + 1))
         echo "instructions: $symbol calls or jumps: FAILED"
     elif [ "$count" -gt 0 ] && [ "$count" -lt "$limit" ]; then

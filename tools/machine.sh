@@ -29,14 +29,6 @@ else
     done
 fi
 
-# rt waits for the slowest of the crates or edits that it started together, so three times as many as there are cores keep these
-# at work; each takes up to a gigabyte.
-if [ -z "${RT_JOBS:-}" ] && [ -r /proc/meminfo ]; then
-    RT_JOBS=$(awk -v jobs="$((3 * $(nproc)))" '/^MemAvailable:/ { most = int($2 / 1048576) }
-        END { print most < 1 ? 1 : most < jobs ? most : jobs }' /proc/meminfo)
-    export RT_JOBS
-fi
-
 other_processor() {
     case $MACHINE in
         x86_64) echo aarch64 ;;
