@@ -1,11 +1,13 @@
 #!/bin/sh
-# Proves crates with all that they stand on, as many at once as there are cores: sh tools/prove.sh CRATE..
+# Proves crates with all that they stand on, several at once: sh tools/prove.sh CRATE..
 # Says which crate is being proved, how many of how many that makes, and the time so far; all that rt says is in target/log.
 set -u
 cd "$(dirname "$0")/.." || exit 2
 . tools/machine.sh
 log=target/log/prove.said status=target/log/prove.status
 began=$(date +%s)
+# rt waits for the slowest of the crates that it started together, so that some more than there are cores keep these at work.
+export RT_JOBS="${RT_JOBS:-$((2 * $(nproc)))}"
 
 closure() { # CRATE..: each after all that it stands on
     awk -v wanted="$*" '

@@ -83,7 +83,7 @@ says_missing() { # TEXT WORDS..: those of make
         return 1
     }
     grep -qF -- "$text" "$room/error" || return 1
-    same_text '' "$(find target build -newer "$room/before" -name '*.[ao]' -o -newer "$room/before" -name '*.res')"
+    same_text '' "$(find target/log "$OUT" -maxdepth 1 -newer "$room/before" \( -name '*.[ao]' -o -name '*.res' \))"
 }
 
 missing() { # TEXT NAME..: the commands that are missing
