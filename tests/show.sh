@@ -21,7 +21,7 @@ shown() { # WORDS..: a command as it would be typed
 
 prove() {
     sh tools/needs.sh || stop "something is missing that it cannot do without"
-    echo "Proving and building the bench program and the library: some three minutes the first time, on two cores, and seconds after."
+    echo "Proving and building the bench program and the library: three to five minutes the first time, on two cores, and seconds after."
     sh tools/prove.sh fox_bench $(sed -n 's/^fox_station_[a-z]*: *//p' crates.txt) || stop "not all was proved"
     touch -c target/bin/fox_bench
     make --no-print-directory -s all || stop "the library was not built"
