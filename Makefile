@@ -32,7 +32,7 @@ help:
 	@echo "make test       the whole gate: rt ci, which proves all, and the host tests"
 	@echo "make host       the host tests alone, on what they link and run"
 	@echo "make vectors    the compiled ciphers on the specification's vectors"
-	@echo "make count      instructions and stack of the compiled code"
+	@echo "make count      instructions, stack and size of the compiled code"
 	@echo "make speed      the library's speed beside that of straight C code"
 	@echo "make fuzz       ten minutes of clang's fuzzer on the calls and the bench sheet"
 	@echo "make fmt        sets the Rattle code in its layout"
