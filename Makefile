@@ -110,8 +110,8 @@ install: $(LIBRARIES)
 	done
 
 uninstall:
-	cd "$(ROOT)" && rm -f lib/libfox.a lib/libfox_card.a lib/libfox.so.$(VERSION) lib/$(SONAME) lib/libfox.so \
-	    include/fox.h lib/pkgconfig/fox.pc lib/pkgconfig/fox_card.pc
+	for file in lib/libfox.a lib/libfox_card.a lib/libfox.so.$(VERSION) lib/$(SONAME) lib/libfox.so \
+	    include/fox.h lib/pkgconfig/fox.pc lib/pkgconfig/fox_card.pc; do rm -f "$(ROOT)/$$file"; done
 
 clean:
 	rm -rf target build

@@ -1,5 +1,5 @@
 /* FOX64 and FOX128 for the station's C programs: one block sealed and opened, and any stretch of a run in counter mode.
- * Link with libfox.a or libfox.so; or with libfox_card.a, which has the calls named fox_card_ and fox_refusal_text alone, and a ninth of
+ * Link with libfox.a or libfox.so. libfox_card.a has fox_refusal_text and the calls named fox_card_ alone, in a ninth of
  * the code. C99 and C++.
  *
  * There are two ways to do the same work, the card's (fox_card_...) and the server's (fox_server_...). Both give the same

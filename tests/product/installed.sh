@@ -76,7 +76,8 @@ stages() {
 uninstalls() {
     echo kept >"$room/prefix/lib/other"
     make uninstall "PREFIX=$room/prefix" && make uninstall "DESTDIR=$room/stage" PREFIX=/opt/fox || return 1
-    same_text "$room/prefix/lib/other" "$(find "$room/prefix" "$room/stage" ! -type d)"
+    same_text "$room/prefix/lib/other" "$(find "$room/prefix" "$room/stage" ! -type d)" &&
+        make uninstall "PREFIX=$room/nowhere" && [ ! -e "$room/nowhere" ]
 }
 
 check "make install: the libraries, the header and the files for pkg-config, readable by all" installs
@@ -88,4 +89,4 @@ fi
 builds_from_both "the flags in the files for it" flags_by_sed
 check "the files for pkg-config say the version, and the shared library its soname" says_its_version
 check "make install below DESTDIR, which fox.pc does not name" stages
-check "make uninstall leaves none of its files, and all others" uninstalls
+check "make uninstall leaves none of its files, and all others, and does nothing where there are none" uninstalls
