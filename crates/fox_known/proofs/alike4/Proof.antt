@@ -46,18 +46,5 @@ returns c = search needs
 
 pub alike4-spec : {M : Type 1} → statement M
 alike4-spec =
-    tie.close
-    (tie.spec
-    Inv-loop
-    μ-loop
-    tbs-requires
-    tbsm-requires
-    loop-holds
-    next-requires
-    cast-same4
-    same4-requires
-    add-alike
-    add-i
-    loop-less
-    loop-again
-    returns)
+    tie.close (tie.spec Inv-loop μ-loop tbs-requires tbsm-requires loop-holds next-requires cast-same4 same4-requires add-alike add-i loop-less
+    loop-again returns)

@@ -43,17 +43,5 @@ returns c = search needs
 
 pub alike8-spec : {M : Type 1} → statement M
 alike8-spec =
-    tie.close
-    (tie.spec
-    Inv-loop
-    μ-loop
-    tbs-requires
-    tbsm-requires
-    loop-holds
-    next-requires
-    same8-requires
-    add-alike
-    add-i
-    loop-less
-    loop-again
+    tie.close (tie.spec Inv-loop μ-loop tbs-requires tbsm-requires loop-holds next-requires same8-requires add-alike add-i loop-less loop-again
     returns)

@@ -56,16 +56,4 @@ returns c =
     at .loop .inv .1 ∙ ap (λ (n : ℕ). again128 (a .keys .now) (a .rounds) n (a .x)) all
 
 pub again128-spec : {M : Type 1} → statement M
-again128-spec =
-    tie.close
-    (tie.spec
-    Inv-loop
-    μ-loop
-    tbs-requires
-    tbsm-requires
-    loop-holds
-    seal128-requires
-    add-i
-    loop-less
-    loop-again
-    returns)
+again128-spec = tie.close (tie.spec Inv-loop μ-loop tbs-requires tbsm-requires loop-holds seal128-requires add-i loop-less loop-again returns)

@@ -56,16 +56,4 @@ returns c =
     at .loop .inv .1 ∙ ap (λ (n : ℕ). again64 (a .keys .now) (a .rounds) n (a .x)) all
 
 pub again64-spec : {M : Type 1} → statement M
-again64-spec =
-    tie.close
-    (tie.spec
-    Inv-loop
-    μ-loop
-    tbs-requires
-    tbsm-requires
-    loop-holds
-    seal64-requires
-    add-i
-    loop-less
-    loop-again
-    returns)
+again64-spec = tie.close (tie.spec Inv-loop μ-loop tbs-requires tbsm-requires loop-holds seal64-requires add-i loop-less loop-again returns)

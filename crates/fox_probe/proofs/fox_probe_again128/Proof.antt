@@ -7,12 +7,6 @@ use Rattle.fox_probe.specs.Again.{again128}
 use Rattle.fox_probe.proofs.fox_probe_again128.Statement.{statement}
 use Rattle.fox_probe.proofs.fox_probe_again128.Tie as tie
 
-new-requires : tie.Need-new-requires
-new-requires c κs = search needs
-
-again128-requires : tie.Need-again128-requires
-again128-requires c κs = search needs
-
 returns : tie.Need-returns
 returns c =
     let a = c .before .before .args in
@@ -20,4 +14,4 @@ returns c =
     (c .again128 .ensures ∙ ap (again128 (a .keys .now) 16 (a .blocks)) (λ i. record { ll = c .before .new .ensures .0 i; lr = c .before .new .ensures .1 i; rl = c .before .new .ensures .2 i; rr = c .before .new .ensures .3 i }))
 
 pub fox-probe-again128-spec : {M : Type 1} → statement M
-fox-probe-again128-spec = tie.close (tie.spec new-requires again128-requires returns)
+fox-probe-again128-spec = tie.close (tie.spec (λ c κs. search needs) (λ c κs. search needs) returns)

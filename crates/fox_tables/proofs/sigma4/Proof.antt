@@ -10,18 +10,6 @@ use Rattle.fox_layers.proofs.Laws.Xor.{running-total, done, _▸_, terms-summed
 use Rattle.fox_tables.proofs.sigma4.Statement.{statement}
 use Rattle.fox_tables.proofs.sigma4.Tie as tie
 
-of-moved-requires : tie.Need-of-moved-requires
-of-moved-requires c κs = search needs
-
-of-moved-requires-2 : tie.Need-of-moved-requires-2
-of-moved-requires-2 c κs = search needs
-
-of-moved-requires-3 : tie.Need-of-moved-requires-3
-of-moved-requires-3 c κs = search needs
-
-of-moved-requires-4 : tie.Need-of-moved-requires-4
-of-moved-requires-4 c κs = search needs
-
 returns : tie.Need-returns
 unfolding total picked
 returns c =
@@ -34,4 +22,4 @@ returns c =
     ∙ terms-summed (c3 .of-moved .ensures ▸ c2 .of-moved2 .ensures ▸ c1 .of-moved3 .ensures ▸ c .of-moved4 .ensures ▸ done))
 
 pub sigma4-spec : {M : Type 1} → statement M
-sigma4-spec = tie.close (tie.spec of-moved-requires of-moved-requires-2 of-moved-requires-3 of-moved-requires-4 returns)
+sigma4-spec = tie.close (tie.spec (λ c κs. search needs) (λ c κs. search needs) (λ c κs. search needs) (λ c κs. search needs) returns)

@@ -10,18 +10,6 @@ use Rattle.fox_layers.proofs.Laws.Xor.{running-total, done, _▸_, terms-summed
 use Rattle.fox_tables.proofs.sigma_mu4.Statement.{statement}
 use Rattle.fox_tables.proofs.sigma_mu4.Tie as tie
 
-of-joined4-requires : tie.Need-of-joined4-requires
-of-joined4-requires c κs = search needs
-
-of-joined4-requires-2 : tie.Need-of-joined4-requires-2
-of-joined4-requires-2 c κs = search needs
-
-of-joined4-requires-3 : tie.Need-of-joined4-requires-3
-of-joined4-requires-3 c κs = search needs
-
-of-joined4-requires-4 : tie.Need-of-joined4-requires-4
-of-joined4-requires-4 c κs = search needs
-
 returns : tie.Need-returns
 unfolding total gathered
 returns c =
@@ -43,11 +31,4 @@ returns c =
     ▸ done))
 
 pub sigma-mu4-spec : {M : Type 1} → statement M
-sigma-mu4-spec =
-    tie.close
-    (tie.spec
-    of-joined4-requires
-    of-joined4-requires-2
-    of-joined4-requires-3
-    of-joined4-requires-4
-    returns)
+sigma-mu4-spec = tie.close (tie.spec (λ c κs. search needs) (λ c κs. search needs) (λ c κs. search needs) (λ c κs. search needs) returns)

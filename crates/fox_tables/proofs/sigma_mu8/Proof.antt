@@ -10,30 +10,6 @@ use Rattle.fox_layers.proofs.Laws.Xor.{running-total, done, _▸_, terms-summed
 use Rattle.fox_tables.proofs.sigma_mu8.Statement.{statement}
 use Rattle.fox_tables.proofs.sigma_mu8.Tie as tie
 
-of-joined8-requires : tie.Need-of-joined8-requires
-of-joined8-requires c κs = search needs
-
-of-joined8-requires-2 : tie.Need-of-joined8-requires-2
-of-joined8-requires-2 c κs = search needs
-
-of-joined8-requires-3 : tie.Need-of-joined8-requires-3
-of-joined8-requires-3 c κs = search needs
-
-of-joined8-requires-4 : tie.Need-of-joined8-requires-4
-of-joined8-requires-4 c κs = search needs
-
-of-joined8-requires-5 : tie.Need-of-joined8-requires-5
-of-joined8-requires-5 c κs = search needs
-
-of-joined8-requires-6 : tie.Need-of-joined8-requires-6
-of-joined8-requires-6 c κs = search needs
-
-of-joined8-requires-7 : tie.Need-of-joined8-requires-7
-of-joined8-requires-7 c κs = search needs
-
-of-joined8-requires-8 : tie.Need-of-joined8-requires-8
-of-joined8-requires-8 c κs = search needs
-
 returns : tie.Need-returns
 unfolding total gathered
 returns c =
@@ -68,14 +44,5 @@ returns c =
 
 pub sigma-mu8-spec : {M : Type 1} → statement M
 sigma-mu8-spec =
-    tie.close
-    (tie.spec
-    of-joined8-requires
-    of-joined8-requires-2
-    of-joined8-requires-3
-    of-joined8-requires-4
-    of-joined8-requires-5
-    of-joined8-requires-6
-    of-joined8-requires-7
-    of-joined8-requires-8
-    returns)
+    tie.close (tie.spec (λ c κs. search needs) (λ c κs. search needs) (λ c κs. search needs) (λ c κs. search needs) (λ c κs. search needs)
+    (λ c κs. search needs) (λ c κs. search needs) (λ c κs. search needs) returns)

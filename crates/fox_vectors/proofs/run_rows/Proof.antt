@@ -59,22 +59,5 @@ returns c = search needs
 
 pub run-rows-spec : {M : Type 1} → statement M
 run-rows-spec =
-    tie.close
-    (tie.spec
-    Inv-loop
-    μ-loop
-    loop-holds
-    end-of-requires
-    add-rows
-    sub-run-row
-    part-run-row-start
-    part-run-row-end
-    run-row-requires
-    add-differ
-    add-at
-    loop-less
-    loop-again
-    add-print-sum
-    add-print-sum-2
-    print-sum-requires
-    returns)
+    tie.close (tie.spec Inv-loop μ-loop loop-holds end-of-requires add-rows sub-run-row part-run-row-start part-run-row-end run-row-requires
+    add-differ add-at loop-less loop-again add-print-sum add-print-sum-2 print-sum-requires returns)

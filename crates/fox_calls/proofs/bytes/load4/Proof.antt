@@ -9,30 +9,6 @@ use borrow.Author.Needs.{needs}
 use Rattle.fox_calls.proofs.bytes.load4.Statement.{statement}
 use Rattle.fox_calls.proofs.bytes.load4.Tie as tie
 
-shared-slice-read-join4 : tie.Need-shared-slice-read-join4
-shared-slice-read-join4 c = search needs
-
-add-join4 : tie.Need-add-join4
-add-join4 c = search needs
-
-shared-slice-read-join4-2 : tie.Need-shared-slice-read-join4-2
-shared-slice-read-join4-2 c = search needs
-
-add-join4-2 : tie.Need-add-join4-2
-add-join4-2 c = search needs
-
-shared-slice-read-join4-3 : tie.Need-shared-slice-read-join4-3
-shared-slice-read-join4-3 c = search needs
-
-add-join4-3 : tie.Need-add-join4-3
-add-join4-3 c = search needs
-
-shared-slice-read-join4-4 : tie.Need-shared-slice-read-join4-4
-shared-slice-read-join4-4 c = search needs
-
-join4-requires : tie.Need-join4-requires
-join4-requires c κs = search needs
-
 returns : tie.Need-returns
 returns c =
     let a = c .before .before .before .before .before .before .args in
@@ -41,14 +17,5 @@ returns c =
 
 pub load4-spec : {M : Type 1} → statement M
 load4-spec =
-    tie.close
-    (tie.spec
-    shared-slice-read-join4
-    add-join4
-    shared-slice-read-join4-2
-    add-join4-2
-    shared-slice-read-join4-3
-    add-join4-3
-    shared-slice-read-join4-4
-    join4-requires
-    returns)
+    tie.close (tie.spec (λ c. search needs) (λ c. search needs) (λ c. search needs) (λ c. search needs) (λ c. search needs) (λ c. search needs)
+    (λ c. search needs) (λ c κs. search needs) returns)

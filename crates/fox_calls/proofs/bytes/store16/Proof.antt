@@ -10,33 +10,6 @@ use borrow.Author.Needs.{needs}
 use Rattle.fox_calls.proofs.bytes.store16.Statement.{statement}
 use Rattle.fox_calls.proofs.bytes.store16.Tie as tie
 
-sub-store8 : tie.Need-sub-store8
-sub-store8 c = search needs
-
-part-store8-start : tie.Need-part-store8-start
-part-store8-start c = search needs
-
-part-store8-end : tie.Need-part-store8-end
-part-store8-end c = search needs
-
-store8-requires : tie.Need-store8-requires
-store8-requires c κs = search needs
-
-sub-store8-2 : tie.Need-sub-store8-2
-sub-store8-2 c = search needs
-
-part-store8-start-2 : tie.Need-part-store8-start-2
-part-store8-start-2 c = search needs
-
-part-store8-end-2 : tie.Need-part-store8-end-2
-part-store8-end-2 c = search needs
-
-store8-requires-2 : tie.Need-store8-requires-2
-store8-requires-2 c κs = search needs
-
-same-length : tie.Need-same-length
-same-length c = search needs
-
 returns : tie.Need-returns
 unfolding split
 returns c =
@@ -48,15 +21,5 @@ returns c =
 
 pub store16-spec : {M : Type 1} → statement M
 store16-spec =
-    tie.close
-    (tie.spec
-    sub-store8
-    part-store8-start
-    part-store8-end
-    store8-requires
-    sub-store8-2
-    part-store8-start-2
-    part-store8-end-2
-    store8-requires-2
-    same-length
-    returns)
+    tie.close (tie.spec (λ c. search needs) (λ c. search needs) (λ c. search needs) (λ c κs. search needs) (λ c. search needs) (λ c. search needs)
+    (λ c. search needs) (λ c κs. search needs) (λ c. search needs) returns)

@@ -10,23 +10,11 @@ use borrow.Author.Needs.{needs}
 use Rattle.fox_calls.proofs.bytes.store4.Statement.{statement}
 use Rattle.fox_calls.proofs.bytes.store4.Tie as tie
 
-split4-requires : tie.Need-split4-requires
-split4-requires c κs = search needs
-
-slice-write-out : tie.Need-slice-write-out
-slice-write-out c = search needs
-
 slice-write-out-2 : tie.Need-slice-write-out-2
 slice-write-out-2 c = simp length-set (omega arith)
 
 slice-write-out-3 : tie.Need-slice-write-out-3
 slice-write-out-3 c = simp length-set (omega arith)
-
-slice-write-out-4 : tie.Need-slice-write-out-4
-slice-write-out-4 c = search needs
-
-same-length : tie.Need-same-length
-same-length c = search needs
 
 returns : tie.Need-returns
 returns c =
@@ -38,12 +26,5 @@ returns c =
 
 pub store4-spec : {M : Type 1} → statement M
 store4-spec =
-    tie.close
-    (tie.spec
-    split4-requires
-    slice-write-out
-    slice-write-out-2
-    slice-write-out-3
-    slice-write-out-4
-    same-length
+    tie.close (tie.spec (λ c κs. search needs) (λ c. search needs) slice-write-out-2 slice-write-out-3 (λ c. search needs) (λ c. search needs)
     returns)

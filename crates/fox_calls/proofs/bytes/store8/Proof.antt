@@ -11,24 +11,6 @@ use borrow.Author.Needs.{needs}
 use Rattle.fox_calls.proofs.bytes.store8.Statement.{statement}
 use Rattle.fox_calls.proofs.bytes.store8.Tie as tie
 
-store4-requires : tie.Need-store4-requires
-store4-requires c κs = search needs
-
-sub-store4 : tie.Need-sub-store4
-sub-store4 c = search needs
-
-part-store4-start : tie.Need-part-store4-start
-part-store4-start c = search needs
-
-part-store4-end : tie.Need-part-store4-end
-part-store4-end c = search needs
-
-store4-requires-2 : tie.Need-store4-requires-2
-store4-requires-2 c κs = search needs
-
-same-length : tie.Need-same-length
-same-length c = search needs
-
 returns : tie.Need-returns
 unfolding split
 returns c =
@@ -45,12 +27,5 @@ returns c =
 
 pub store8-spec : {M : Type 1} → statement M
 store8-spec =
-    tie.close
-    (tie.spec
-    store4-requires
-    sub-store4
-    part-store4-start
-    part-store4-end
-    store4-requires-2
-    same-length
+    tie.close (tie.spec (λ c κs. search needs) (λ c. search needs) (λ c. search needs) (λ c. search needs) (λ c κs. search needs) (λ c. search needs)
     returns)

@@ -9,9 +9,6 @@ use borrow.Author.Needs.{needs}
 use Rattle.fox_calls.proofs.refusals.for_block.Statement.{statement}
 use Rattle.fox_calls.proofs.refusals.for_block.Tie as tie
 
-for-key-requires : tie.Need-for-key-requires
-for-key-requires c κs = search needs
-
 -- the tests of the block alone decide where the key is served
 past-key : (c : tie.Else1) → refusalOf (forBlock (c .before .before .args .cipher) (c .before .before .args .rounds) (c .before .before .args .key-len) (c .before .before .args .block-len) (c .before .before .args .out-len)) ≡ refusalOf (noBlock (c .before .before .args .cipher) (c .before .before .args .block-len) ∷ noOutput (c .before .before .args .block-len) (c .before .before .args .out-len) ∷ [])
 unfolding forBlock
@@ -23,9 +20,6 @@ unfolding forBlock
 returns c =
     let e = c .before .for-key .ensures in
     e ∙ sym (refusal-append-refused _ _ (λ z. c .if1 .taken (e ∙ z)))
-
-block-size-requires : tie.Need-block-size-requires
-block-size-requires c κs = search needs
 
 returns-2 : tie.Need-returns-2
 unfolding noBlock
@@ -56,5 +50,4 @@ returns-4 c =
     (block-passed (a .cipher) (a .block-len) (sized (c .before)), (output-passed (a .block-len) (a .out-len) (omega arith), tt)))
 
 pub for-block-spec : {M : Type 1} → statement M
-for-block-spec =
-    tie.close (tie.spec for-key-requires returns block-size-requires returns-2 returns-3 returns-4)
+for-block-spec = tie.close (tie.spec (λ c κs. search needs) returns (λ c κs. search needs) returns-2 returns-3 returns-4)

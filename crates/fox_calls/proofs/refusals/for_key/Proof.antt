@@ -8,15 +8,6 @@ use borrow.Author.Needs.{needs}
 use Rattle.fox_calls.proofs.refusals.for_key.Statement.{statement}
 use Rattle.fox_calls.proofs.refusals.for_key.Tie as tie
 
-no-cipher-requires : tie.Need-no-cipher-requires
-no-cipher-requires c κs = search needs
-
-no-rounds-requires : tie.Need-no-rounds-requires
-no-rounds-requires c κs = search needs
-
-long-key-requires : tie.Need-long-key-requires
-long-key-requires c κs = search needs
-
 returns : tie.Need-returns
 unfolding forKey noCipher
 returns c =
@@ -55,13 +46,4 @@ returns-4 c =
     ∙ refusal-later (longKey (a .key-len)) [] (sym (c .before .before .before .long-key .ensures) ∙ c .if3 .left))
 
 pub for-key-spec : {M : Type 1} → statement M
-for-key-spec =
-    tie.close
-    (tie.spec
-    no-cipher-requires
-    no-rounds-requires
-    long-key-requires
-    returns
-    returns-2
-    returns-3
-    returns-4)
+for-key-spec = tie.close (tie.spec (λ c κs. search needs) (λ c κs. search needs) (λ c κs. search needs) returns returns-2 returns-3 returns-4)

@@ -10,16 +10,10 @@ use Rattle.fox_calls.proofs.Laws.Refusals.{refusal-here, refusal-later,
 use Rattle.fox_calls.proofs.stretch.for_run.Statement.{statement}
 use Rattle.fox_calls.proofs.stretch.for_run.Tie as tie
 
-for-key-requires : tie.Need-for-key-requires
-for-key-requires c κs = search needs
-
 returns : tie.Need-returns
 returns c =
     let e = c .before .for-key .ensures in
     e ∙ sym (forRun-refused _ _ _ _ _ _ _ (λ z. c .if1 .taken (e ∙ z)))
-
-block-size-requires : tie.Need-block-size-requires
-block-size-requires c κs = search needs
 
 -- past the key the stretch's own tests decide
 module _ (c : tie.Else1) where
@@ -54,9 +48,6 @@ returns-4 c =
     ∙ refusal-later (longData (a .input-len)) _ (long-passed (a .input-len) (omega arith))
     ∙ refusal-here (noOutput (a .input-len) (a .out-len)) _ (output-refused (a .input-len) (a .out-len) (λ e. omega arith)))
 
-past-end-requires : tie.Need-past-end-requires
-past-end-requires c κs = search needs
-
 -- past the lengths the end of the run decides
 past-lengths : (c : tie.Else4) → refusalOf (forRun (c .before .before .before .before .before .before .args .cipher) (c .before .before .before .before .before .before .args .rounds) (c .before .before .before .before .before .before .args .key-len) (c .before .before .before .before .before .before .args .counter-len) (c .before .before .before .before .before .before .args .offset) (c .before .before .before .before .before .before .args .input-len) (c .before .before .before .before .before .before .args .out-len)) ≡ refusalOf (pastEnd (c .before .before .before .before .before .before .args .offset) (c .before .before .before .before .before .before .args .input-len) ∷ [])
 unfolding forStretch
@@ -85,14 +76,5 @@ returns-6 c =
 
 pub for-run-spec : {M : Type 1} → statement M
 for-run-spec =
-    tie.close
-    (tie.spec
-    for-key-requires
-    returns
-    block-size-requires
-    returns-2
-    returns-3
-    returns-4
-    past-end-requires
-    returns-5
+    tie.close (tie.spec (λ c κs. search needs) returns (λ c κs. search needs) returns-2 returns-3 returns-4 (λ c κs. search needs) returns-5
     returns-6)

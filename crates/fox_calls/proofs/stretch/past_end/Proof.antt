@@ -19,9 +19,6 @@ wrapped n d e sum low = omega (arith, div-add-mod' (n + d) (2 ^ 64))
 whole : (n d e : ℕ) → d < 2 ^ 64 → e ≡ (n + d) % 2 ^ 64 → n ≤ e → e ≡ n + d
 whole n d e small sum high = omega (arith, div-add-mod' (n + d) (2 ^ 64), mod-lt (n + d) {m = 2 ^ 64} (omega arith))
 
-wrapping-add-u64-requires : tie.Need-wrapping-add-u64-requires
-wrapping-add-u64-requires c κs = search needs
-
 returns : tie.Need-returns
 unfolding pastEnd
 returns c = sym (lt-ltb 1073741824 _ (wrapped _ _ _ (c .before .wrapping-add-u64 .ensures) (omega arith)))
@@ -31,4 +28,4 @@ unfolding pastEnd
 returns-2 c = ap (λ (e : ℕ). ltb 1073741824 e) (whole _ _ _ (search needs) (c .before .wrapping-add-u64 .ensures) (omega arith))
 
 pub past-end-spec : {M : Type 1} → statement M
-past-end-spec = tie.close (tie.spec wrapping-add-u64-requires returns returns-2)
+past-end-spec = tie.close (tie.spec (λ c κs. search needs) returns returns-2)

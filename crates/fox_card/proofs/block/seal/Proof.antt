@@ -23,31 +23,16 @@ module _ (c : tie.Else1) where
       (length (c .before .before .before .before .before .args .out .now))
   served = blocked _ _ _ _ _ zero
 
-for-block-requires : tie.Need-for-block-requires
-for-block-requires c κs = search needs
-
-refused-requires : tie.Need-refused-requires
-refused-requires c κs = search needs
-
 returns : tie.Need-returns
 returns c =
     let at = c .before in
     let e = at .before .for-block .ensures in
     refused-reply _ _ _ _ _ (c .refused .ensures .0 ∙ e) (λ z. at .if1 .taken (e ∙ z)) (c .refused .ensures .1) refl
 
-cast-n : tie.Need-cast-n
-cast-n c = search needs
-
 seal64-block-requires : tie.Need-seal64-block-requires
 seal64-block-requires c κs =
     let at = c .before .before in
     asked-64 (served at) (c .before .if2 .taken)
-
-served-requires : tie.Need-served-requires
-served-requires c κs = search needs
-
-same-length : tie.Need-same-length
-same-length c = search needs
 
 returns-2 : tie.Need-returns-2
 returns-2 c =
@@ -64,12 +49,6 @@ seal128-block-requires c κs =
     let at = c .before .before in
     asked-128 (served at) (c .before .if2 .left)
 
-served-requires-2 : tie.Need-served-requires-2
-served-requires-2 c κs = search needs
-
-same-length-2 : tie.Need-same-length-2
-same-length-2 c = search needs
-
 returns-3 : tie.Need-returns-3
 returns-3 c =
     let block = c .before .before .before in
@@ -82,17 +61,5 @@ returns-3 c =
 
 pub seal-spec : {M : Type 1} → statement M
 seal-spec =
-    tie.close
-    (tie.spec
-    for-block-requires
-    refused-requires
-    returns
-    cast-n
-    seal64-block-requires
-    served-requires
-    same-length
-    returns-2
-    seal128-block-requires
-    served-requires-2
-    same-length-2
-    returns-3)
+    tie.close (tie.spec (λ c κs. search needs) (λ c κs. search needs) returns (λ c. search needs) seal64-block-requires (λ c κs. search needs)
+    (λ c. search needs) returns-2 seal128-block-requires (λ c κs. search needs) (λ c. search needs) returns-3)

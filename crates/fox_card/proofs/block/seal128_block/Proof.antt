@@ -12,21 +12,6 @@ use Rattle.fox_schedule.specs.Step.{keyAt128}
 use Rattle.fox_card.proofs.block.seal128_block.Statement.{statement}
 use Rattle.fox_card.proofs.block.seal128_block.Tie as tie
 
-of-requires : tie.Need-of-requires
-of-requires c κs = search needs
-
-read128-requires : tie.Need-read128-requires
-read128-requires c κs = search needs
-
-seal128-requires : tie.Need-seal128-requires
-seal128-requires c κs = search needs
-
-write128-requires : tie.Need-write128-requires
-write128-requires c κs = search needs
-
-same-length : tie.Need-same-length
-same-length c = search needs
-
 returns : tie.Need-returns
 unfolding keyAt128
 returns c =
@@ -44,5 +29,4 @@ returns c =
 
 pub seal128-block-spec : {M : Type 1} → statement M
 seal128-block-spec =
-    tie.close
-    (tie.spec of-requires read128-requires seal128-requires write128-requires same-length returns)
+    tie.close (tie.spec (λ c κs. search needs) (λ c κs. search needs) (λ c κs. search needs) (λ c κs. search needs) (λ c. search needs) returns)

@@ -12,21 +12,6 @@ use Rattle.fox_schedule.specs.Step.{keyAt64}
 use Rattle.fox_card.proofs.block.seal64_block.Statement.{statement}
 use Rattle.fox_card.proofs.block.seal64_block.Tie as tie
 
-of-requires : tie.Need-of-requires
-of-requires c κs = search needs
-
-read64-requires : tie.Need-read64-requires
-read64-requires c κs = search needs
-
-seal64-requires : tie.Need-seal64-requires
-seal64-requires c κs = search needs
-
-write64-requires : tie.Need-write64-requires
-write64-requires c κs = search needs
-
-same-length : tie.Need-same-length
-same-length c = search needs
-
 returns : tie.Need-returns
 unfolding keyAt64
 returns c =
@@ -44,5 +29,4 @@ returns c =
 
 pub seal64-block-spec : {M : Type 1} → statement M
 seal64-block-spec =
-    tie.close
-    (tie.spec of-requires read64-requires seal64-requires write64-requires same-length returns)
+    tie.close (tie.spec (λ c κs. search needs) (λ c κs. search needs) (λ c κs. search needs) (λ c κs. search needs) (λ c. search needs) returns)

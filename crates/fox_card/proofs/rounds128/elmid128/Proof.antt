@@ -7,14 +7,8 @@ use Rattle.fox_rounds.specs.Rounds.{elmid128}
 use Rattle.fox_card.proofs.rounds128.elmid128.Statement.{statement}
 use Rattle.fox_card.proofs.rounds128.elmid128.Tie as tie
 
-round-key-requires : tie.Need-round-key-requires
-round-key-requires c κs = search needs
-
-elmid-requires : tie.Need-elmid-requires
-elmid-requires c κs = search needs
-
 returns : tie.Need-returns
 returns c = c .elmid .ensures ∙ ap (λ (k : ℕ). elmid128 k (c .before .before .args .x)) (c .before .round-key .ensures)
 
 pub elmid128-spec : {M : Type 1} → statement M
-elmid128-spec = tie.close (tie.spec round-key-requires elmid-requires returns)
+elmid128-spec = tie.close (tie.spec (λ c κs. search needs) (λ c κs. search needs) returns)

@@ -83,21 +83,5 @@ returns c =
 
 pub open128-spec : {M : Type 1} → statement M
 open128-spec =
-    tie.close
-    (tie.spec
-    Inv-loop
-    μ-loop
-    sub-last
-    seed-requires
-    cast-forward
-    mul-forward
-    forward-requires
-    loop-holds
-    elmid128-requires
-    io-requires
-    back-requires
-    add-j
-    loop-less
-    loop-again
-    elmid128-requires-2
-    returns)
+    tie.close (tie.spec Inv-loop μ-loop sub-last seed-requires cast-forward mul-forward forward-requires loop-holds elmid128-requires io-requires
+    back-requires add-j loop-less loop-again elmid128-requires-2 returns)

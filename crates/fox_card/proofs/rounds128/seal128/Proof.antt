@@ -72,18 +72,5 @@ returns c =
 
 pub seal128-spec : {M : Type 1} → statement M
 seal128-spec =
-    tie.close
-    (tie.spec
-    Inv-loop
-    μ-loop
-    sub-last
-    seed-requires
-    loop-holds
-    elmid128-requires
-    or-requires
-    forward-requires
-    add-i
-    loop-less
-    loop-again
-    elmid128-requires-2
-    returns)
+    tie.close (tie.spec Inv-loop μ-loop sub-last seed-requires loop-holds elmid128-requires or-requires forward-requires add-i loop-less loop-again
+    elmid128-requires-2 returns)

@@ -92,24 +92,5 @@ returns c =
 
 pub open64-spec : {M : Type 1} → statement M
 open64-spec =
-    tie.close
-    (tie.spec
-    Inv-loop
-    μ-loop
-    steps-requires
-    sub-last
-    seed-requires
-    cast-forward
-    mul-forward
-    forward-requires
-    loop-holds
-    round-key-requires
-    lmid-requires
-    io-requires
-    back-requires
-    add-j
-    loop-less
-    loop-again
-    round-key-requires-2
-    lmid-requires-2
-    returns)
+    tie.close (tie.spec Inv-loop μ-loop steps-requires sub-last seed-requires cast-forward mul-forward forward-requires loop-holds round-key-requires
+    lmid-requires io-requires back-requires add-j loop-less loop-again round-key-requires-2 lmid-requires-2 returns)

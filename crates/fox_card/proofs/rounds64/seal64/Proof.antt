@@ -81,21 +81,5 @@ returns c =
 
 pub seal64-spec : {M : Type 1} → statement M
 seal64-spec =
-    tie.close
-    (tie.spec
-    Inv-loop
-    μ-loop
-    steps-requires
-    sub-last
-    seed-requires
-    loop-holds
-    round-key-requires
-    lmid-requires
-    or-requires
-    forward-requires
-    add-i
-    loop-less
-    loop-again
-    round-key-requires-2
-    lmid-requires-2
-    returns)
+    tie.close (tie.spec Inv-loop μ-loop steps-requires sub-last seed-requires loop-holds round-key-requires lmid-requires or-requires
+    forward-requires add-i loop-less loop-again round-key-requires-2 lmid-requires-2 returns)

@@ -21,32 +21,17 @@ module _ (c : tie.Else1) where
   served : Stretched (c .before .before .before .before .before .before .args .cipher) (c .before .before .before .before .before .before .args .rounds) (length (c .before .before .before .before .before .before .args .key .now)) (length (c .before .before .before .before .before .before .args .counter .now)) (c .before .before .before .before .before .before .args .offset) (length (c .before .before .before .before .before .before .args .input .now)) (length (c .before .before .before .before .before .before .args .out .now))
   served = stretched _ _ _ _ _ _ _ zero
 
-for-run-requires : tie.Need-for-run-requires
-for-run-requires c κs = search needs
-
-refused-requires : tie.Need-refused-requires
-refused-requires c κs = search needs
-
 returns : tie.Need-returns
 returns c =
     let at = c .before in
     let e = at .before .for-run .ensures in
     refused-reply _ _ _ _ _ (c .refused .ensures .0 ∙ e) (λ z. at .if1 .taken (e ∙ z)) (c .refused .ensures .1) refl
 
-cast-n : tie.Need-cast-n
-cast-n c = search needs
-
 run64-key-requires : tie.Need-run64-key-requires
 run64-key-requires c κs =
     let at = c .before .before in
     let h = served at in
     (omega (arith, h .low, h .high), h .key, h .counter ∙ size-64 _ (c .before .if2 .taken), omega (arith, h .end), h .output)
-
-served-requires : tie.Need-served-requires
-served-requires c κs = search needs
-
-same-length : tie.Need-same-length
-same-length c = search needs
 
 returns-2 : tie.Need-returns-2
 returns-2 c =
@@ -66,12 +51,6 @@ run128-key-requires c κs =
     let h = served at in
     (omega (arith, h .low, h .high), h .key, h .counter ∙ size-128 _ (c .before .if2 .left), omega (arith, h .end), h .output)
 
-served-requires-2 : tie.Need-served-requires-2
-served-requires-2 c κs = search needs
-
-same-length-2 : tie.Need-same-length-2
-same-length-2 c = search needs
-
 returns-3 : tie.Need-returns-3
 returns-3 c =
     let call = c .before .before .before in
@@ -86,17 +65,5 @@ returns-3 c =
 
 pub run-spec : {M : Type 1} → statement M
 run-spec =
-    tie.close
-    (tie.spec
-    for-run-requires
-    refused-requires
-    returns
-    cast-n
-    run64-key-requires
-    served-requires
-    same-length
-    returns-2
-    run128-key-requires
-    served-requires-2
-    same-length-2
-    returns-3)
+    tie.close (tie.spec (λ c κs. search needs) (λ c κs. search needs) returns (λ c. search needs) run64-key-requires (λ c κs. search needs)
+    (λ c. search needs) returns-2 run128-key-requires (λ c κs. search needs) (λ c. search needs) returns-3)

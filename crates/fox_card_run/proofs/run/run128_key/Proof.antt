@@ -12,18 +12,6 @@ use Rattle.fox_run.specs.States.{stream128}
 use Rattle.fox_card_run.proofs.run.run128_key.Statement.{statement}
 use Rattle.fox_card_run.proofs.run.run128_key.Tie as tie
 
-of-requires : tie.Need-of-requires
-of-requires c κs = search needs
-
-read128-requires : tie.Need-read128-requires
-read128-requires c κs = search needs
-
-run128-requires : tie.Need-run128-requires
-run128-requires c κs = search needs
-
-same-length : tie.Need-same-length
-same-length c = search needs
-
 returns : tie.Need-returns
 unfolding keyAt128
 returns c =
@@ -36,4 +24,4 @@ returns c =
     (sym (roundKeys128-made (a .rounds) (a .key .now) (made .of .result) (made .of .ensures))) (read .read128 .ensures)
 
 pub run128-key-spec : {M : Type 1} → statement M
-run128-key-spec = tie.close (tie.spec of-requires read128-requires run128-requires same-length returns)
+run128-key-spec = tie.close (tie.spec (λ c κs. search needs) (λ c κs. search needs) (λ c κs. search needs) (λ c. search needs) returns)

@@ -12,18 +12,6 @@ use Rattle.fox_run.specs.States.{stream64}
 use Rattle.fox_card_run.proofs.run.run64_key.Statement.{statement}
 use Rattle.fox_card_run.proofs.run.run64_key.Tie as tie
 
-of-requires : tie.Need-of-requires
-of-requires c κs = search needs
-
-read64-requires : tie.Need-read64-requires
-read64-requires c κs = search needs
-
-run64-requires : tie.Need-run64-requires
-run64-requires c κs = search needs
-
-same-length : tie.Need-same-length
-same-length c = search needs
-
 returns : tie.Need-returns
 unfolding keyAt64
 returns c =
@@ -36,4 +24,4 @@ returns c =
     (sym (roundKeys64-made (a .rounds) (a .key .now) (made .of .result) (made .of .ensures))) (read .read64 .ensures)
 
 pub run64-key-spec : {M : Type 1} → statement M
-run64-key-spec = tie.close (tie.spec of-requires read64-requires run64-requires same-length returns)
+run64-key-spec = tie.close (tie.spec (λ c κs. search needs) (λ c κs. search needs) (λ c κs. search needs) (λ c. search needs) returns)

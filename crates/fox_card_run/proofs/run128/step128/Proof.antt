@@ -12,21 +12,6 @@ use Rattle.fox_run.proofs.Laws.Steps.{step-made}
 use Rattle.fox_card_run.proofs.run128.step128.Statement.{statement}
 use Rattle.fox_card_run.proofs.run128.step128.Tie as tie
 
-cast-counted128 : tie.Need-cast-counted128
-cast-counted128 c = search needs
-
-counted128-requires : tie.Need-counted128-requires
-counted128-requires c κs = search needs
-
-seal128-requires : tie.Need-seal128-requires
-seal128-requires c κs = search needs
-
-add-part128-requires : tie.Need-add-part128-requires
-add-part128-requires c κs = search needs
-
-same-length : tie.Need-same-length
-same-length c = search needs
-
 returns : tie.Need-returns
 unfolding sealed128 stream128
 returns c =
@@ -41,11 +26,4 @@ returns c =
 
 pub step128-spec : {M : Type 1} → statement M
 step128-spec =
-    tie.close
-    (tie.spec
-    cast-counted128
-    counted128-requires
-    seal128-requires
-    add-part128-requires
-    same-length
-    returns)
+    tie.close (tie.spec (λ c. search needs) (λ c κs. search needs) (λ c κs. search needs) (λ c κs. search needs) (λ c. search needs) returns)

@@ -84,21 +84,5 @@ returns c =
 
 pub run64-spec : {M : Type 1} → statement M
 run64-spec =
-    tie.close
-    (tie.spec
-    Inv-loop
-    μ-loop
-    loop-holds
-    add-step64
-    sub-step64
-    part-step64-start
-    part-step64-end
-    sub-step64-2
-    part-step64-start-2
-    part-step64-end-2
-    step64-requires
-    add-at
-    loop-less
-    loop-again
-    same-length
-    returns)
+    tie.close (tie.spec Inv-loop μ-loop loop-holds add-step64 sub-step64 part-step64-start part-step64-end sub-step64-2 part-step64-start-2
+    part-step64-end-2 step64-requires add-at loop-less loop-again same-length returns)

@@ -12,21 +12,6 @@ use Rattle.fox_run.proofs.Laws.Steps.{step-made}
 use Rattle.fox_card_run.proofs.run64.step64.Statement.{statement}
 use Rattle.fox_card_run.proofs.run64.step64.Tie as tie
 
-cast-counted64 : tie.Need-cast-counted64
-cast-counted64 c = search needs
-
-counted64-requires : tie.Need-counted64-requires
-counted64-requires c κs = search needs
-
-seal64-requires : tie.Need-seal64-requires
-seal64-requires c κs = search needs
-
-add-part64-requires : tie.Need-add-part64-requires
-add-part64-requires c κs = search needs
-
-same-length : tie.Need-same-length
-same-length c = search needs
-
 returns : tie.Need-returns
 unfolding sealed64 stream64
 returns c =
@@ -41,11 +26,4 @@ returns c =
 
 pub step64-spec : {M : Type 1} → statement M
 step64-spec =
-    tie.close
-    (tie.spec
-    cast-counted64
-    counted64-requires
-    seal64-requires
-    add-part64-requires
-    same-length
-    returns)
+    tie.close (tie.spec (λ c. search needs) (λ c κs. search needs) (λ c κs. search needs) (λ c κs. search needs) (λ c. search needs) returns)

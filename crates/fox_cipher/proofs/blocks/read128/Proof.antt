@@ -6,21 +6,6 @@ use mathlib.Core.Path.{_∙_}
 use Rattle.fox_cipher.proofs.blocks.read128.Statement.{statement}
 use Rattle.fox_cipher.proofs.blocks.read128.Tie as tie
 
-load4-requires : tie.Need-load4-requires
-load4-requires c κs = search needs
-
-load4-requires-2 : tie.Need-load4-requires-2
-load4-requires-2 c κs = search needs
-
-load4-requires-3 : tie.Need-load4-requires-3
-load4-requires-3 c κs = search needs
-
-load4-requires-4 : tie.Need-load4-requires-4
-load4-requires-4 c κs = search needs
-
-new-requires : tie.Need-new-requires
-new-requires c κs = search needs
-
 returns : tie.Need-returns
 unfolding state128
 returns c =
@@ -38,11 +23,4 @@ returns c =
 
 pub read128-spec : {M : Type 1} → statement M
 read128-spec =
-    tie.close
-    (tie.spec
-    load4-requires
-    load4-requires-2
-    load4-requires-3
-    load4-requires-4
-    new-requires
-    returns)
+    tie.close (tie.spec (λ c κs. search needs) (λ c κs. search needs) (λ c κs. search needs) (λ c κs. search needs) (λ c κs. search needs) returns)

@@ -6,15 +6,6 @@ use mathlib.Core.Path.{_∙_}
 use Rattle.fox_cipher.proofs.blocks.read64.Statement.{statement}
 use Rattle.fox_cipher.proofs.blocks.read64.Tie as tie
 
-load4-requires : tie.Need-load4-requires
-load4-requires c κs = search needs
-
-load4-requires-2 : tie.Need-load4-requires-2
-load4-requires-2 c κs = search needs
-
-new-requires : tie.Need-new-requires
-new-requires c κs = search needs
-
 returns : tie.Need-returns
 unfolding state64
 returns c =
@@ -23,4 +14,4 @@ returns c =
     λ i. record { l = (c .new .ensures .0 ∙ c2 .load4 .ensures) i; r = (c .new .ensures .1 ∙ c1 .load42 .ensures) i }
 
 pub read64-spec : {M : Type 1} → statement M
-read64-spec = tie.close (tie.spec load4-requires load4-requires-2 new-requires returns)
+read64-spec = tie.close (tie.spec (λ c κs. search needs) (λ c κs. search needs) (λ c κs. search needs) returns)

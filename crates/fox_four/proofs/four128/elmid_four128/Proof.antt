@@ -5,18 +5,6 @@ use Rattle.fox_four.specs.Four.{elmidFour128}
 use Rattle.fox_four.proofs.four128.elmid_four128.Statement.{statement}
 use Rattle.fox_four.proofs.four128.elmid_four128.Tie as tie
 
-elmid128-requires : tie.Need-elmid128-requires
-elmid128-requires c κs = search needs
-
-elmid128-requires-2 : tie.Need-elmid128-requires-2
-elmid128-requires-2 c κs = search needs
-
-elmid128-requires-3 : tie.Need-elmid128-requires-3
-elmid128-requires-3 c κs = search needs
-
-elmid128-requires-4 : tie.Need-elmid128-requires-4
-elmid128-requires-4 c κs = search needs
-
 returns : tie.Need-returns
 unfolding elmidFour128
 returns c =
@@ -26,11 +14,4 @@ returns c =
     λ i. record { first = c3 .elmid128 .ensures i; second = c2 .elmid1282 .ensures i; third = c1 .elmid1283 .ensures i; fourth = c .elmid1284 .ensures i }
 
 pub elmid-four128-spec : {M : Type 1} → statement M
-elmid-four128-spec =
-    tie.close
-    (tie.spec
-    elmid128-requires
-    elmid128-requires-2
-    elmid128-requires-3
-    elmid128-requires-4
-    returns)
+elmid-four128-spec = tie.close (tie.spec (λ c κs. search needs) (λ c κs. search needs) (λ c κs. search needs) (λ c κs. search needs) returns)

@@ -7,29 +7,8 @@ use Rattle.fox_four.specs.Four.{elmidFour128, orFour128}
 use Rattle.fox_four.proofs.four128.elmor_four128.Statement.{statement}
 use Rattle.fox_four.proofs.four128.elmor_four128.Tie as tie
 
-elmid128-requires : tie.Need-elmid128-requires
-elmid128-requires c κs = search needs
-
-or-requires : tie.Need-or-requires
-or-requires c κs = search needs
-
-elmid128-requires-2 : tie.Need-elmid128-requires-2
-elmid128-requires-2 c κs = search needs
-
-or-requires-2 : tie.Need-or-requires-2
-or-requires-2 c κs = search needs
-
-elmid128-requires-3 : tie.Need-elmid128-requires-3
-elmid128-requires-3 c κs = search needs
-
-or-requires-3 : tie.Need-or-requires-3
-or-requires-3 c κs = search needs
-
 elmid128-requires-4 : tie.Need-elmid128-requires-4
 elmid128-requires-4 c κs = c .before .before .before .before .before .before .before .before .before .before .pre
-
-or-requires-4 : tie.Need-or-requires-4
-or-requires-4 c κs = search needs
 
 returns : tie.Need-returns
 unfolding elmidFour128 orFour128
@@ -50,14 +29,5 @@ returns c =
 
 pub elmor-four128-spec : {M : Type 1} → statement M
 elmor-four128-spec =
-    tie.close
-    (tie.spec
-    elmid128-requires
-    or-requires
-    elmid128-requires-2
-    or-requires-2
-    elmid128-requires-3
-    or-requires-3
-    elmid128-requires-4
-    or-requires-4
-    returns)
+    tie.close (tie.spec (λ c κs. search needs) (λ c κs. search needs) (λ c κs. search needs) (λ c κs. search needs) (λ c κs. search needs)
+    (λ c κs. search needs) elmid128-requires-4 (λ c κs. search needs) returns)

@@ -102,29 +102,7 @@ returns c =
 
 pub seal-four128-spec : {M : Type 1} → statement M
 seal-four128-spec =
-    tie.close
-    (tie.spec
-    Inv-loop
-    μ-loop
-    sub-last
-    loop-holds
-    mul-elmor-four128
-    mul-elmor-four128-2
-    element-copy-out-elmor-four128
-    mul-elmor-four128-3
-    add-elmor-four128
-    mul-elmor-four128-4
-    element-copy-out-elmor-four128-2
-    elmor-four128-requires
-    add-i
-    loop-less
-    loop-again
-    mul-elmid-four128
-    mul-elmid-four128-2
-    element-copy-out-elmid-four128
-    mul-elmid-four128-3
-    add-elmid-four128
-    mul-elmid-four128-4
-    element-copy-out-elmid-four128-2
-    elmid-four128-requires
-    returns)
+    tie.close (tie.spec Inv-loop μ-loop sub-last loop-holds mul-elmor-four128 mul-elmor-four128-2 element-copy-out-elmor-four128 mul-elmor-four128-3
+    add-elmor-four128 mul-elmor-four128-4 element-copy-out-elmor-four128-2 elmor-four128-requires add-i loop-less loop-again mul-elmid-four128
+    mul-elmid-four128-2 element-copy-out-elmid-four128 mul-elmid-four128-3 add-elmid-four128 mul-elmid-four128-4 element-copy-out-elmid-four128-2
+    elmid-four128-requires returns)

@@ -7,30 +7,6 @@ use Rattle.fox_four.specs.Four.{lmidFour64, orFour64}
 use Rattle.fox_four.proofs.four64.lmor_four64.Statement.{statement}
 use Rattle.fox_four.proofs.four64.lmor_four64.Tie as tie
 
-lmid64-requires : tie.Need-lmid64-requires
-lmid64-requires c κs = search needs
-
-or-requires : tie.Need-or-requires
-or-requires c κs = search needs
-
-lmid64-requires-2 : tie.Need-lmid64-requires-2
-lmid64-requires-2 c κs = search needs
-
-or-requires-2 : tie.Need-or-requires-2
-or-requires-2 c κs = search needs
-
-lmid64-requires-3 : tie.Need-lmid64-requires-3
-lmid64-requires-3 c κs = search needs
-
-or-requires-3 : tie.Need-or-requires-3
-or-requires-3 c κs = search needs
-
-lmid64-requires-4 : tie.Need-lmid64-requires-4
-lmid64-requires-4 c κs = search needs
-
-or-requires-4 : tie.Need-or-requires-4
-or-requires-4 c κs = search needs
-
 returns : tie.Need-returns
 unfolding lmidFour64 orFour64
 returns c =
@@ -50,14 +26,5 @@ returns c =
 
 pub lmor-four64-spec : {M : Type 1} → statement M
 lmor-four64-spec =
-    tie.close
-    (tie.spec
-    lmid64-requires
-    or-requires
-    lmid64-requires-2
-    or-requires-2
-    lmid64-requires-3
-    or-requires-3
-    lmid64-requires-4
-    or-requires-4
-    returns)
+    tie.close (tie.spec (λ c κs. search needs) (λ c κs. search needs) (λ c κs. search needs) (λ c κs. search needs) (λ c κs. search needs)
+    (λ c κs. search needs) (λ c κs. search needs) (λ c κs. search needs) returns)

@@ -71,19 +71,5 @@ returns c =
 
 pub seal-four64-spec : {M : Type 1} → statement M
 seal-four64-spec =
-    tie.close
-    (tie.spec
-    Inv-loop
-    μ-loop
-    sub-last
-    loop-holds
-    mul-lmor-four64
-    element-copy-out-lmor-four64
-    lmor-four64-requires
-    add-i
-    loop-less
-    loop-again
-    mul-lmid-four64
-    element-copy-out-lmid-four64
-    lmid-four64-requires
-    returns)
+    tie.close (tie.spec Inv-loop μ-loop sub-last loop-holds mul-lmor-four64 element-copy-out-lmor-four64 lmor-four64-requires add-i loop-less
+    loop-again mul-lmid-four64 element-copy-out-lmid-four64 lmid-four64-requires returns)

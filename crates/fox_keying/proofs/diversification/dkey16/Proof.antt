@@ -12,9 +12,6 @@ use borrow.Author.Needs.{needs}
 use Rattle.fox_keying.proofs.diversification.dkey16.Statement.{statement}
 use Rattle.fox_keying.proofs.diversification.dkey16.Tie as tie
 
-front-requires : tie.Need-front-requires
-front-requires c κs = search needs
-
 returns : tie.Need-returns
 unfolding dkey groups bytes16
 returns c =
@@ -29,4 +26,4 @@ returns c =
     ∙ ap (λ (n : ℕ). sum (bytes16 (a .m)) (stream (groups n) (a .reg))) (sym (length-bytes16 (a .m)))
 
 pub dkey16-spec : {M : Type 1} → statement M
-dkey16-spec = tie.close (tie.spec front-requires returns)
+dkey16-spec = tie.close (tie.spec (λ c κs. search needs) returns)

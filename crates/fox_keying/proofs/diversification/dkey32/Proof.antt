@@ -14,12 +14,6 @@ use borrow.Author.Needs.{needs}
 use Rattle.fox_keying.proofs.diversification.dkey32.Statement.{statement}
 use Rattle.fox_keying.proofs.diversification.dkey32.Tie as tie
 
-front-requires : tie.Need-front-requires
-front-requires c κs = search needs
-
-rest-requires : tie.Need-rest-requires
-rest-requires c κs = search needs
-
 returns : tie.Need-returns
 unfolding dkey groups bytes16 bytes32
 returns c =
@@ -41,4 +35,4 @@ returns c =
     ∙ ap (λ (n : ℕ). sum (bytes32 (a .m)) (stream (groups n) (a .reg))) (sym (length-bytes32 (a .m)))
 
 pub dkey32-spec : {M : Type 1} → statement M
-dkey32-spec = tie.close (tie.spec front-requires rest-requires returns)
+dkey32-spec = tie.close (tie.spec (λ c κs. search needs) (λ c κs. search needs) returns)

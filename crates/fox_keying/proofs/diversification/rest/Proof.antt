@@ -12,27 +12,6 @@ use borrow.Author.Needs.{needs}
 use Rattle.fox_keying.proofs.diversification.rest.Statement.{statement}
 use Rattle.fox_keying.proofs.diversification.rest.Tie as tie
 
-clocked-requires : tie.Need-clocked-requires
-clocked-requires c κs = search needs
-
-clocked-requires-2 : tie.Need-clocked-requires-2
-clocked-requires-2 c κs = search needs
-
-clocked-requires-3 : tie.Need-clocked-requires-3
-clocked-requires-3 c κs = search needs
-
-clocked-requires-4 : tie.Need-clocked-requires-4
-clocked-requires-4 c κs = search needs
-
-clocked-requires-5 : tie.Need-clocked-requires-5
-clocked-requires-5 c κs = search needs
-
-word-233-requires : tie.Need-word-233-requires
-word-233-requires c κs = search needs
-
-word-332-requires : tie.Need-word-332-requires
-word-332-requires c κs = search needs
-
 returns : tie.Need-returns
 unfolding split bytes16
 returns c =
@@ -52,13 +31,5 @@ returns c =
 
 pub rest-spec : {M : Type 1} → statement M
 rest-spec =
-    tie.close
-    (tie.spec
-    clocked-requires
-    clocked-requires-2
-    clocked-requires-3
-    clocked-requires-4
-    clocked-requires-5
-    word-233-requires
-    word-332-requires
-    returns)
+    tie.close (tie.spec (λ c κs. search needs) (λ c κs. search needs) (λ c κs. search needs) (λ c κs. search needs) (λ c κs. search needs)
+    (λ c κs. search needs) (λ c κs. search needs) returns)

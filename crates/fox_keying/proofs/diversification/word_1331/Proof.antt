@@ -12,30 +12,6 @@ use borrow.Author.Needs.{needs}
 use Rattle.fox_keying.proofs.diversification.word_1331.Statement.{statement}
 use Rattle.fox_keying.proofs.diversification.word_1331.Tie as tie
 
-cast-result : tie.Need-cast-result
-cast-result c = search needs
-
-mul-result : tie.Need-mul-result
-mul-result c = search needs
-
-mul-result-2 : tie.Need-mul-result-2
-mul-result-2 c = search needs
-
-add-result : tie.Need-add-result
-add-result c = search needs
-
-mul-result-3 : tie.Need-mul-result-3
-mul-result-3 c = search needs
-
-add-result-2 : tie.Need-add-result-2
-add-result-2 c = search needs
-
-cast-result-2 : tie.Need-cast-result-2
-cast-result-2 c = search needs
-
-add-result-3 : tie.Need-add-result-3
-add-result-3 c = search needs
-
 returns : tie.Need-returns
 unfolding split
 returns c =
@@ -62,14 +38,5 @@ returns c =
 
 pub word-1331-spec : {M : Type 1} → statement M
 word-1331-spec =
-    tie.close
-    (tie.spec
-    cast-result
-    mul-result
-    mul-result-2
-    add-result
-    mul-result-3
-    add-result-2
-    cast-result-2
-    add-result-3
-    returns)
+    tie.close (tie.spec (λ c. search needs) (λ c. search needs) (λ c. search needs) (λ c. search needs) (λ c. search needs) (λ c. search needs)
+    (λ c. search needs) (λ c. search needs) returns)

@@ -12,21 +12,6 @@ use borrow.Author.Needs.{needs}
 use Rattle.fox_keying.proofs.diversification.word_233.Statement.{statement}
 use Rattle.fox_keying.proofs.diversification.word_233.Tie as tie
 
-cast-result : tie.Need-cast-result
-cast-result c = search needs
-
-mul-result : tie.Need-mul-result
-mul-result c = search needs
-
-mul-result-2 : tie.Need-mul-result-2
-mul-result-2 c = search needs
-
-add-result : tie.Need-add-result
-add-result c = search needs
-
-add-result-2 : tie.Need-add-result-2
-add-result-2 c = search needs
-
 returns : tie.Need-returns
 unfolding split
 returns c =
@@ -41,5 +26,4 @@ returns c =
     (arith, joined-append (x ++ y) z, joined-append x y, low-two (a .x), joined-split 3 (a .y) (c .pre .1), joined-split 3 (a .z) (c .pre .2)))
 
 pub word-233-spec : {M : Type 1} → statement M
-word-233-spec =
-    tie.close (tie.spec cast-result mul-result mul-result-2 add-result add-result-2 returns)
+word-233-spec = tie.close (tie.spec (λ c. search needs) (λ c. search needs) (λ c. search needs) (λ c. search needs) (λ c. search needs) returns)

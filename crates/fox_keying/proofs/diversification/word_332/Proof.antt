@@ -12,21 +12,6 @@ use borrow.Author.Needs.{needs}
 use Rattle.fox_keying.proofs.diversification.word_332.Statement.{statement}
 use Rattle.fox_keying.proofs.diversification.word_332.Tie as tie
 
-mul-result : tie.Need-mul-result
-mul-result c = search needs
-
-mul-result-2 : tie.Need-mul-result-2
-mul-result-2 c = search needs
-
-add-result : tie.Need-add-result
-add-result c = search needs
-
-cast-result : tie.Need-cast-result
-cast-result c = search needs
-
-add-result-2 : tie.Need-add-result-2
-add-result-2 c = search needs
-
 returns : tie.Need-returns
 unfolding split
 returns c =
@@ -47,5 +32,4 @@ returns c =
     ))
 
 pub word-332-spec : {M : Type 1} → statement M
-word-332-spec =
-    tie.close (tie.spec mul-result mul-result-2 add-result cast-result add-result-2 returns)
+word-332-spec = tie.close (tie.spec (λ c. search needs) (λ c. search needs) (λ c. search needs) (λ c. search needs) (λ c. search needs) returns)

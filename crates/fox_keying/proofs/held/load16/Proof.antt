@@ -9,12 +9,6 @@ use borrow.Author.Needs.{needs}
 use Rattle.fox_keying.proofs.held.load16.Statement.{statement}
 use Rattle.fox_keying.proofs.held.load16.Tie as tie
 
-load8-requires : tie.Need-load8-requires
-load8-requires c κs = search needs
-
-load8-requires-2 : tie.Need-load8-requires-2
-load8-requires-2 c κs = search needs
-
 returns : tie.Need-returns
 unfolding bytes16
 returns c =
@@ -23,4 +17,4 @@ returns c =
     ∙ sixteen (c1 .before .before .args .s .now)
 
 pub load16-spec : {M : Type 1} → statement M
-load16-spec = tie.close (tie.spec load8-requires load8-requires-2 returns)
+load16-spec = tie.close (tie.spec (λ c κs. search needs) (λ c κs. search needs) returns)

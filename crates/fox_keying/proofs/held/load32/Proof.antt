@@ -8,18 +8,6 @@ use borrow.Author.Needs.{needs}
 use Rattle.fox_keying.proofs.held.load32.Statement.{statement}
 use Rattle.fox_keying.proofs.held.load32.Tie as tie
 
-load8-requires : tie.Need-load8-requires
-load8-requires c κs = search needs
-
-load8-requires-2 : tie.Need-load8-requires-2
-load8-requires-2 c κs = search needs
-
-load8-requires-3 : tie.Need-load8-requires-3
-load8-requires-3 c κs = search needs
-
-load8-requires-4 : tie.Need-load8-requires-4
-load8-requires-4 c κs = search needs
-
 returns : tie.Need-returns
 unfolding bytes32
 returns c =
@@ -30,5 +18,4 @@ returns c =
     ∙ thirty-two (c3 .before .before .args .s .now)
 
 pub load32-spec : {M : Type 1} → statement M
-load32-spec =
-    tie.close (tie.spec load8-requires load8-requires-2 load8-requires-3 load8-requires-4 returns)
+load32-spec = tie.close (tie.spec (λ c κs. search needs) (λ c κs. search needs) (λ c κs. search needs) (λ c κs. search needs) returns)

@@ -75,15 +75,4 @@ returns c =
 
 pub mixed-bytes-spec : {M : Type 1} → statement M
 mixed-bytes-spec =
-    tie.close
-    (tie.spec
-    Inv-loop
-    μ-loop
-    loop-holds
-    padded-byte-requires
-    mixed-byte-requires
-    array-write-out
-    add-i
-    loop-less
-    loop-again
-    returns)
+    tie.close (tie.spec Inv-loop μ-loop loop-holds padded-byte-requires mixed-byte-requires array-write-out add-i loop-less loop-again returns)

@@ -8,18 +8,6 @@ use borrow.Author.Needs.{needs}
 use Rattle.fox_keying.proofs.mixing.mkey16.Statement.{statement}
 use Rattle.fox_keying.proofs.mixing.mkey16.Tie as tie
 
-mixed-bytes-requires : tie.Need-mixed-bytes-requires
-mixed-bytes-requires c κs = search needs
-
-slice-aggregate-load16 : tie.Need-slice-aggregate-load16
-slice-aggregate-load16 c = search needs
-
-load16-requires : tie.Need-load16-requires
-load16-requires c κs = search needs
-
-load16-requires-2 : tie.Need-load16-requires-2
-load16-requires-2 c κs = search needs
-
 returns : tie.Need-returns
 returns c =
     let c2 = c .before .before in
@@ -32,12 +20,4 @@ returns-2 c =
     c .load162 .ensures ∙ take-all 16 key (omega arith) ∙ sym (mkey-full 16 key (omega arith))
 
 pub mkey16-spec : {M : Type 1} → statement M
-mkey16-spec =
-    tie.close
-    (tie.spec
-    mixed-bytes-requires
-    slice-aggregate-load16
-    load16-requires
-    load16-requires-2
-    returns
-    returns-2)
+mkey16-spec = tie.close (tie.spec (λ c κs. search needs) (λ c. search needs) (λ c κs. search needs) (λ c κs. search needs) returns returns-2)

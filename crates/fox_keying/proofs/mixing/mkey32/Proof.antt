@@ -8,18 +8,6 @@ use borrow.Author.Needs.{needs}
 use Rattle.fox_keying.proofs.mixing.mkey32.Statement.{statement}
 use Rattle.fox_keying.proofs.mixing.mkey32.Tie as tie
 
-mixed-bytes-requires : tie.Need-mixed-bytes-requires
-mixed-bytes-requires c κs = search needs
-
-slice-aggregate-load32 : tie.Need-slice-aggregate-load32
-slice-aggregate-load32 c = search needs
-
-load32-requires : tie.Need-load32-requires
-load32-requires c κs = search needs
-
-load32-requires-2 : tie.Need-load32-requires-2
-load32-requires-2 c κs = search needs
-
 returns : tie.Need-returns
 returns c =
     let c2 = c .before .before in
@@ -32,12 +20,4 @@ returns-2 c =
     c .load322 .ensures ∙ take-all 32 key (omega arith) ∙ sym (mkey-full 32 key (omega arith))
 
 pub mkey32-spec : {M : Type 1} → statement M
-mkey32-spec =
-    tie.close
-    (tie.spec
-    mixed-bytes-requires
-    slice-aggregate-load32
-    load32-requires
-    load32-requires-2
-    returns
-    returns-2)
+mkey32-spec = tie.close (tie.spec (λ c κs. search needs) (λ c. search needs) (λ c κs. search needs) (λ c κs. search needs) returns returns-2)

@@ -10,15 +10,6 @@ use borrow.Author.Needs.{needs}
 use Rattle.fox_keying.proofs.mixing.padded_byte.Statement.{statement}
 use Rattle.fox_keying.proofs.mixing.padded_byte.Tie as tie
 
-shared-slice-read-result : tie.Need-shared-slice-read-result
-shared-slice-read-result c = search needs
-
-sub-result : tie.Need-sub-result
-sub-result c = search needs
-
-element-copy-out-result : tie.Need-element-copy-out-result
-element-copy-out-result c = search needs
-
 returns : tie.Need-returns
 returns c =
     let a = c .before .before .args in
@@ -32,6 +23,4 @@ returns-2 c =
     sym (getD-append-add (a .key .now) (a .pad .now) (a .i - n) 0) ∙ ap (λ (k : ℕ). getD (a .key .now ++ a .pad .now) k 0) there
 
 pub padded-byte-spec : {M : Type 1} → statement M
-padded-byte-spec =
-    tie.close
-    (tie.spec shared-slice-read-result sub-result element-copy-out-result returns returns-2)
+padded-byte-spec = tie.close (tie.spec (λ c. search needs) (λ c. search needs) (λ c. search needs) returns returns-2)

@@ -42,6 +42,4 @@ returns c =
     (l .inv .0 ∙ ap (λ (n : ℕ). iterate n clockedBack (c .before .before .args .reg)) all, l .inv .1)
 
 pub back-spec : {M : Type 1} → statement M
-back-spec =
-    tie.close
-    (tie.spec Inv-loop μ-loop loop-holds clocked-back-requires add-undone loop-less loop-again returns)
+back-spec = tie.close (tie.spec Inv-loop μ-loop loop-holds clocked-back-requires add-undone loop-less loop-again returns)

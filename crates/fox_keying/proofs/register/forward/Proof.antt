@@ -42,6 +42,4 @@ returns c =
     (l .inv .0 ∙ ap (λ (n : ℕ). iterate n clocked (c .before .before .args .reg)) all, l .inv .1)
 
 pub forward-spec : {M : Type 1} → statement M
-forward-spec =
-    tie.close
-    (tie.spec Inv-loop μ-loop loop-holds clocked-requires add-done loop-less loop-again returns)
+forward-spec = tie.close (tie.spec Inv-loop μ-loop loop-holds clocked-requires add-done loop-less loop-again returns)

@@ -9,9 +9,6 @@ use Rattle.fox_keying.proofs.Laws.Register.{seed-lt}
 use Rattle.fox_keying.proofs.register.seed.Statement.{statement}
 use Rattle.fox_keying.proofs.register.seed.Tie as tie
 
-join4-requires : tie.Need-join4-requires
-join4-requires c κs = search needs
-
 returns : tie.Need-returns
 unfolding seed joined
 returns c =
@@ -20,4 +17,4 @@ returns c =
     (same, omega (arith, seed-lt r (c .before .fits .rounds .fits)))
 
 pub seed-spec : {M : Type 1} → statement M
-seed-spec = tie.close (tie.spec join4-requires returns)
+seed-spec = tie.close (tie.spec (λ c κs. search needs) returns)

@@ -13,45 +13,6 @@ use Rattle.fox_layers.proofs.Laws.Xor.{done, _▸_, sum-of-terms}
 use Rattle.fox_layers.proofs.diffusion.mu4.Statement.{statement}
 use Rattle.fox_layers.proofs.diffusion.mu4.Tie as tie
 
-split4-requires : tie.Need-split4-requires
-split4-requires c κs = search needs
-
-double-requires : tie.Need-double-requires
-double-requires c κs = search needs
-
-double-requires-2 : tie.Need-double-requires-2
-double-requires-2 c κs = search needs
-
-double-requires-3 : tie.Need-double-requires-3
-double-requires-3 c κs = search needs
-
-double-requires-4 : tie.Need-double-requires-4
-double-requires-4 c κs = search needs
-
-times-fd-requires : tie.Need-times-fd-requires
-times-fd-requires c κs = search needs
-
-times-fd-requires-2 : tie.Need-times-fd-requires-2
-times-fd-requires-2 c κs = search needs
-
-times-fd-requires-3 : tie.Need-times-fd-requires-3
-times-fd-requires-3 c κs = search needs
-
-xor4-requires : tie.Need-xor4-requires
-xor4-requires c κs = search needs
-
-xor4-requires-2 : tie.Need-xor4-requires-2
-xor4-requires-2 c κs = search needs
-
-xor4-requires-3 : tie.Need-xor4-requires-3
-xor4-requires-3 c κs = search needs
-
-xor4-requires-4 : tie.Need-xor4-requires-4
-xor4-requires-4 c κs = search needs
-
-join4-requires : tie.Need-join4-requires
-join4-requires c κs = search needs
-
 returns : tie.Need-returns
 unfolding dot times mu4Rows diffused mu4
 returns c =
@@ -96,19 +57,6 @@ returns c =
 
 pub mu4-spec : {M : Type 1} → statement M
 mu4-spec =
-    tie.close
-    (tie.spec
-    split4-requires
-    double-requires
-    double-requires-2
-    double-requires-3
-    double-requires-4
-    times-fd-requires
-    times-fd-requires-2
-    times-fd-requires-3
-    xor4-requires
-    xor4-requires-2
-    xor4-requires-3
-    xor4-requires-4
-    join4-requires
-    returns)
+    tie.close (tie.spec (λ c κs. search needs) (λ c κs. search needs) (λ c κs. search needs) (λ c κs. search needs) (λ c κs. search needs)
+    (λ c κs. search needs) (λ c κs. search needs) (λ c κs. search needs) (λ c κs. search needs) (λ c κs. search needs) (λ c κs. search needs)
+    (λ c κs. search needs) (λ c κs. search needs) returns)

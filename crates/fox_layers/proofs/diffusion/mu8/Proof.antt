@@ -13,60 +13,6 @@ use Rattle.fox_layers.proofs.Laws.Xor.{done, _▸_, sum-of-terms}
 use Rattle.fox_layers.proofs.diffusion.mu8.Statement.{statement}
 use Rattle.fox_layers.proofs.diffusion.mu8.Tie as tie
 
-split8-requires : tie.Need-split8-requires
-split8-requires c κs = search needs
-
-multiples-of-requires : tie.Need-multiples-of-requires
-multiples-of-requires c κs = search needs
-
-multiples-of-requires-2 : tie.Need-multiples-of-requires-2
-multiples-of-requires-2 c κs = search needs
-
-multiples-of-requires-3 : tie.Need-multiples-of-requires-3
-multiples-of-requires-3 c κs = search needs
-
-multiples-of-requires-4 : tie.Need-multiples-of-requires-4
-multiples-of-requires-4 c κs = search needs
-
-multiples-of-requires-5 : tie.Need-multiples-of-requires-5
-multiples-of-requires-5 c κs = search needs
-
-multiples-of-requires-6 : tie.Need-multiples-of-requires-6
-multiples-of-requires-6 c κs = search needs
-
-multiples-of-requires-7 : tie.Need-multiples-of-requires-7
-multiples-of-requires-7 c κs = search needs
-
-multiples-of-requires-8 : tie.Need-multiples-of-requires-8
-multiples-of-requires-8 c κs = search needs
-
-xor8-requires : tie.Need-xor8-requires
-xor8-requires c κs = search needs
-
-xor8-requires-2 : tie.Need-xor8-requires-2
-xor8-requires-2 c κs = search needs
-
-xor8-requires-3 : tie.Need-xor8-requires-3
-xor8-requires-3 c κs = search needs
-
-xor8-requires-4 : tie.Need-xor8-requires-4
-xor8-requires-4 c κs = search needs
-
-xor8-requires-5 : tie.Need-xor8-requires-5
-xor8-requires-5 c κs = search needs
-
-xor8-requires-6 : tie.Need-xor8-requires-6
-xor8-requires-6 c κs = search needs
-
-xor8-requires-7 : tie.Need-xor8-requires-7
-xor8-requires-7 c κs = search needs
-
-xor8-requires-8 : tie.Need-xor8-requires-8
-xor8-requires-8 c κs = search needs
-
-join8-requires : tie.Need-join8-requires
-join8-requires c κs = search needs
-
 returns : tie.Need-returns
 unfolding dot times mu8Rows diffused mu8
 returns c =
@@ -129,24 +75,7 @@ returns c =
 
 pub mu8-spec : {M : Type 1} → statement M
 mu8-spec =
-    tie.close
-    (tie.spec
-    split8-requires
-    multiples-of-requires
-    multiples-of-requires-2
-    multiples-of-requires-3
-    multiples-of-requires-4
-    multiples-of-requires-5
-    multiples-of-requires-6
-    multiples-of-requires-7
-    multiples-of-requires-8
-    xor8-requires
-    xor8-requires-2
-    xor8-requires-3
-    xor8-requires-4
-    xor8-requires-5
-    xor8-requires-6
-    xor8-requires-7
-    xor8-requires-8
-    join8-requires
-    returns)
+    tie.close (tie.spec (λ c κs. search needs) (λ c κs. search needs) (λ c κs. search needs) (λ c κs. search needs) (λ c κs. search needs)
+    (λ c κs. search needs) (λ c κs. search needs) (λ c κs. search needs) (λ c κs. search needs) (λ c κs. search needs) (λ c κs. search needs)
+    (λ c κs. search needs) (λ c κs. search needs) (λ c κs. search needs) (λ c κs. search needs) (λ c κs. search needs) (λ c κs. search needs)
+    (λ c κs. search needs) returns)

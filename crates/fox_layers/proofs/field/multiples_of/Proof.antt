@@ -6,24 +6,6 @@ use Rattle.fox_layers.proofs.Laws.Field.{product-02, product-FC}
 use Rattle.fox_layers.proofs.field.multiples_of.Statement.{statement}
 use Rattle.fox_layers.proofs.field.multiples_of.Tie as tie
 
-double-requires : tie.Need-double-requires
-double-requires c κs = search needs
-
-times-03-requires : tie.Need-times-03-requires
-times-03-requires c κs = search needs
-
-times-04-requires : tie.Need-times-04-requires
-times-04-requires c κs = search needs
-
-times-7e-requires : tie.Need-times-7e-requires
-times-7e-requires c κs = search needs
-
-times-82-requires : tie.Need-times-82-requires
-times-82-requires c κs = search needs
-
-halve-requires : tie.Need-halve-requires
-halve-requires c κs = search needs
-
 returns : tie.Need-returns
 returns c =
     let d = c .before .before .before .before .before in
@@ -39,12 +21,5 @@ returns c =
 
 pub multiples-of-spec : {M : Type 1} → statement M
 multiples-of-spec =
-    tie.close
-    (tie.spec
-    double-requires
-    times-03-requires
-    times-04-requires
-    times-7e-requires
-    times-82-requires
-    halve-requires
-    returns)
+    tie.close (tie.spec (λ c κs. search needs) (λ c κs. search needs) (λ c κs. search needs) (λ c κs. search needs) (λ c κs. search needs)
+    (λ c κs. search needs) returns)

@@ -8,13 +8,10 @@ use Rattle.fox_layers.specs.Words.{_⊕_}
 use Rattle.fox_layers.proofs.field.times_03.Statement.{statement}
 use Rattle.fox_layers.proofs.field.times_03.Tie as tie
 
-double-requires : tie.Need-double-requires
-double-requires c κs = search needs
-
 returns : tie.Need-returns
 returns c =
     let a = c .before .args in
     ap (λ (n : ℕ). n ⊕ a .x) (c .double .ensures) ∙ sym (product-03 (a .x) (c .before .fits .x .fits))
 
 pub times-03-spec : {M : Type 1} → statement M
-times-03-spec = tie.close (tie.spec double-requires returns)
+times-03-spec = tie.close (tie.spec (λ c κs. search needs) returns)

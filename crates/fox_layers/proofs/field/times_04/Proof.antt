@@ -7,16 +7,10 @@ use Rattle.fox_layers.specs.Field.{double}
 use Rattle.fox_layers.proofs.field.times_04.Statement.{statement}
 use Rattle.fox_layers.proofs.field.times_04.Tie as tie
 
-double-requires : tie.Need-double-requires
-double-requires c κs = search needs
-
-double-requires-2 : tie.Need-double-requires-2
-double-requires-2 c κs = search needs
-
 returns : tie.Need-returns
 returns c =
     let s = c .before .before in
     c .double2 .ensures ∙ ap double (c .before .double .ensures) ∙ sym (product-04 (s .args .x) (s .fits .x .fits))
 
 pub times-04-spec : {M : Type 1} → statement M
-times-04-spec = tie.close (tie.spec double-requires double-requires-2 returns)
+times-04-spec = tie.close (tie.spec (λ c κs. search needs) (λ c κs. search needs) returns)

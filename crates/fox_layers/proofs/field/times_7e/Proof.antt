@@ -7,16 +7,10 @@ use Rattle.fox_layers.specs.Field.{halve}
 use Rattle.fox_layers.proofs.field.times_7e.Statement.{statement}
 use Rattle.fox_layers.proofs.field.times_7e.Tie as tie
 
-halve-requires : tie.Need-halve-requires
-halve-requires c κs = search needs
-
-halve-requires-2 : tie.Need-halve-requires-2
-halve-requires-2 c κs = search needs
-
 returns : tie.Need-returns
 returns c =
     let s = c .before .before in
     c .halve2 .ensures ∙ ap halve (c .before .halve .ensures) ∙ sym (product-7E (s .args .x) (s .fits .x .fits))
 
 pub times-7e-spec : {M : Type 1} → statement M
-times-7e-spec = tie.close (tie.spec halve-requires halve-requires-2 returns)
+times-7e-spec = tie.close (tie.spec (λ c κs. search needs) (λ c κs. search needs) returns)

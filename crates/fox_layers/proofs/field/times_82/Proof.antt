@@ -8,12 +8,6 @@ use Rattle.fox_layers.specs.Words.{_⊕_}
 use Rattle.fox_layers.proofs.field.times_82.Statement.{statement}
 use Rattle.fox_layers.proofs.field.times_82.Tie as tie
 
-halve-requires : tie.Need-halve-requires
-halve-requires c κs = search needs
-
-times-7e-requires : tie.Need-times-7e-requires
-times-7e-requires c κs = search needs
-
 returns : tie.Need-returns
 returns c =
     let s = c .before .before in
@@ -22,4 +16,4 @@ returns c =
     ap₂ (λ (m n : ℕ). m ⊕ n) (c .before .halve .ensures) (c .times-7e .ensures ∙ product-7E x h) ∙ sym (product-82 x h)
 
 pub times-82-spec : {M : Type 1} → statement M
-times-82-spec = tie.close (tie.spec halve-requires times-7e-requires returns)
+times-82-spec = tie.close (tie.spec (λ c κs. search needs) (λ c κs. search needs) returns)

@@ -8,13 +8,10 @@ use Rattle.fox_layers.specs.Words.{_⊕_}
 use Rattle.fox_layers.proofs.field.times_fd.Statement.{statement}
 use Rattle.fox_layers.proofs.field.times_fd.Tie as tie
 
-halve-requires : tie.Need-halve-requires
-halve-requires c κs = search needs
-
 returns : tie.Need-returns
 returns c =
     let a = c .before .args in
     ap (λ (n : ℕ). n ⊕ a .x) (c .halve .ensures) ∙ sym (product-FD (a .x) (c .before .fits .x .fits))
 
 pub times-fd-spec : {M : Type 1} → statement M
-times-fd-spec = tie.close (tie.spec halve-requires returns)
+times-fd-spec = tie.close (tie.spec (λ c κs. search needs) returns)

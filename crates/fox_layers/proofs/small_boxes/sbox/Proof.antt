@@ -48,9 +48,6 @@ array-read-t c = both (c .args .x / 16) (c .args .x % 16) (omega arith) (omega a
 cast-t : tie.Need-cast-t
 cast-t c = omega (arith, array-read-t c)
 
-or4-requires : tie.Need-or4-requires
-or4-requires c κs = search needs
-
 -- the halves after the first round
 left₁ : (c : tie.After-or4) → c .or4 .result < 16
 unfolding S₁
@@ -71,9 +68,6 @@ array-read-t-2 c = both (c .or4 .result) (right₁-is (c .before .args .x)) (lef
 
 cast-t-2 : tie.Need-cast-t-2
 cast-t-2 c = omega (arith, array-read-t-2 c)
-
-or4-requires-2 : tie.Need-or4-requires-2
-or4-requires-2 c κs = search needs
 
 -- the halves after the second round: l is the left half after the first
 left₂ : (c : tie.After-or42) → c .or42 .result < 16
@@ -129,16 +123,5 @@ returns c = rw (c .or42 .ensures, c .before .or4 .ensures) refl
 
 pub sbox-spec : {M : Type 1} → statement M
 sbox-spec =
-    tie.close
-    (tie.spec
-    cast-t
-    array-read-t
-    or4-requires
-    cast-t-2
-    array-read-t-2
-    or4-requires-2
-    cast-t-3
-    array-read-t-3
-    mul-result
-    add-result
-    returns)
+    tie.close (tie.spec cast-t array-read-t (λ c κs. search needs) cast-t-2 array-read-t-2 (λ c κs. search needs) cast-t-3 array-read-t-3 mul-result
+    add-result returns)

@@ -8,24 +8,6 @@ use Rattle.fox_layers.specs.Substitution.{sbox, sigma}
 use Rattle.fox_layers.proofs.small_boxes.sigma4.Statement.{statement}
 use Rattle.fox_layers.proofs.small_boxes.sigma4.Tie as tie
 
-split4-requires : tie.Need-split4-requires
-split4-requires c κs = search needs
-
-sbox-requires : tie.Need-sbox-requires
-sbox-requires c κs = search needs
-
-sbox-requires-2 : tie.Need-sbox-requires-2
-sbox-requires-2 c κs = search needs
-
-sbox-requires-3 : tie.Need-sbox-requires-3
-sbox-requires-3 c κs = search needs
-
-sbox-requires-4 : tie.Need-sbox-requires-4
-sbox-requires-4 c κs = search needs
-
-join4-requires : tie.Need-join4-requires
-join4-requires c κs = search needs
-
 returns : tie.Need-returns
 unfolding sigma
 returns c =
@@ -46,12 +28,5 @@ returns c =
 
 pub sigma4-spec : {M : Type 1} → statement M
 sigma4-spec =
-    tie.close
-    (tie.spec
-    split4-requires
-    sbox-requires
-    sbox-requires-2
-    sbox-requires-3
-    sbox-requires-4
-    join4-requires
-    returns)
+    tie.close (tie.spec (λ c κs. search needs) (λ c κs. search needs) (λ c κs. search needs) (λ c κs. search needs) (λ c κs. search needs)
+    (λ c κs. search needs) returns)

@@ -8,36 +8,6 @@ use Rattle.fox_layers.specs.Substitution.{sbox, sigma}
 use Rattle.fox_layers.proofs.small_boxes.sigma8.Statement.{statement}
 use Rattle.fox_layers.proofs.small_boxes.sigma8.Tie as tie
 
-split8-requires : tie.Need-split8-requires
-split8-requires c κs = search needs
-
-sbox-requires : tie.Need-sbox-requires
-sbox-requires c κs = search needs
-
-sbox-requires-2 : tie.Need-sbox-requires-2
-sbox-requires-2 c κs = search needs
-
-sbox-requires-3 : tie.Need-sbox-requires-3
-sbox-requires-3 c κs = search needs
-
-sbox-requires-4 : tie.Need-sbox-requires-4
-sbox-requires-4 c κs = search needs
-
-sbox-requires-5 : tie.Need-sbox-requires-5
-sbox-requires-5 c κs = search needs
-
-sbox-requires-6 : tie.Need-sbox-requires-6
-sbox-requires-6 c κs = search needs
-
-sbox-requires-7 : tie.Need-sbox-requires-7
-sbox-requires-7 c κs = search needs
-
-sbox-requires-8 : tie.Need-sbox-requires-8
-sbox-requires-8 c κs = search needs
-
-join8-requires : tie.Need-join8-requires
-join8-requires c κs = search needs
-
 returns : tie.Need-returns
 unfolding sigma
 returns c =
@@ -66,16 +36,5 @@ returns c =
 
 pub sigma8-spec : {M : Type 1} → statement M
 sigma8-spec =
-    tie.close
-    (tie.spec
-    split8-requires
-    sbox-requires
-    sbox-requires-2
-    sbox-requires-3
-    sbox-requires-4
-    sbox-requires-5
-    sbox-requires-6
-    sbox-requires-7
-    sbox-requires-8
-    join8-requires
-    returns)
+    tie.close (tie.spec (λ c κs. search needs) (λ c κs. search needs) (λ c κs. search needs) (λ c κs. search needs) (λ c κs. search needs)
+    (λ c κs. search needs) (λ c κs. search needs) (λ c κs. search needs) (λ c κs. search needs) (λ c κs. search needs) returns)

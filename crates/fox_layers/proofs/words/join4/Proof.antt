@@ -28,6 +28,4 @@ unfolding joined
 returns c = omega arith
 
 pub join4-spec : {M : Type 1} → statement M
-join4-spec =
-    tie.close
-    (tie.spec mul-result mul-result-2 add-result mul-result-3 add-result-2 add-result-3 returns)
+join4-spec = tie.close (tie.spec mul-result mul-result-2 add-result mul-result-3 add-result-2 add-result-3 returns)

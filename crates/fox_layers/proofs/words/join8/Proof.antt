@@ -53,20 +53,5 @@ returns c = omega arith
 
 pub join8-spec : {M : Type 1} → statement M
 join8-spec =
-    tie.close
-    (tie.spec
-    mul-result
-    mul-result-2
-    add-result
-    mul-result-3
-    add-result-2
-    mul-result-4
-    add-result-3
-    mul-result-5
-    add-result-4
-    mul-result-6
-    add-result-5
-    mul-result-7
-    add-result-6
-    add-result-7
-    returns)
+    tie.close (tie.spec mul-result mul-result-2 add-result mul-result-3 add-result-2 mul-result-4 add-result-3 mul-result-5 add-result-4 mul-result-6
+    add-result-5 mul-result-7 add-result-6 add-result-7 returns)

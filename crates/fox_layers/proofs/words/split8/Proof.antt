@@ -34,6 +34,4 @@ returns : tie.Need-returns
 returns c = sym (split-8 (c .args .w))
 
 pub split8-spec : {M : Type 1} → statement M
-split8-spec =
-    tie.close
-    (tie.spec cast-t4 cast-t7 cast-t10 cast-t13 cast-t16 cast-t19 cast-t22 cast-t24 returns)
+split8-spec = tie.close (tie.spec cast-t4 cast-t7 cast-t10 cast-t13 cast-t16 cast-t19 cast-t22 cast-t24 returns)

@@ -15,29 +15,8 @@ use Rattle.fox_lent.proofs.Laws.Lent.{lent-sigma8, lent-mu8, halves-add
 use Rattle.fox_lent.proofs.lent128.elmid128.Statement.{statement}
 use Rattle.fox_lent.proofs.lent128.elmid128.Tie as tie
 
-sums-requires : tie.Need-sums-requires
-sums-requires c κs = search needs
-
-sigma-mu8-requires : tie.Need-sigma-mu8-requires
-sigma-mu8-requires c κs = search needs
-
 cast-sigma4 : tie.Need-cast-sigma4
 cast-sigma4 c = omega (arith, xor-lt 64 (c .sigma-mu8 .result) (c .before .before .args .l) (search needs) (search needs))
-
-sigma4-requires : tie.Need-sigma4-requires
-sigma4-requires c κs = search needs
-
-cast-p : tie.Need-cast-p
-cast-p c = search needs
-
-cast-sigma4-2 : tie.Need-cast-sigma4-2
-cast-sigma4-2 c = search needs
-
-sigma4-requires-2 : tie.Need-sigma4-requires-2
-sigma4-requires-2 c κs = search needs
-
-cast-q : tie.Need-cast-q
-cast-q c = search needs
 
 returns : tie.Need-returns
 unfolding f64 elmid128
@@ -64,14 +43,5 @@ returns c =
 
 pub elmid128-spec : {M : Type 1} → statement M
 elmid128-spec =
-    tie.close
-    (tie.spec
-    sums-requires
-    sigma-mu8-requires
-    cast-sigma4
-    sigma4-requires
-    cast-p
-    cast-sigma4-2
-    sigma4-requires-2
-    cast-q
-    returns)
+    tie.close (tie.spec (λ c κs. search needs) (λ c κs. search needs) cast-sigma4 (λ c κs. search needs) (λ c. search needs) (λ c. search needs)
+    (λ c κs. search needs) (λ c. search needs) returns)

@@ -70,17 +70,5 @@ returns c =
 
 pub open128-spec : {M : Type 1} → statement M
 open128-spec =
-    tie.close
-    (tie.spec
-    Inv-loop
-    μ-loop
-    sub-last
-    loop-holds
-    sub-elmid128-at
-    elmid128-at-requires
-    io-requires
-    add-j
-    loop-less
-    loop-again
-    elmid128-at-requires-2
-    returns)
+    tie.close (tie.spec Inv-loop μ-loop sub-last loop-holds sub-elmid128-at elmid128-at-requires io-requires add-j loop-less loop-again
+    elmid128-at-requires-2 returns)

@@ -61,16 +61,5 @@ returns c =
 
 pub seal128-spec : {M : Type 1} → statement M
 seal128-spec =
-    tie.close
-    (tie.spec
-    Inv-loop
-    μ-loop
-    sub-last
-    loop-holds
-    elmid128-at-requires
-    or-requires
-    add-i
-    loop-less
-    loop-again
-    elmid128-at-requires-2
+    tie.close (tie.spec Inv-loop μ-loop sub-last loop-holds elmid128-at-requires or-requires add-i loop-less loop-again elmid128-at-requires-2
     returns)

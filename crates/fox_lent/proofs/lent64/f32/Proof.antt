@@ -11,18 +11,6 @@ use Rattle.fox_lent.proofs.Laws.Lent.{lent-sigma4, lent-mu4}
 use Rattle.fox_lent.proofs.lent64.f32.Statement.{statement}
 use Rattle.fox_lent.proofs.lent64.f32.Tie as tie
 
-cast-k : tie.Need-cast-k
-cast-k c = search needs
-
-cast-l : tie.Need-cast-l
-cast-l c = search needs
-
-sigma-mu4-requires : tie.Need-sigma-mu4-requires
-sigma-mu4-requires c κs = search needs
-
-sigma4-requires : tie.Need-sigma4-requires
-sigma4-requires c κs = search needs
-
 returns : tie.Need-returns
 unfolding f32 right
 returns c =
@@ -33,4 +21,4 @@ returns c =
     (c .sigma4 .ensures ∙ lent-sigma4 (c2 .pre) _)
 
 pub f32-spec : {M : Type 1} → statement M
-f32-spec = tie.close (tie.spec cast-k cast-l sigma-mu4-requires sigma4-requires returns)
+f32-spec = tie.close (tie.spec (λ c. search needs) (λ c. search needs) (λ c κs. search needs) (λ c κs. search needs) returns)

@@ -6,9 +6,6 @@ use Rattle.fox_rounds.specs.Rounds.{lmid64}
 use Rattle.fox_lent.proofs.lent64.lmid64.Statement.{statement}
 use Rattle.fox_lent.proofs.lent64.lmid64.Tie as tie
 
-f32-requires : tie.Need-f32-requires
-f32-requires c κs = search needs
-
 returns : tie.Need-returns
 unfolding lmid64
 returns c =
@@ -17,4 +14,4 @@ returns c =
     λ i. record { l = x .l ⊕ c2 .f32 .ensures i; r = x .r ⊕ c2 .f32 .ensures i }
 
 pub lmid64-spec : {M : Type 1} → statement M
-lmid64-spec = tie.close (tie.spec f32-requires returns)
+lmid64-spec = tie.close (tie.spec (λ c κs. search needs) returns)

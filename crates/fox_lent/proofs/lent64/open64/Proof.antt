@@ -80,20 +80,5 @@ returns c =
 
 pub open64-spec : {M : Type 1} → statement M
 open64-spec =
-    tie.close
-    (tie.spec
-    Inv-loop
-    μ-loop
-    sub-last
-    loop-holds
-    sub-lmid64
-    mul-lmid64
-    element-copy-out-lmid64
-    lmid64-requires
-    io-requires
-    add-j
-    loop-less
-    loop-again
-    element-copy-out-lmid64-2
-    lmid64-requires-2
-    returns)
+    tie.close (tie.spec Inv-loop μ-loop sub-last loop-holds sub-lmid64 mul-lmid64 element-copy-out-lmid64 lmid64-requires io-requires add-j loop-less
+    loop-again element-copy-out-lmid64-2 lmid64-requires-2 returns)

@@ -72,20 +72,5 @@ returns c =
 
 pub seal64-spec : {M : Type 1} → statement M
 seal64-spec =
-    tie.close
-    (tie.spec
-    Inv-loop
-    μ-loop
-    sub-last
-    loop-holds
-    mul-lmid64
-    element-copy-out-lmid64
-    lmid64-requires
-    or-requires
-    add-i
-    loop-less
-    loop-again
-    mul-lmid64-2
-    element-copy-out-lmid64-2
-    lmid64-requires-2
-    returns)
+    tie.close (tie.spec Inv-loop μ-loop sub-last loop-holds mul-lmid64 element-copy-out-lmid64 lmid64-requires or-requires add-i loop-less loop-again
+    mul-lmid64-2 element-copy-out-lmid64-2 lmid64-requires-2 returns)

@@ -11,30 +11,6 @@ use Rattle.fox_nonlinear.proofs.Laws.Layers.{pad-8-4, layers-made}
 use Rattle.fox_nonlinear.proofs.nl128.layers128.Statement.{statement}
 use Rattle.fox_nonlinear.proofs.nl128.layers128.Tie as tie
 
-first8-requires : tie.Need-first8-requires
-first8-requires c κs = search needs
-
-first8-requires-2 : tie.Need-first8-requires-2
-first8-requires-2 c κs = search needs
-
-first8-requires-3 : tie.Need-first8-requires-3
-first8-requires-3 c κs = search needs
-
-first8-requires-4 : tie.Need-first8-requires-4
-first8-requires-4 c κs = search needs
-
-second8-requires : tie.Need-second8-requires
-second8-requires c κs = search needs
-
-second8-requires-2 : tie.Need-second8-requires-2
-second8-requires-2 c κs = search needs
-
-second8-requires-3 : tie.Need-second8-requires-3
-second8-requires-3 c κs = search needs
-
-second8-requires-4 : tie.Need-second8-requires-4
-second8-requires-4 c κs = search needs
-
 returns : tie.Need-returns
 unfolding mix64 mix128 sum
 returns c =
@@ -63,14 +39,5 @@ returns c =
 
 pub layers128-spec : {M : Type 1} → statement M
 layers128-spec =
-    tie.close
-    (tie.spec
-    first8-requires
-    first8-requires-2
-    first8-requires-3
-    first8-requires-4
-    second8-requires
-    second8-requires-2
-    second8-requires-3
-    second8-requires-4
-    returns)
+    tie.close (tie.spec (λ c κs. search needs) (λ c κs. search needs) (λ c κs. search needs) (λ c κs. search needs) (λ c κs. search needs)
+    (λ c κs. search needs) (λ c κs. search needs) (λ c κs. search needs) returns)

@@ -15,27 +15,6 @@ use Rattle.fox_rounds.proofs.Laws.Skeleton.{one-more}
 use Rattle.fox_nonlinear.proofs.nl128.nl128.Statement.{statement}
 use Rattle.fox_nonlinear.proofs.nl128.nl128.Tie as tie
 
-layers128-requires : tie.Need-layers128-requires
-layers128-requires c κs = search needs
-
-state-requires : tie.Need-state-requires
-state-requires c κs = search needs
-
-elmid-requires : tie.Need-elmid-requires
-elmid-requires c κs = search needs
-
-or-requires : tie.Need-or-requires
-or-requires c κs = search needs
-
-elmid-requires-2 : tie.Need-elmid-requires-2
-elmid-requires-2 c κs = search needs
-
-pair-requires : tie.Need-pair-requires
-pair-requires c κs = search needs
-
-pair-requires-2 : tie.Need-pair-requires-2
-pair-requires-2 c κs = search needs
-
 -- the hashing layer
 abbrev hashed : List ℕ → Fox128
 hashed t = parts128 (getD t 0 0 ⊕ getD t 2 0) (getD t 1 0 ⊕ getD t 3 0)
@@ -66,13 +45,5 @@ returns c =
 
 pub nl128-spec : {M : Type 1} → statement M
 nl128-spec =
-    tie.close
-    (tie.spec
-    layers128-requires
-    state-requires
-    elmid-requires
-    or-requires
-    elmid-requires-2
-    pair-requires
-    pair-requires-2
-    returns)
+    tie.close (tie.spec (λ c κs. search needs) (λ c κs. search needs) (λ c κs. search needs) (λ c κs. search needs) (λ c κs. search needs)
+    (λ c κs. search needs) (λ c κs. search needs) returns)

@@ -8,18 +8,6 @@ use Rattle.fox_nonlinear.specs.Nonlinear.{parts128}
 use Rattle.fox_nonlinear.proofs.nl128.state.Statement.{statement}
 use Rattle.fox_nonlinear.proofs.nl128.state.Tie as tie
 
-cast-t4 : tie.Need-cast-t4
-cast-t4 c = search needs
-
-cast-t6 : tie.Need-cast-t6
-cast-t6 c = search needs
-
-cast-t8 : tie.Need-cast-t8
-cast-t8 c = search needs
-
-cast-t10 : tie.Need-cast-t10
-cast-t10 c = search needs
-
 returns : tie.Need-returns
 unfolding parts128 right
 returns c =
@@ -30,4 +18,4 @@ returns c =
     λ i. record { ll = high-a i; lr = right 32 a; rl = high-b i; rr = right 32 b }
 
 pub state-spec : {M : Type 1} → statement M
-state-spec = tie.close (tie.spec cast-t4 cast-t6 cast-t8 cast-t10 returns)
+state-spec = tie.close (tie.spec (λ c. search needs) (λ c. search needs) (λ c. search needs) (λ c. search needs) returns)

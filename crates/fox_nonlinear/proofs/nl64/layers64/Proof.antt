@@ -11,42 +11,6 @@ use Rattle.fox_nonlinear.proofs.Laws.Layers.{pad-4-4, layers-made}
 use Rattle.fox_nonlinear.proofs.nl64.layers64.Statement.{statement}
 use Rattle.fox_nonlinear.proofs.nl64.layers64.Tie as tie
 
-cast-first4 : tie.Need-cast-first4
-cast-first4 c = search needs
-
-first4-requires : tie.Need-first4-requires
-first4-requires c κs = search needs
-
-cast-first4-2 : tie.Need-cast-first4-2
-cast-first4-2 c = search needs
-
-first4-requires-2 : tie.Need-first4-requires-2
-first4-requires-2 c κs = search needs
-
-cast-first4-3 : tie.Need-cast-first4-3
-cast-first4-3 c = search needs
-
-first4-requires-3 : tie.Need-first4-requires-3
-first4-requires-3 c κs = search needs
-
-cast-first4-4 : tie.Need-cast-first4-4
-cast-first4-4 c = search needs
-
-first4-requires-4 : tie.Need-first4-requires-4
-first4-requires-4 c κs = search needs
-
-second4-requires : tie.Need-second4-requires
-second4-requires c κs = search needs
-
-second4-requires-2 : tie.Need-second4-requires-2
-second4-requires-2 c κs = search needs
-
-second4-requires-3 : tie.Need-second4-requires-3
-second4-requires-3 c κs = search needs
-
-second4-requires-4 : tie.Need-second4-requires-4
-second4-requires-4 c κs = search needs
-
 returns : tie.Need-returns
 unfolding mix64 sum
 returns c =
@@ -79,18 +43,6 @@ returns c =
 
 pub layers64-spec : {M : Type 1} → statement M
 layers64-spec =
-    tie.close
-    (tie.spec
-    cast-first4
-    first4-requires
-    cast-first4-2
-    first4-requires-2
-    cast-first4-3
-    first4-requires-3
-    cast-first4-4
-    first4-requires-4
-    second4-requires
-    second4-requires-2
-    second4-requires-3
-    second4-requires-4
-    returns)
+    tie.close (tie.spec (λ c. search needs) (λ c κs. search needs) (λ c. search needs) (λ c κs. search needs) (λ c. search needs)
+    (λ c κs. search needs) (λ c. search needs) (λ c κs. search needs) (λ c κs. search needs) (λ c κs. search needs) (λ c κs. search needs)
+    (λ c κs. search needs) returns)

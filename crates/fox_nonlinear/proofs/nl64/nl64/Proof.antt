@@ -15,24 +15,6 @@ use Rattle.fox_rounds.proofs.Laws.Skeleton.{one-more}
 use Rattle.fox_nonlinear.proofs.nl64.nl64.Statement.{statement}
 use Rattle.fox_nonlinear.proofs.nl64.nl64.Tie as tie
 
-layers64-requires : tie.Need-layers64-requires
-layers64-requires c κs = search needs
-
-new-requires : tie.Need-new-requires
-new-requires c κs = search needs
-
-lmid-requires : tie.Need-lmid-requires
-lmid-requires c κs = search needs
-
-or-requires : tie.Need-or-requires
-or-requires c κs = search needs
-
-lmid-requires-2 : tie.Need-lmid-requires-2
-lmid-requires-2 c κs = search needs
-
-number-requires : tie.Need-number-requires
-number-requires c κs = search needs
-
 -- the hashing layer
 abbrev hashed : List ℕ → Fox64
 hashed t = record { l = getD t 0 0 ⊕ getD t 2 0; r = getD t 1 0 ⊕ getD t 3 0 }
@@ -62,12 +44,5 @@ returns c =
 
 pub nl64-spec : {M : Type 1} → statement M
 nl64-spec =
-    tie.close
-    (tie.spec
-    layers64-requires
-    new-requires
-    lmid-requires
-    or-requires
-    lmid-requires-2
-    number-requires
-    returns)
+    tie.close (tie.spec (λ c κs. search needs) (λ c κs. search needs) (λ c κs. search needs) (λ c κs. search needs) (λ c κs. search needs)
+    (λ c κs. search needs) returns)

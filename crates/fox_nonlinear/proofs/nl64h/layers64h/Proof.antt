@@ -11,78 +11,6 @@ use Rattle.fox_nonlinear.proofs.Laws.Layers.{pad-4-8, layers-made}
 use Rattle.fox_nonlinear.proofs.nl64h.layers64h.Statement.{statement}
 use Rattle.fox_nonlinear.proofs.nl64h.layers64h.Tie as tie
 
-cast-first4 : tie.Need-cast-first4
-cast-first4 c = search needs
-
-first4-requires : tie.Need-first4-requires
-first4-requires c κs = search needs
-
-cast-first4-2 : tie.Need-cast-first4-2
-cast-first4-2 c = search needs
-
-first4-requires-2 : tie.Need-first4-requires-2
-first4-requires-2 c κs = search needs
-
-cast-first4-3 : tie.Need-cast-first4-3
-cast-first4-3 c = search needs
-
-first4-requires-3 : tie.Need-first4-requires-3
-first4-requires-3 c κs = search needs
-
-cast-first4-4 : tie.Need-cast-first4-4
-cast-first4-4 c = search needs
-
-first4-requires-4 : tie.Need-first4-requires-4
-first4-requires-4 c κs = search needs
-
-cast-first4-5 : tie.Need-cast-first4-5
-cast-first4-5 c = search needs
-
-first4-requires-5 : tie.Need-first4-requires-5
-first4-requires-5 c κs = search needs
-
-cast-first4-6 : tie.Need-cast-first4-6
-cast-first4-6 c = search needs
-
-first4-requires-6 : tie.Need-first4-requires-6
-first4-requires-6 c κs = search needs
-
-cast-first4-7 : tie.Need-cast-first4-7
-cast-first4-7 c = search needs
-
-first4-requires-7 : tie.Need-first4-requires-7
-first4-requires-7 c κs = search needs
-
-cast-first4-8 : tie.Need-cast-first4-8
-cast-first4-8 c = search needs
-
-first4-requires-8 : tie.Need-first4-requires-8
-first4-requires-8 c κs = search needs
-
-second4-requires : tie.Need-second4-requires
-second4-requires c κs = search needs
-
-second4-requires-2 : tie.Need-second4-requires-2
-second4-requires-2 c κs = search needs
-
-second4-requires-3 : tie.Need-second4-requires-3
-second4-requires-3 c κs = search needs
-
-second4-requires-4 : tie.Need-second4-requires-4
-second4-requires-4 c κs = search needs
-
-second4-requires-5 : tie.Need-second4-requires-5
-second4-requires-5 c κs = search needs
-
-second4-requires-6 : tie.Need-second4-requires-6
-second4-requires-6 c κs = search needs
-
-second4-requires-7 : tie.Need-second4-requires-7
-second4-requires-7 c κs = search needs
-
-second4-requires-8 : tie.Need-second4-requires-8
-second4-requires-8 c κs = search needs
-
 returns : tie.Need-returns
 unfolding mix64h sum
 returns c =
@@ -135,30 +63,8 @@ returns c =
 
 pub layers64h-spec : {M : Type 1} → statement M
 layers64h-spec =
-    tie.close
-    (tie.spec
-    cast-first4
-    first4-requires
-    cast-first4-2
-    first4-requires-2
-    cast-first4-3
-    first4-requires-3
-    cast-first4-4
-    first4-requires-4
-    cast-first4-5
-    first4-requires-5
-    cast-first4-6
-    first4-requires-6
-    cast-first4-7
-    first4-requires-7
-    cast-first4-8
-    first4-requires-8
-    second4-requires
-    second4-requires-2
-    second4-requires-3
-    second4-requires-4
-    second4-requires-5
-    second4-requires-6
-    second4-requires-7
-    second4-requires-8
-    returns)
+    tie.close (tie.spec (λ c. search needs) (λ c κs. search needs) (λ c. search needs) (λ c κs. search needs) (λ c. search needs)
+    (λ c κs. search needs) (λ c. search needs) (λ c κs. search needs) (λ c. search needs) (λ c κs. search needs) (λ c. search needs)
+    (λ c κs. search needs) (λ c. search needs) (λ c κs. search needs) (λ c. search needs) (λ c κs. search needs) (λ c κs. search needs)
+    (λ c κs. search needs) (λ c κs. search needs) (λ c κs. search needs) (λ c κs. search needs) (λ c κs. search needs) (λ c κs. search needs)
+    (λ c κs. search needs) returns)

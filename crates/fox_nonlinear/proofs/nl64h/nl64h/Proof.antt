@@ -15,36 +15,6 @@ use Rattle.fox_rounds.proofs.Laws.Skeleton.{one-more}
 use Rattle.fox_nonlinear.proofs.nl64h.nl64h.Statement.{statement}
 use Rattle.fox_nonlinear.proofs.nl64h.nl64h.Tie as tie
 
-layers64h-requires : tie.Need-layers64h-requires
-layers64h-requires c κs = search needs
-
-new-requires : tie.Need-new-requires
-new-requires c κs = search needs
-
-lmid-requires : tie.Need-lmid-requires
-lmid-requires c κs = search needs
-
-or-requires : tie.Need-or-requires
-or-requires c κs = search needs
-
-lmid-requires-2 : tie.Need-lmid-requires-2
-lmid-requires-2 c κs = search needs
-
-or-requires-2 : tie.Need-or-requires-2
-or-requires-2 c κs = search needs
-
-lmid-requires-3 : tie.Need-lmid-requires-3
-lmid-requires-3 c κs = search needs
-
-or-requires-3 : tie.Need-or-requires-3
-or-requires-3 c κs = search needs
-
-lmid-requires-4 : tie.Need-lmid-requires-4
-lmid-requires-4 c κs = search needs
-
-number-requires : tie.Need-number-requires
-number-requires c κs = search needs
-
 -- the hashing layer
 abbrev hashed : List ℕ → Fox64
 hashed t =
@@ -84,16 +54,5 @@ returns c =
 
 pub nl64h-spec : {M : Type 1} → statement M
 nl64h-spec =
-    tie.close
-    (tie.spec
-    layers64h-requires
-    new-requires
-    lmid-requires
-    or-requires
-    lmid-requires-2
-    or-requires-2
-    lmid-requires-3
-    or-requires-3
-    lmid-requires-4
-    number-requires
-    returns)
+    tie.close (tie.spec (λ c κs. search needs) (λ c κs. search needs) (λ c κs. search needs) (λ c κs. search needs) (λ c κs. search needs)
+    (λ c κs. search needs) (λ c κs. search needs) (λ c κs. search needs) (λ c κs. search needs) (λ c κs. search needs) returns)

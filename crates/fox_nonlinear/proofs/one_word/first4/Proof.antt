@@ -6,15 +6,9 @@ use Rattle.fox_layers.specs.Diffusion.{mu4}
 use Rattle.fox_nonlinear.proofs.one_word.first4.Statement.{statement}
 use Rattle.fox_nonlinear.proofs.one_word.first4.Tie as tie
 
-sigma4-requires : tie.Need-sigma4-requires
-sigma4-requires c κs = search needs
-
-mu4-requires : tie.Need-mu4-requires
-mu4-requires c κs = search needs
-
 returns : tie.Need-returns
 returns c =
     c .mu4 .ensures ∙ ap mu4 (c .before .sigma4 .ensures)
 
 pub first4-spec : {M : Type 1} → statement M
-first4-spec = tie.close (tie.spec sigma4-requires mu4-requires returns)
+first4-spec = tie.close (tie.spec (λ c κs. search needs) (λ c κs. search needs) returns)

@@ -9,12 +9,6 @@ use Rattle.fox_nonlinear.proofs.Laws.Layers.{turned}
 use Rattle.fox_nonlinear.proofs.one_word.second4.Statement.{statement}
 use Rattle.fox_nonlinear.proofs.one_word.second4.Tie as tie
 
-sigma4-requires : tie.Need-sigma4-requires
-sigma4-requires c κs = search needs
-
-sigma4-requires-2 : tie.Need-sigma4-requires-2
-sigma4-requires-2 c κs = search needs
-
 returns : tie.Need-returns
 unfolding flipped
 returns c =
@@ -29,4 +23,4 @@ returns-2 c =
     ∙ ap (λ (flip : Bool). turned 4 flip ((a .x ⊕ a .y ⊕ a .z) ⊕ a .pad)) (sym (c .before .if1 .left))
 
 pub second4-spec : {M : Type 1} → statement M
-second4-spec = tie.close (tie.spec sigma4-requires sigma4-requires-2 returns returns-2)
+second4-spec = tie.close (tie.spec (λ c κs. search needs) (λ c κs. search needs) returns returns-2)

@@ -9,12 +9,6 @@ use Rattle.fox_nonlinear.proofs.Laws.Layers.{turned}
 use Rattle.fox_nonlinear.proofs.one_word.second8.Statement.{statement}
 use Rattle.fox_nonlinear.proofs.one_word.second8.Tie as tie
 
-sigma8-requires : tie.Need-sigma8-requires
-sigma8-requires c κs = search needs
-
-sigma8-requires-2 : tie.Need-sigma8-requires-2
-sigma8-requires-2 c κs = search needs
-
 returns : tie.Need-returns
 unfolding flipped
 returns c =
@@ -29,4 +23,4 @@ returns-2 c =
     ∙ ap (λ (flip : Bool). turned 8 flip ((a .x ⊕ a .y ⊕ a .z) ⊕ a .pad)) (sym (c .before .if1 .left))
 
 pub second8-spec : {M : Type 1} → statement M
-second8-spec = tie.close (tie.spec sigma8-requires sigma8-requires-2 returns returns-2)
+second8-spec = tie.close (tie.spec (λ c κs. search needs) (λ c κs. search needs) returns returns-2)

@@ -10,15 +10,6 @@ use Rattle.fox_rounds.proofs.Laws.Rounds.{f-made}
 use Rattle.fox_rounds.proofs.fox128.f64.Statement.{statement}
 use Rattle.fox_rounds.proofs.fox128.f64.Tie as tie
 
-sigma8-requires : tie.Need-sigma8-requires
-sigma8-requires c κs = search needs
-
-mu8-requires : tie.Need-mu8-requires
-mu8-requires c κs = search needs
-
-sigma8-requires-2 : tie.Need-sigma8-requires-2
-sigma8-requires-2 c κs = search needs
-
 returns : tie.Need-returns
 unfolding f64
 returns c =
@@ -31,4 +22,4 @@ returns c =
     (right-pair 64 k l (c3 .fits .l .fits)) (c1 .mu8 .ensures ∙ ap mu8 (c2 .sigma8 .ensures)) (c .sigma82 .ensures)
 
 pub f64-spec : {M : Type 1} → statement M
-f64-spec = tie.close (tie.spec sigma8-requires mu8-requires sigma8-requires-2 returns)
+f64-spec = tie.close (tie.spec (λ c κs. search needs) (λ c κs. search needs) (λ c κs. search needs) returns)

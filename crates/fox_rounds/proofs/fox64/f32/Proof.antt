@@ -9,21 +9,6 @@ use Rattle.fox_rounds.proofs.Laws.Rounds.{f-made}
 use Rattle.fox_rounds.proofs.fox64.f32.Statement.{statement}
 use Rattle.fox_rounds.proofs.fox64.f32.Tie as tie
 
-cast-k : tie.Need-cast-k
-cast-k c = search needs
-
-cast-l : tie.Need-cast-l
-cast-l c = search needs
-
-sigma4-requires : tie.Need-sigma4-requires
-sigma4-requires c κs = search needs
-
-mu4-requires : tie.Need-mu4-requires
-mu4-requires c κs = search needs
-
-sigma4-requires-2 : tie.Need-sigma4-requires-2
-sigma4-requires-2 c κs = search needs
-
 returns : tie.Need-returns
 unfolding f32 right
 returns c =
@@ -35,5 +20,4 @@ returns c =
     (c .sigma42 .ensures)
 
 pub f32-spec : {M : Type 1} → statement M
-f32-spec =
-    tie.close (tie.spec cast-k cast-l sigma4-requires mu4-requires sigma4-requires-2 returns)
+f32-spec = tie.close (tie.spec (λ c. search needs) (λ c. search needs) (λ c κs. search needs) (λ c κs. search needs) (λ c κs. search needs) returns)

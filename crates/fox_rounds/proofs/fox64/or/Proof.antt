@@ -21,12 +21,6 @@ to-the-right p q h l =
     ∙ xor-block 16 q 0 p q h l
     ∙ ap (λ (x : ℕ). x * 2 ^ 16 + (p ⊕ q)) (xor-zero q)
 
-mul-result : tie.Need-mul-result
-mul-result c = search needs
-
-add-result : tie.Need-add-result
-add-result c = search needs
-
 returns : tie.Need-returns
 unfolding or right
 returns c =
@@ -35,4 +29,4 @@ returns c =
     ∙ ap (λ (p : ℕ). w % 65536 * 65536 + (p ⊕ w % 65536)) (sym (left-div 16 w (c .fits .w .fits)))
 
 pub or-spec : {M : Type 1} → statement M
-or-spec = tie.close (tie.spec mul-result add-result returns)
+or-spec = tie.close (tie.spec (λ c. search needs) (λ c. search needs) returns)

@@ -5,9 +5,6 @@ use Rattle.fox_run.specs.States.{counted128}
 use Rattle.fox_run.proofs.counter.counted128.Statement.{statement}
 use Rattle.fox_run.proofs.counter.counted128.Tie as tie
 
-wrapping-add-u32-requires : tie.Need-wrapping-add-u32-requires
-wrapping-add-u32-requires c κs = search needs
-
 returns : tie.Need-returns
 unfolding counted128
 returns c =
@@ -15,4 +12,4 @@ returns c =
     λ i. record { ll = a .x .ll; lr = a .x .lr; rl = a .x .rl; rr = c .wrapping-add-u32 .ensures i }
 
 pub counted128-spec : {M : Type 1} → statement M
-counted128-spec = tie.close (tie.spec wrapping-add-u32-requires returns)
+counted128-spec = tie.close (tie.spec (λ c κs. search needs) returns)

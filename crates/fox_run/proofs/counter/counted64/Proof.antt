@@ -5,9 +5,6 @@ use Rattle.fox_run.specs.States.{counted64}
 use Rattle.fox_run.proofs.counter.counted64.Statement.{statement}
 use Rattle.fox_run.proofs.counter.counted64.Tie as tie
 
-wrapping-add-u32-requires : tie.Need-wrapping-add-u32-requires
-wrapping-add-u32-requires c κs = search needs
-
 returns : tie.Need-returns
 unfolding counted64
 returns c =
@@ -15,4 +12,4 @@ returns c =
     λ i. record { l = a .x .l; r = c .wrapping-add-u32 .ensures i }
 
 pub counted64-spec : {M : Type 1} → statement M
-counted64-spec = tie.close (tie.spec wrapping-add-u32-requires returns)
+counted64-spec = tie.close (tie.spec (λ c κs. search needs) returns)

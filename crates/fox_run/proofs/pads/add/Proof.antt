@@ -81,17 +81,5 @@ returns c =
 
 pub add-spec : {M : Type 1} → statement M
 add-spec =
-    tie.close
-    (tie.spec
-    Inv-loop
-    μ-loop
-    shorter-requires
-    loop-holds
-    shared-slice-read-out
-    shared-slice-read-out-2
-    slice-write-out
-    add-i
-    loop-less
-    loop-again
-    same-length
-    returns)
+    tie.close (tie.spec Inv-loop μ-loop shorter-requires loop-holds shared-slice-read-out shared-slice-read-out-2 slice-write-out add-i loop-less
+    loop-again same-length returns)

@@ -13,30 +13,6 @@ use borrow.Author.Needs.{needs}
 use Rattle.fox_run.proofs.pads.add8.Statement.{statement}
 use Rattle.fox_run.proofs.pads.add8.Tie as tie
 
-load4-requires : tie.Need-load4-requires
-load4-requires c κs = search needs
-
-store4-requires : tie.Need-store4-requires
-store4-requires c κs = search needs
-
-sub-store4 : tie.Need-sub-store4
-sub-store4 c = search needs
-
-part-store4-start : tie.Need-part-store4-start
-part-store4-start c = search needs
-
-part-store4-end : tie.Need-part-store4-end
-part-store4-end c = search needs
-
-load4-requires-2 : tie.Need-load4-requires-2
-load4-requires-2 c κs = search needs
-
-store4-requires-2 : tie.Need-store4-requires-2
-store4-requires-2 c κs = search needs
-
-same-length : tie.Need-same-length
-same-length c = search needs
-
 returns : tie.Need-returns
 returns c =
     let first = c .before .before .before .before .before .before .before in
@@ -54,14 +30,5 @@ returns c =
 
 pub add8-spec : {M : Type 1} → statement M
 add8-spec =
-    tie.close
-    (tie.spec
-    load4-requires
-    store4-requires
-    sub-store4
-    part-store4-start
-    part-store4-end
-    load4-requires-2
-    store4-requires-2
-    same-length
-    returns)
+    tie.close (tie.spec (λ c κs. search needs) (λ c κs. search needs) (λ c. search needs) (λ c. search needs) (λ c. search needs)
+    (λ c κs. search needs) (λ c κs. search needs) (λ c. search needs) returns)

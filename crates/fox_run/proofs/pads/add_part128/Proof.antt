@@ -11,27 +11,6 @@ use borrow.Author.Needs.{needs}
 use Rattle.fox_run.proofs.pads.add_part128.Statement.{statement}
 use Rattle.fox_run.proofs.pads.add_part128.Tie as tie
 
-slice-aggregate-write128 : tie.Need-slice-aggregate-write128
-slice-aggregate-write128 c = search needs
-
-write128-requires : tie.Need-write128-requires
-write128-requires c κs = search needs
-
-sub-add : tie.Need-sub-add
-sub-add c = search needs
-
-part-add-start : tie.Need-part-add-start
-part-add-start c = search needs
-
-part-add-end : tie.Need-part-add-end
-part-add-end c = search needs
-
-add-requires : tie.Need-add-requires
-add-requires c κs = search needs
-
-same-length : tie.Need-same-length
-same-length c = search needs
-
 returns : tie.Need-returns
 returns c =
     let call = c .before .before in
@@ -46,13 +25,5 @@ returns c =
 
 pub add-part128-spec : {M : Type 1} → statement M
 add-part128-spec =
-    tie.close
-    (tie.spec
-    slice-aggregate-write128
-    write128-requires
-    sub-add
-    part-add-start
-    part-add-end
-    add-requires
-    same-length
-    returns)
+    tie.close (tie.spec (λ c. search needs) (λ c κs. search needs) (λ c. search needs) (λ c. search needs) (λ c. search needs) (λ c κs. search needs)
+    (λ c. search needs) returns)

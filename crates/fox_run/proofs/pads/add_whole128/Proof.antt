@@ -15,33 +15,6 @@ use borrow.Author.Needs.{needs}
 use Rattle.fox_run.proofs.pads.add_whole128.Statement.{statement}
 use Rattle.fox_run.proofs.pads.add_whole128.Tie as tie
 
-add8-requires : tie.Need-add8-requires
-add8-requires c κs = search needs
-
-sub-add8 : tie.Need-sub-add8
-sub-add8 c = search needs
-
-part-add8-start : tie.Need-part-add8-start
-part-add8-start c = search needs
-
-part-add8-end : tie.Need-part-add8-end
-part-add8-end c = search needs
-
-sub-add8-2 : tie.Need-sub-add8-2
-sub-add8-2 c = search needs
-
-part-add8-start-2 : tie.Need-part-add8-start-2
-part-add8-start-2 c = search needs
-
-part-add8-end-2 : tie.Need-part-add8-end-2
-part-add8-end-2 c = search needs
-
-add8-requires-2 : tie.Need-add8-requires-2
-add8-requires-2 c κs = search needs
-
-same-length : tie.Need-same-length
-same-length c = search needs
-
 returns : tie.Need-returns
 unfolding bytes128
 returns c =
@@ -61,15 +34,5 @@ returns c =
 
 pub add-whole128-spec : {M : Type 1} → statement M
 add-whole128-spec =
-    tie.close
-    (tie.spec
-    add8-requires
-    sub-add8
-    part-add8-start
-    part-add8-end
-    sub-add8-2
-    part-add8-start-2
-    part-add8-end-2
-    add8-requires-2
-    same-length
-    returns)
+    tie.close (tie.spec (λ c κs. search needs) (λ c. search needs) (λ c. search needs) (λ c. search needs) (λ c. search needs) (λ c. search needs)
+    (λ c. search needs) (λ c κs. search needs) (λ c. search needs) returns)

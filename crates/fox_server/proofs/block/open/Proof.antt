@@ -26,20 +26,11 @@ module _ (c : tie.Else1) where
   served : Blocked (c .before .before .before .before .args .p .cipher) (c .before .before .before .before .args .p .rounds) (c .before .before .before .before .args .p .«key_len») (length (c .before .before .before .before .args .block .now)) (length (c .before .before .before .before .args .out .now))
   served = blocked _ _ _ _ _ zero
 
-for-block-requires : tie.Need-for-block-requires
-for-block-requires c κs = search needs
-
-refused-requires : tie.Need-refused-requires
-refused-requires c κs = search needs
-
 returns : tie.Need-returns
 returns c =
     let at = c .before in
     let e = at .before .for-block .ensures in
     refused-reply _ _ _ _ _ (c .refused .ensures .0 ∙ e) (λ z. at .if1 .taken (e ∙ z)) (c .refused .ensures .1) refl
-
-cast-rounds : tie.Need-cast-rounds
-cast-rounds c = search needs
 
 open64-block-requires : tie.Need-open64-block-requires
 open64-block-requires c κs =
@@ -47,12 +38,6 @@ open64-block-requires c κs =
     let at = test .before .before .before .before in
     let sizes = asked-64 (served at) (test .if2 .taken) in
     (omega (arith, served at .low), served at .high, sizes .2, sizes .3)
-
-served-requires : tie.Need-served-requires
-served-requires c κs = search needs
-
-same-length : tie.Need-same-length
-same-length c = search needs
 
 returns-2 : tie.Need-returns-2
 returns-2 c =
@@ -73,12 +58,6 @@ open128-block-requires c κs =
     let sizes = asked-128 (served at) (test .if2 .left) in
     (omega (arith, served at .low), served at .high, sizes .2, sizes .3)
 
-served-requires-2 : tie.Need-served-requires-2
-served-requires-2 c κs = search needs
-
-same-length-2 : tie.Need-same-length-2
-same-length-2 c = search needs
-
 returns-3 : tie.Need-returns-3
 returns-3 c =
     let block = c .before .before .before in
@@ -93,17 +72,5 @@ returns-3 c =
 
 pub open-spec : {M : Type 1} → statement M
 open-spec =
-    tie.close
-    (tie.spec
-    for-block-requires
-    refused-requires
-    returns
-    cast-rounds
-    open64-block-requires
-    served-requires
-    same-length
-    returns-2
-    open128-block-requires
-    served-requires-2
-    same-length-2
-    returns-3)
+    tie.close (tie.spec (λ c κs. search needs) (λ c κs. search needs) returns (λ c. search needs) open64-block-requires (λ c κs. search needs)
+    (λ c. search needs) returns-2 open128-block-requires (λ c κs. search needs) (λ c. search needs) returns-3)

@@ -13,26 +13,11 @@ use Rattle.fox_server.proofs.Laws.Prepares.{from-prepared}
 use Rattle.fox_server.proofs.block.seal_from_key.Statement.{statement}
 use Rattle.fox_server.proofs.block.seal_from_key.Tie as tie
 
-for-block-requires : tie.Need-for-block-requires
-for-block-requires c κs = search needs
-
-refused-requires : tie.Need-refused-requires
-refused-requires c κs = search needs
-
 returns : tie.Need-returns
 returns c =
     let at = c .before in
     let e = at .before .for-block .ensures in
     refused-reply _ _ _ _ _ (c .refused .ensures .0 ∙ e) (λ z. at .if1 .taken (e ∙ z)) (c .refused .ensures .1) refl
-
-prepare-requires : tie.Need-prepare-requires
-prepare-requires c κs = search needs
-
-seal-requires : tie.Need-seal-requires
-seal-requires c κs = search needs
-
-same-length : tie.Need-same-length
-same-length c = search needs
 
 returns-2 : tie.Need-returns-2
 unfolding sealBlock
@@ -48,12 +33,5 @@ returns-2 c =
 
 pub seal-from-key-spec : {M : Type 1} → statement M
 seal-from-key-spec =
-    tie.close
-    (tie.spec
-    for-block-requires
-    refused-requires
-    returns
-    prepare-requires
-    seal-requires
-    same-length
+    tie.close (tie.spec (λ c κs. search needs) (λ c κs. search needs) returns (λ c κs. search needs) (λ c κs. search needs) (λ c. search needs)
     returns-2)

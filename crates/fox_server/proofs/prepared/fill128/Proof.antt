@@ -89,22 +89,5 @@ returns c =
 
 pub fill128-spec : {M : Type 1} → statement M
 fill128-spec =
-    tie.close
-    (tie.spec
-    Inv-loop
-    μ-loop
-    seed-requires
-    loop-holds
-    round-key-requires
-    cast-at
-    mul-at
-    mul-keys
-    array-write-keys
-    add-keys
-    mul-keys-2
-    array-write-keys-2
-    forward-requires
-    add-i
-    loop-less
-    loop-again
-    returns)
+    tie.close (tie.spec Inv-loop μ-loop seed-requires loop-holds round-key-requires cast-at mul-at mul-keys array-write-keys add-keys mul-keys-2
+    array-write-keys-2 forward-requires add-i loop-less loop-again returns)

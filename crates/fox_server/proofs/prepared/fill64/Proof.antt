@@ -74,19 +74,5 @@ returns c =
 
 pub fill64-spec : {M : Type 1} → statement M
 fill64-spec =
-    tie.close
-    (tie.spec
-    Inv-loop
-    μ-loop
-    steps-requires
-    seed-requires
-    loop-holds
-    round-key-requires
-    cast-keys
-    mul-keys
-    array-write-keys
-    forward-requires
-    add-i
-    loop-less
-    loop-again
-    returns)
+    tie.close (tie.spec Inv-loop μ-loop steps-requires seed-requires loop-holds round-key-requires cast-keys mul-keys array-write-keys
+    forward-requires add-i loop-less loop-again returns)

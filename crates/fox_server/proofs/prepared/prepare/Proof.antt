@@ -20,15 +20,6 @@ module _ (c : tie.Else1) where
   served : Keyed (c .before .before .before .args .cipher) (c .before .before .before .args .rounds) (length (c .before .before .before .args .key .now))
   served = keyed _ _ _ zero
 
-for-key-requires : tie.Need-for-key-requires
-for-key-requires c κs = search needs
-
-refused-requires : tie.Need-refused-requires
-refused-requires c κs = search needs
-
-zeros-requires : tie.Need-zeros-requires
-zeros-requires c κs = search needs
-
 returns : tie.Need-returns
 returns c =
     let refused = c .before in
@@ -36,22 +27,13 @@ returns c =
     let e = test .before .for-key .ensures in
     refused-key _ _ _ _ (λ n. test .if1 .taken (e ∙ n)) (refused .refused .ensures .0 ∙ e) (refused .refused .ensures .1) (c .zeros .ensures)
 
-cast-words : tie.Need-cast-words
-cast-words c = search needs
-
 words-requires : tie.Need-words-requires
 words-requires c κs = served c .key
-
-block-size-requires : tie.Need-block-size-requires
-block-size-requires c κs = search needs
 
 mul-served : tie.Need-mul-served
 mul-served c =
     let test = c .before .before in
     record { fits = in-use _ _ (c .block-size .ensures) (served test .high) }
-
-served-requires : tie.Need-served-requires
-served-requires c κs = search needs
 
 returns-2 : tie.Need-returns-2
 unfolding preparedKey
@@ -67,15 +49,5 @@ returns-2 c =
 
 pub prepare-spec : {M : Type 1} → statement M
 prepare-spec =
-    tie.close
-    (tie.spec
-    for-key-requires
-    refused-requires
-    zeros-requires
-    returns
-    cast-words
-    words-requires
-    block-size-requires
-    mul-served
-    served-requires
-    returns-2)
+    tie.close (tie.spec (λ c κs. search needs) (λ c κs. search needs) (λ c κs. search needs) returns (λ c. search needs) words-requires
+    (λ c κs. search needs) mul-served (λ c κs. search needs) returns-2)

@@ -10,18 +10,6 @@ use Rattle.fox_server.proofs.Laws.Held.{preparedWords-64, preparedWords
 use Rattle.fox_server.proofs.prepared.words.Statement.{statement}
 use Rattle.fox_server.proofs.prepared.words.Tie as tie
 
-of-requires : tie.Need-of-requires
-of-requires c κs = search needs
-
-fill64-requires : tie.Need-fill64-requires
-fill64-requires c κs = search needs
-
-of-requires-2 : tie.Need-of-requires-2
-of-requires-2 c κs = search needs
-
-fill128-requires : tie.Need-fill128-requires
-fill128-requires c κs = search needs
-
 returns : tie.Need-returns
 returns c =
     let of = c .before in
@@ -39,6 +27,4 @@ returns-2 c =
     ∙ sym (preparedWords-128 (a .cipher) (a .rounds) (a .key .now) (of .before .if1 .left))
 
 pub words-spec : {M : Type 1} → statement M
-words-spec =
-    tie.close
-    (tie.spec of-requires fill64-requires of-requires-2 fill128-requires returns returns-2)
+words-spec = tie.close (tie.spec (λ c κs. search needs) (λ c κs. search needs) (λ c κs. search needs) (λ c κs. search needs) returns returns-2)

@@ -20,20 +20,11 @@ module _ (c : tie.Else1) where
   served : Stretched (c .before .before .before .before .before .args .p .cipher) (c .before .before .before .before .before .args .p .rounds) (c .before .before .before .before .before .args .p .«key_len») (length (c .before .before .before .before .before .args .counter .now)) (c .before .before .before .before .before .args .offset) (length (c .before .before .before .before .before .args .input .now)) (length (c .before .before .before .before .before .args .out .now))
   served = stretched _ _ _ _ _ _ _ zero
 
-for-run-requires : tie.Need-for-run-requires
-for-run-requires c κs = search needs
-
-refused-requires : tie.Need-refused-requires
-refused-requires c κs = search needs
-
 returns : tie.Need-returns
 returns c =
     let at = c .before in
     let e = at .before .for-run .ensures in
     refused-reply _ _ _ _ _ (c .refused .ensures .0 ∙ e) (λ z. at .if1 .taken (e ∙ z)) (c .refused .ensures .1) refl
-
-cast-rounds : tie.Need-cast-rounds
-cast-rounds c = search needs
 
 run64-requires : tie.Need-run64-requires
 run64-requires c κs =
@@ -41,12 +32,6 @@ run64-requires c κs =
     let at = test .before .before .before .before in
     let h = asked-64 (served at) (test .if2 .taken) in
     (h .0, h .1, h .2, omega (arith, h .3), h .4)
-
-served-requires : tie.Need-served-requires
-served-requires c κs = search needs
-
-same-length : tie.Need-same-length
-same-length c = search needs
 
 returns-2 : tie.Need-returns-2
 returns-2 c =
@@ -65,12 +50,6 @@ run128-requires c κs =
     let h = asked-128 (served at) (test .if2 .left) in
     (h .0, h .1, h .2, omega (arith, h .3), h .4)
 
-served-requires-2 : tie.Need-served-requires-2
-served-requires-2 c κs = search needs
-
-same-length-2 : tie.Need-same-length-2
-same-length-2 c = search needs
-
 returns-3 : tie.Need-returns-3
 returns-3 c =
     let laid = c .before .before .before in
@@ -83,17 +62,5 @@ returns-3 c =
 
 pub run-spec : {M : Type 1} → statement M
 run-spec =
-    tie.close
-    (tie.spec
-    for-run-requires
-    refused-requires
-    returns
-    cast-rounds
-    run64-requires
-    served-requires
-    same-length
-    returns-2
-    run128-requires
-    served-requires-2
-    same-length-2
-    returns-3)
+    tie.close (tie.spec (λ c κs. search needs) (λ c κs. search needs) returns (λ c. search needs) run64-requires (λ c κs. search needs)
+    (λ c. search needs) returns-2 run128-requires (λ c κs. search needs) (λ c. search needs) returns-3)

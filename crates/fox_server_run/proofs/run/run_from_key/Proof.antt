@@ -9,26 +9,11 @@ use borrow.Author.Needs.{needs}
 use Rattle.fox_server_run.proofs.run.run_from_key.Statement.{statement}
 use Rattle.fox_server_run.proofs.run.run_from_key.Tie as tie
 
-for-run-requires : tie.Need-for-run-requires
-for-run-requires c κs = search needs
-
-refused-requires : tie.Need-refused-requires
-refused-requires c κs = search needs
-
 returns : tie.Need-returns
 returns c =
     let at = c .before in
     let e = at .before .for-run .ensures in
     refused-reply _ _ _ _ _ (c .refused .ensures .0 ∙ e) (λ z. at .if1 .taken (e ∙ z)) (c .refused .ensures .1) refl
-
-prepare-requires : tie.Need-prepare-requires
-prepare-requires c κs = search needs
-
-run-requires : tie.Need-run-requires
-run-requires c κs = search needs
-
-same-length : tie.Need-same-length
-same-length c = search needs
 
 returns-2 : tie.Need-returns-2
 returns-2 c =
@@ -42,12 +27,5 @@ returns-2 c =
 
 pub run-from-key-spec : {M : Type 1} → statement M
 run-from-key-spec =
-    tie.close
-    (tie.spec
-    for-run-requires
-    refused-requires
-    returns
-    prepare-requires
-    run-requires
-    same-length
+    tie.close (tie.spec (λ c κs. search needs) (λ c κs. search needs) returns (λ c κs. search needs) (λ c κs. search needs) (λ c. search needs)
     returns-2)

@@ -11,33 +11,6 @@ use borrow.Author.Needs.{needs}
 use Rattle.fox_server_run128.proofs.four128.add_four128.Statement.{statement}
 use Rattle.fox_server_run128.proofs.four128.add_four128.Tie as tie
 
-add-two128-requires : tie.Need-add-two128-requires
-add-two128-requires c κs = search needs
-
-sub-add-two128 : tie.Need-sub-add-two128
-sub-add-two128 c = search needs
-
-part-add-two128-start : tie.Need-part-add-two128-start
-part-add-two128-start c = search needs
-
-part-add-two128-end : tie.Need-part-add-two128-end
-part-add-two128-end c = search needs
-
-sub-add-two128-2 : tie.Need-sub-add-two128-2
-sub-add-two128-2 c = search needs
-
-part-add-two128-start-2 : tie.Need-part-add-two128-start-2
-part-add-two128-start-2 c = search needs
-
-part-add-two128-end-2 : tie.Need-part-add-two128-end-2
-part-add-two128-end-2 c = search needs
-
-add-two128-requires-2 : tie.Need-add-two128-requires-2
-add-two128-requires-2 c κs = search needs
-
-same-length : tie.Need-same-length
-same-length c = search needs
-
 returns : tie.Need-returns
 unfolding bytes128 split
 returns c =
@@ -50,15 +23,5 @@ returns c =
 
 pub add-four128-spec : {M : Type 1} → statement M
 add-four128-spec =
-    tie.close
-    (tie.spec
-    add-two128-requires
-    sub-add-two128
-    part-add-two128-start
-    part-add-two128-end
-    sub-add-two128-2
-    part-add-two128-start-2
-    part-add-two128-end-2
-    add-two128-requires-2
-    same-length
-    returns)
+    tie.close (tie.spec (λ c κs. search needs) (λ c. search needs) (λ c. search needs) (λ c. search needs) (λ c. search needs) (λ c. search needs)
+    (λ c. search needs) (λ c κs. search needs) (λ c. search needs) returns)

@@ -17,21 +17,6 @@ use borrow.Author.Needs.{needs}
 use Rattle.fox_server_run128.proofs.four128.four128.Statement.{statement}
 use Rattle.fox_server_run128.proofs.four128.four128.Tie as tie
 
-cast-counted-four128 : tie.Need-cast-counted-four128
-cast-counted-four128 c = search needs
-
-counted-four128-requires : tie.Need-counted-four128-requires
-counted-four128-requires c κs = search needs
-
-seal-four128-requires : tie.Need-seal-four128-requires
-seal-four128-requires c κs = search needs
-
-add-four128-requires : tie.Need-add-four128-requires
-add-four128-requires c κs = search needs
-
-same-length : tie.Need-same-length
-same-length c = search needs
-
 returns : tie.Need-returns
 unfolding sealFour128 sealed128 stream128
 returns c =
@@ -52,11 +37,4 @@ returns c =
 
 pub four128-spec : {M : Type 1} → statement M
 four128-spec =
-    tie.close
-    (tie.spec
-    cast-counted-four128
-    counted-four128-requires
-    seal-four128-requires
-    add-four128-requires
-    same-length
-    returns)
+    tie.close (tie.spec (λ c. search needs) (λ c κs. search needs) (λ c κs. search needs) (λ c κs. search needs) (λ c. search needs) returns)

@@ -80,22 +80,5 @@ returns c = (c .before .loop .inv .0, c .before .loop .inv .3)
 
 pub fours128-spec : {M : Type 1} → statement M
 fours128-spec =
-    tie.close
-    (tie.spec
-    Inv-loop
-    μ-loop
-    loop-holds
-    sub-loop
-    add-four128
-    sub-four128
-    part-four128-start
-    part-four128-end
-    sub-four128-2
-    part-four128-start-2
-    part-four128-end-2
-    four128-requires
-    add-at
-    loop-less
-    loop-again
-    same-length
-    returns)
+    tie.close (tie.spec Inv-loop μ-loop loop-holds sub-loop add-four128 sub-four128 part-four128-start part-four128-end sub-four128-2
+    part-four128-start-2 part-four128-end-2 four128-requires add-at loop-less loop-again same-length returns)

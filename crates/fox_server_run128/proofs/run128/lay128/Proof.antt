@@ -17,27 +17,6 @@ step128-requires c κs =
     let pre = c .before .before .before .pre in
     (pre .0, (pre .1 .0, pre .1 .1, omega arith, pre .1 .3))
 
-add-fours128 : tie.Need-add-fours128
-add-fours128 c = search needs
-
-sub-fours128 : tie.Need-sub-fours128
-sub-fours128 c = search needs
-
-part-fours128-start : tie.Need-part-fours128-start
-part-fours128-start c = search needs
-
-part-fours128-end : tie.Need-part-fours128-end
-part-fours128-end c = search needs
-
-sub-fours128-2 : tie.Need-sub-fours128-2
-sub-fours128-2 c = search needs
-
-part-fours128-start-2 : tie.Need-part-fours128-start-2
-part-fours128-start-2 c = search needs
-
-part-fours128-end-2 : tie.Need-part-fours128-end-2
-part-fours128-end-2 c = search needs
-
 fours128-requires : tie.Need-fours128-requires
 fours128-requires c κs =
     let one = c .before .before .before .before in
@@ -47,30 +26,6 @@ fours128-requires c κs =
       pre .0,
       (pre .1 .0, pre .1 .1, omega (arith, left), search needs, (λ more. step-boundary (omega arith) (one .step128 .ensures) (omega (arith, left)))),
     )
-
-add-end : tie.Need-add-end
-add-end c = search needs
-
-add-ones128 : tie.Need-add-ones128
-add-ones128 c = search needs
-
-sub-ones128 : tie.Need-sub-ones128
-sub-ones128 c = search needs
-
-part-ones128-start : tie.Need-part-ones128-start
-part-ones128-start c = search needs
-
-part-ones128-end : tie.Need-part-ones128-end
-part-ones128-end c = search needs
-
-sub-ones128-2 : tie.Need-sub-ones128-2
-sub-ones128-2 c = search needs
-
-part-ones128-start-2 : tie.Need-part-ones128-start-2
-part-ones128-start-2 c = search needs
-
-part-ones128-end-2 : tie.Need-part-ones128-end-2
-part-ones128-end-2 c = search needs
 
 ones128-requires : tie.Need-ones128-requires
 ones128-requires c κs =
@@ -83,9 +38,6 @@ ones128-requires c κs =
       pre .0,
       (pre .1 .0, pre .1 .1, omega (arith, length-end end ds, length-end head ds, two .fours128 .ensures .0, one .step128 .ensures .count), search needs),
     )
-
-same-length : tie.Need-same-length
-same-length c = search needs
 
 returns : tie.Need-returns
 returns c =
@@ -100,25 +52,6 @@ returns c =
 
 pub lay128-spec : {M : Type 1} → statement M
 lay128-spec =
-    tie.close
-    (tie.spec
-    step128-requires
-    add-fours128
-    sub-fours128
-    part-fours128-start
-    part-fours128-end
-    sub-fours128-2
-    part-fours128-start-2
-    part-fours128-end-2
-    fours128-requires
-    add-end
-    add-ones128
-    sub-ones128
-    part-ones128-start
-    part-ones128-end
-    sub-ones128-2
-    part-ones128-start-2
-    part-ones128-end-2
-    ones128-requires
-    same-length
-    returns)
+    tie.close (tie.spec step128-requires (λ c. search needs) (λ c. search needs) (λ c. search needs) (λ c. search needs) (λ c. search needs)
+    (λ c. search needs) (λ c. search needs) fours128-requires (λ c. search needs) (λ c. search needs) (λ c. search needs) (λ c. search needs)
+    (λ c. search needs) (λ c. search needs) (λ c. search needs) (λ c. search needs) ones128-requires (λ c. search needs) returns)

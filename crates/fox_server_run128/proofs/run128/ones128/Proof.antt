@@ -86,21 +86,5 @@ returns c =
 
 pub ones128-spec : {M : Type 1} → statement M
 ones128-spec =
-    tie.close
-    (tie.spec
-    Inv-loop
-    μ-loop
-    loop-holds
-    add-step128
-    sub-step128
-    part-step128-start
-    part-step128-end
-    sub-step128-2
-    part-step128-start-2
-    part-step128-end-2
-    step128-requires
-    add-at
-    loop-less
-    loop-again
-    same-length
-    returns)
+    tie.close (tie.spec Inv-loop μ-loop loop-holds add-step128 sub-step128 part-step128-start part-step128-end sub-step128-2 part-step128-start-2
+    part-step128-end-2 step128-requires add-at loop-less loop-again same-length returns)

@@ -10,21 +10,6 @@ use borrow.Author.Needs.{needs}
 use Rattle.fox_server_run128.proofs.run128.run128.Statement.{statement}
 use Rattle.fox_server_run128.proofs.run128.run128.Tie as tie
 
-tbs-requires : tie.Need-tbs-requires
-tbs-requires c κs = search needs
-
-tbsm-requires : tie.Need-tbsm-requires
-tbsm-requires c κs = search needs
-
-read128-requires : tie.Need-read128-requires
-read128-requires c κs = search needs
-
-lay128-requires : tie.Need-lay128-requires
-lay128-requires c κs = search needs
-
-same-length : tie.Need-same-length
-same-length c = search needs
-
 returns : tie.Need-returns
 returns c =
     let laid = c .before .before in
@@ -35,5 +20,4 @@ returns c =
 
 pub run128-spec : {M : Type 1} → statement M
 run128-spec =
-    tie.close
-    (tie.spec tbs-requires tbsm-requires read128-requires lay128-requires same-length returns)
+    tie.close (tie.spec (λ c κs. search needs) (λ c κs. search needs) (λ c κs. search needs) (λ c κs. search needs) (λ c. search needs) returns)

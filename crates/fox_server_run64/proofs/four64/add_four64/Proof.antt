@@ -11,33 +11,6 @@ use borrow.Author.Needs.{needs}
 use Rattle.fox_server_run64.proofs.four64.add_four64.Statement.{statement}
 use Rattle.fox_server_run64.proofs.four64.add_four64.Tie as tie
 
-add-two64-requires : tie.Need-add-two64-requires
-add-two64-requires c κs = search needs
-
-sub-add-two64 : tie.Need-sub-add-two64
-sub-add-two64 c = search needs
-
-part-add-two64-start : tie.Need-part-add-two64-start
-part-add-two64-start c = search needs
-
-part-add-two64-end : tie.Need-part-add-two64-end
-part-add-two64-end c = search needs
-
-sub-add-two64-2 : tie.Need-sub-add-two64-2
-sub-add-two64-2 c = search needs
-
-part-add-two64-start-2 : tie.Need-part-add-two64-start-2
-part-add-two64-start-2 c = search needs
-
-part-add-two64-end-2 : tie.Need-part-add-two64-end-2
-part-add-two64-end-2 c = search needs
-
-add-two64-requires-2 : tie.Need-add-two64-requires-2
-add-two64-requires-2 c κs = search needs
-
-same-length : tie.Need-same-length
-same-length c = search needs
-
 returns : tie.Need-returns
 unfolding bytes64 split
 returns c =
@@ -50,15 +23,5 @@ returns c =
 
 pub add-four64-spec : {M : Type 1} → statement M
 add-four64-spec =
-    tie.close
-    (tie.spec
-    add-two64-requires
-    sub-add-two64
-    part-add-two64-start
-    part-add-two64-end
-    sub-add-two64-2
-    part-add-two64-start-2
-    part-add-two64-end-2
-    add-two64-requires-2
-    same-length
-    returns)
+    tie.close (tie.spec (λ c κs. search needs) (λ c. search needs) (λ c. search needs) (λ c. search needs) (λ c. search needs) (λ c. search needs)
+    (λ c. search needs) (λ c κs. search needs) (λ c. search needs) returns)

@@ -10,33 +10,6 @@ use borrow.Author.Needs.{needs}
 use Rattle.fox_server_run64.proofs.four64.add_two64.Statement.{statement}
 use Rattle.fox_server_run64.proofs.four64.add_two64.Tie as tie
 
-add-whole64-requires : tie.Need-add-whole64-requires
-add-whole64-requires c κs = search needs
-
-sub-add-whole64 : tie.Need-sub-add-whole64
-sub-add-whole64 c = search needs
-
-part-add-whole64-start : tie.Need-part-add-whole64-start
-part-add-whole64-start c = search needs
-
-part-add-whole64-end : tie.Need-part-add-whole64-end
-part-add-whole64-end c = search needs
-
-sub-add-whole64-2 : tie.Need-sub-add-whole64-2
-sub-add-whole64-2 c = search needs
-
-part-add-whole64-start-2 : tie.Need-part-add-whole64-start-2
-part-add-whole64-start-2 c = search needs
-
-part-add-whole64-end-2 : tie.Need-part-add-whole64-end-2
-part-add-whole64-end-2 c = search needs
-
-add-whole64-requires-2 : tie.Need-add-whole64-requires-2
-add-whole64-requires-2 c κs = search needs
-
-same-length : tie.Need-same-length
-same-length c = search needs
-
 returns : tie.Need-returns
 unfolding bytes64 split
 returns c =
@@ -49,15 +22,5 @@ returns c =
 
 pub add-two64-spec : {M : Type 1} → statement M
 add-two64-spec =
-    tie.close
-    (tie.spec
-    add-whole64-requires
-    sub-add-whole64
-    part-add-whole64-start
-    part-add-whole64-end
-    sub-add-whole64-2
-    part-add-whole64-start-2
-    part-add-whole64-end-2
-    add-whole64-requires-2
-    same-length
-    returns)
+    tie.close (tie.spec (λ c κs. search needs) (λ c. search needs) (λ c. search needs) (λ c. search needs) (λ c. search needs) (λ c. search needs)
+    (λ c. search needs) (λ c κs. search needs) (λ c. search needs) returns)

@@ -4,27 +4,6 @@ use borrow.Author.Needs.{needs}
 use Rattle.fox_server_run64.proofs.four64.counted_four64.Statement.{statement}
 use Rattle.fox_server_run64.proofs.four64.counted_four64.Tie as tie
 
-counted64-requires : tie.Need-counted64-requires
-counted64-requires c κs = search needs
-
-add-counted64 : tie.Need-add-counted64
-add-counted64 c = search needs
-
-counted64-requires-2 : tie.Need-counted64-requires-2
-counted64-requires-2 c κs = search needs
-
-add-counted64-2 : tie.Need-add-counted64-2
-add-counted64-2 c = search needs
-
-counted64-requires-3 : tie.Need-counted64-requires-3
-counted64-requires-3 c κs = search needs
-
-add-counted64-3 : tie.Need-add-counted64-3
-add-counted64-3 c = search needs
-
-counted64-requires-4 : tie.Need-counted64-requires-4
-counted64-requires-4 c κs = search needs
-
 returns : tie.Need-returns
 returns c =
     let third = c .before in
@@ -33,13 +12,5 @@ returns c =
 
 pub counted-four64-spec : {M : Type 1} → statement M
 counted-four64-spec =
-    tie.close
-    (tie.spec
-    counted64-requires
-    add-counted64
-    counted64-requires-2
-    add-counted64-2
-    counted64-requires-3
-    add-counted64-3
-    counted64-requires-4
-    returns)
+    tie.close (tie.spec (λ c κs. search needs) (λ c. search needs) (λ c κs. search needs) (λ c. search needs) (λ c κs. search needs)
+    (λ c. search needs) (λ c κs. search needs) returns)

@@ -17,21 +17,6 @@ use borrow.Author.Needs.{needs}
 use Rattle.fox_server_run64.proofs.four64.four64.Statement.{statement}
 use Rattle.fox_server_run64.proofs.four64.four64.Tie as tie
 
-cast-counted-four64 : tie.Need-cast-counted-four64
-cast-counted-four64 c = search needs
-
-counted-four64-requires : tie.Need-counted-four64-requires
-counted-four64-requires c κs = search needs
-
-seal-four64-requires : tie.Need-seal-four64-requires
-seal-four64-requires c κs = search needs
-
-add-four64-requires : tie.Need-add-four64-requires
-add-four64-requires c κs = search needs
-
-same-length : tie.Need-same-length
-same-length c = search needs
-
 returns : tie.Need-returns
 unfolding sealFour64 sealed64 stream64
 returns c =
@@ -52,11 +37,4 @@ returns c =
 
 pub four64-spec : {M : Type 1} → statement M
 four64-spec =
-    tie.close
-    (tie.spec
-    cast-counted-four64
-    counted-four64-requires
-    seal-four64-requires
-    add-four64-requires
-    same-length
-    returns)
+    tie.close (tie.spec (λ c. search needs) (λ c κs. search needs) (λ c κs. search needs) (λ c κs. search needs) (λ c. search needs) returns)

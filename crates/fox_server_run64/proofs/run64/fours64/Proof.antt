@@ -80,22 +80,5 @@ returns c = (c .before .loop .inv .0, c .before .loop .inv .3)
 
 pub fours64-spec : {M : Type 1} → statement M
 fours64-spec =
-    tie.close
-    (tie.spec
-    Inv-loop
-    μ-loop
-    loop-holds
-    sub-loop
-    add-four64
-    sub-four64
-    part-four64-start
-    part-four64-end
-    sub-four64-2
-    part-four64-start-2
-    part-four64-end-2
-    four64-requires
-    add-at
-    loop-less
-    loop-again
-    same-length
-    returns)
+    tie.close (tie.spec Inv-loop μ-loop loop-holds sub-loop add-four64 sub-four64 part-four64-start part-four64-end sub-four64-2 part-four64-start-2
+    part-four64-end-2 four64-requires add-at loop-less loop-again same-length returns)

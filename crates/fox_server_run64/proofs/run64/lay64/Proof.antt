@@ -17,27 +17,6 @@ step64-requires c κs =
     let pre = c .before .before .before .pre in
     (pre .0, (pre .1 .0, pre .1 .1, omega arith, pre .1 .3))
 
-add-fours64 : tie.Need-add-fours64
-add-fours64 c = search needs
-
-sub-fours64 : tie.Need-sub-fours64
-sub-fours64 c = search needs
-
-part-fours64-start : tie.Need-part-fours64-start
-part-fours64-start c = search needs
-
-part-fours64-end : tie.Need-part-fours64-end
-part-fours64-end c = search needs
-
-sub-fours64-2 : tie.Need-sub-fours64-2
-sub-fours64-2 c = search needs
-
-part-fours64-start-2 : tie.Need-part-fours64-start-2
-part-fours64-start-2 c = search needs
-
-part-fours64-end-2 : tie.Need-part-fours64-end-2
-part-fours64-end-2 c = search needs
-
 fours64-requires : tie.Need-fours64-requires
 fours64-requires c κs =
     let one = c .before .before .before .before in
@@ -47,30 +26,6 @@ fours64-requires c κs =
       pre .0,
       (pre .1 .0, pre .1 .1, omega (arith, left), search needs, (λ more. step-boundary (omega arith) (one .step64 .ensures) (omega (arith, left)))),
     )
-
-add-end : tie.Need-add-end
-add-end c = search needs
-
-add-ones64 : tie.Need-add-ones64
-add-ones64 c = search needs
-
-sub-ones64 : tie.Need-sub-ones64
-sub-ones64 c = search needs
-
-part-ones64-start : tie.Need-part-ones64-start
-part-ones64-start c = search needs
-
-part-ones64-end : tie.Need-part-ones64-end
-part-ones64-end c = search needs
-
-sub-ones64-2 : tie.Need-sub-ones64-2
-sub-ones64-2 c = search needs
-
-part-ones64-start-2 : tie.Need-part-ones64-start-2
-part-ones64-start-2 c = search needs
-
-part-ones64-end-2 : tie.Need-part-ones64-end-2
-part-ones64-end-2 c = search needs
 
 ones64-requires : tie.Need-ones64-requires
 ones64-requires c κs =
@@ -83,9 +38,6 @@ ones64-requires c κs =
       pre .0,
       (pre .1 .0, pre .1 .1, omega (arith, length-end end ds, length-end head ds, two .fours64 .ensures .0, one .step64 .ensures .count), search needs),
     )
-
-same-length : tie.Need-same-length
-same-length c = search needs
 
 returns : tie.Need-returns
 returns c =
@@ -100,25 +52,6 @@ returns c =
 
 pub lay64-spec : {M : Type 1} → statement M
 lay64-spec =
-    tie.close
-    (tie.spec
-    step64-requires
-    add-fours64
-    sub-fours64
-    part-fours64-start
-    part-fours64-end
-    sub-fours64-2
-    part-fours64-start-2
-    part-fours64-end-2
-    fours64-requires
-    add-end
-    add-ones64
-    sub-ones64
-    part-ones64-start
-    part-ones64-end
-    sub-ones64-2
-    part-ones64-start-2
-    part-ones64-end-2
-    ones64-requires
-    same-length
-    returns)
+    tie.close (tie.spec step64-requires (λ c. search needs) (λ c. search needs) (λ c. search needs) (λ c. search needs) (λ c. search needs)
+    (λ c. search needs) (λ c. search needs) fours64-requires (λ c. search needs) (λ c. search needs) (λ c. search needs) (λ c. search needs)
+    (λ c. search needs) (λ c. search needs) (λ c. search needs) (λ c. search needs) ones64-requires (λ c. search needs) returns)

@@ -10,21 +10,6 @@ use borrow.Author.Needs.{needs}
 use Rattle.fox_server_run64.proofs.run64.run64.Statement.{statement}
 use Rattle.fox_server_run64.proofs.run64.run64.Tie as tie
 
-tbs-requires : tie.Need-tbs-requires
-tbs-requires c κs = search needs
-
-tbsm-requires : tie.Need-tbsm-requires
-tbsm-requires c κs = search needs
-
-read64-requires : tie.Need-read64-requires
-read64-requires c κs = search needs
-
-lay64-requires : tie.Need-lay64-requires
-lay64-requires c κs = search needs
-
-same-length : tie.Need-same-length
-same-length c = search needs
-
 returns : tie.Need-returns
 returns c =
     let laid = c .before .before in
@@ -35,5 +20,4 @@ returns c =
 
 pub run64-spec : {M : Type 1} → statement M
 run64-spec =
-    tie.close
-    (tie.spec tbs-requires tbsm-requires read64-requires lay64-requires same-length returns)
+    tie.close (tie.spec (λ c κs. search needs) (λ c κs. search needs) (λ c κs. search needs) (λ c κs. search needs) (λ c. search needs) returns)

@@ -21,12 +21,6 @@ use borrow.Author.Needs.{needs}
 use Rattle.fox_sheet.proofs.answer.answer.Statement.{statement}
 use Rattle.fox_sheet.proofs.answer.answer.Tie as tie
 
-read-settings-requires : tie.Need-read-settings-requires
-read-settings-requires c κs = search needs
-
-put-broken-requires : tie.Need-put-broken-requires
-put-broken-requires c κs = search needs
-
 returns : tie.Need-returns
 returns c =
     let read = c .before .before .before .before in
@@ -40,9 +34,6 @@ read-task-requires c κs =
     let t = read .before .before .before .args .sheet .now in
     let s = settings-known t _ (read .read-settings .ensures) (one .if1 .left) in
     s .within
-
-put-broken-requires-2 : tie.Need-put-broken-requires-2
-put-broken-requires-2 c κs = search needs
 
 returns-2 : tie.Need-returns-2
 returns-2 c =
@@ -126,17 +117,5 @@ returns-3 c =
 
 pub answer-spec : {M : Type 1} → statement M
 answer-spec =
-    tie.close
-    (tie.spec
-    read-settings-requires
-    put-broken-requires
-    returns
-    read-task-requires
-    put-broken-requires-2
-    returns-2
-    array-share-prefix-key
-    slice-aggregate-answer-block
-    array-share-prefix-block
-    slice-aggregate-answer-block-2
-    answer-block-requires
-    returns-3)
+    tie.close (tie.spec (λ c κs. search needs) (λ c κs. search needs) returns read-task-requires (λ c κs. search needs) returns-2
+    array-share-prefix-key slice-aggregate-answer-block array-share-prefix-block slice-aggregate-answer-block-2 answer-block-requires returns-3)

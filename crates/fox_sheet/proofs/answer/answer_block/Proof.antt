@@ -6,9 +6,6 @@ use borrow.Author.Needs.{needs}
 use Rattle.fox_sheet.proofs.answer.answer_block.Statement.{statement}
 use Rattle.fox_sheet.proofs.answer.answer_block.Tie as tie
 
-array-borrow-prefix-room : tie.Need-array-borrow-prefix-room
-array-borrow-prefix-room c = search needs
-
 slice-aggregate-tell : tie.Need-slice-aggregate-tell
 slice-aggregate-tell c = sym (length-take-le _ _ (search needs))
 
@@ -16,9 +13,5 @@ tell-requires : tie.Need-tell-requires
 tell-requires c κs =
     (c .before .before .before .before .pre .0, c .before .before .before .before .pre .1, length-take-le _ _ (search needs))
 
-returns : tie.Need-returns
-returns c = search needs
-
 pub answer-block-spec : {M : Type 1} → statement M
-answer-block-spec =
-    tie.close (tie.spec array-borrow-prefix-room slice-aggregate-tell tell-requires returns)
+answer-block-spec = tie.close (tie.spec (λ c. search needs) slice-aggregate-tell tell-requires (λ c. search needs))

@@ -9,15 +9,6 @@ use borrow.Author.Needs.{needs}
 use Rattle.fox_sheet.proofs.answer.put_broken.Statement.{statement}
 use Rattle.fox_sheet.proofs.answer.put_broken.Tie as tie
 
-slice-aggregate-put-decimal-line : tie.Need-slice-aggregate-put-decimal-line
-slice-aggregate-put-decimal-line c = search needs
-
-put-decimal-line-requires : tie.Need-put-decimal-line-requires
-put-decimal-line-requires c κs = search needs
-
-slice-aggregate-put-decimal-line-2 : tie.Need-slice-aggregate-put-decimal-line-2
-slice-aggregate-put-decimal-line-2 c = search needs
-
 put-decimal-line-requires-2 : tie.Need-put-decimal-line-requires-2
 unfolding codes ascii refusalName
 put-decimal-line-requires-2 c κs = omega (arith, c .before .before .put-decimal-line .ensures .place, decimal-line-short refusalName 8)
@@ -33,11 +24,4 @@ returns c =
     )
 
 pub put-broken-spec : {M : Type 1} → statement M
-put-broken-spec =
-    tie.close
-    (tie.spec
-    slice-aggregate-put-decimal-line
-    put-decimal-line-requires
-    slice-aggregate-put-decimal-line-2
-    put-decimal-line-requires-2
-    returns)
+put-broken-spec = tie.close (tie.spec (λ c. search needs) (λ c κs. search needs) (λ c. search needs) put-decimal-line-requires-2 returns)

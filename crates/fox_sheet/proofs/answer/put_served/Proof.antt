@@ -12,23 +12,11 @@ use borrow.Author.Needs.{needs}
 use Rattle.fox_sheet.proofs.answer.put_served.Statement.{statement}
 use Rattle.fox_sheet.proofs.answer.put_served.Tie as tie
 
-slice-aggregate-put-decimal-line : tie.Need-slice-aggregate-put-decimal-line
-slice-aggregate-put-decimal-line c = search needs
-
-put-decimal-line-requires : tie.Need-put-decimal-line-requires
-put-decimal-line-requires c κs = search needs
-
-slice-aggregate-put-decimal-line-2 : tie.Need-slice-aggregate-put-decimal-line-2
-slice-aggregate-put-decimal-line-2 c = search needs
-
 put-decimal-line-requires-2 : tie.Need-put-decimal-line-requires-2
 unfolding codes ascii refusalName cipherName roundsName keybitsName
 put-decimal-line-requires-2 c κs =
     let a = c .before .before in
     omega (arith, a .put-decimal-line .ensures .place, decimal-line-short refusalName 0)
-
-slice-aggregate-put-decimal-line-3 : tie.Need-slice-aggregate-put-decimal-line-3
-slice-aggregate-put-decimal-line-3 c = search needs
 
 put-decimal-line-requires-3 : tie.Need-put-decimal-line-requires-3
 unfolding codes ascii refusalName cipherName roundsName keybitsName
@@ -43,15 +31,6 @@ put-decimal-line-requires-3 c κs =
       decimal-line-short refusalName 0,
       decimal-line-short cipherName (start .args .cipher),
     )
-
-slice-aggregate-put-decimal-line-4 : tie.Need-slice-aggregate-put-decimal-line-4
-slice-aggregate-put-decimal-line-4 c = search needs
-
-mul-put-decimal-line : tie.Need-mul-put-decimal-line
-mul-put-decimal-line c = search needs
-
-cast-put-decimal-line : tie.Need-cast-put-decimal-line
-cast-put-decimal-line c = search needs
 
 put-decimal-line-requires-4 : tie.Need-put-decimal-line-requires-4
 unfolding codes ascii refusalName cipherName roundsName keybitsName
@@ -69,9 +48,6 @@ put-decimal-line-requires-4 c κs =
       decimal-line-short cipherName (start .args .cipher),
       decimal-line-short roundsName (start .args .rounds),
     )
-
-slice-aggregate-put-pairs-line : tie.Need-slice-aggregate-put-pairs-line
-slice-aggregate-put-pairs-line c = search needs
 
 put-pairs-line-requires : tie.Need-put-pairs-line-requires
 unfolding codes ascii refusalName cipherName roundsName keybitsName
@@ -122,18 +98,6 @@ returns c =
 
 pub put-served-spec : {M : Type 1} → statement M
 put-served-spec =
-    tie.close
-    (tie.spec
-    slice-aggregate-put-decimal-line
-    put-decimal-line-requires
-    slice-aggregate-put-decimal-line-2
-    put-decimal-line-requires-2
-    slice-aggregate-put-decimal-line-3
-    put-decimal-line-requires-3
-    slice-aggregate-put-decimal-line-4
-    mul-put-decimal-line
-    cast-put-decimal-line
-    put-decimal-line-requires-4
-    slice-aggregate-put-pairs-line
-    put-pairs-line-requires
-    returns)
+    tie.close (tie.spec (λ c. search needs) (λ c κs. search needs) (λ c. search needs) put-decimal-line-requires-2 (λ c. search needs)
+    put-decimal-line-requires-3 (λ c. search needs) (λ c. search needs) (λ c. search needs) put-decimal-line-requires-4 (λ c. search needs)
+    put-pairs-line-requires returns)

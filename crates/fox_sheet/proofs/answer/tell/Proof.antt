@@ -13,18 +13,6 @@ use borrow.Author.Needs.{needs}
 use Rattle.fox_sheet.proofs.answer.tell.Statement.{statement}
 use Rattle.fox_sheet.proofs.answer.tell.Tie as tie
 
-turn-requires : tie.Need-turn-requires
-turn-requires c κs = search needs
-
-slice-aggregate-put-decimal-line : tie.Need-slice-aggregate-put-decimal-line
-slice-aggregate-put-decimal-line c = search needs
-
-put-decimal-line-requires : tie.Need-put-decimal-line-requires
-put-decimal-line-requires c κs = search needs
-
-same-length : tie.Need-same-length
-same-length c = search needs
-
 returns : tie.Need-returns
 unfolding codes ascii refusalName refusal
 returns c =
@@ -44,9 +32,6 @@ put-served-requires c κs =
     let start = turn .before .before .before .before .before in
     (start .pre .0, omega (arith, turn .turn .kept .1 .1 .1 .1 .1 .0, start .pre .1, start .pre .2))
 
-same-length-2 : tie.Need-same-length-2
-same-length-2 c = search needs
-
 returns-2 : tie.Need-returns-2
 unfolding refusal
 returns-2 c =
@@ -64,13 +49,5 @@ returns-2 c =
 
 pub tell-spec : {M : Type 1} → statement M
 tell-spec =
-    tie.close
-    (tie.spec
-    turn-requires
-    slice-aggregate-put-decimal-line
-    put-decimal-line-requires
-    same-length
-    returns
-    put-served-requires
-    same-length-2
-    returns-2)
+    tie.close (tie.spec (λ c κs. search needs) (λ c. search needs) (λ c κs. search needs) (λ c. search needs) returns put-served-requires
+    (λ c. search needs) returns-2)

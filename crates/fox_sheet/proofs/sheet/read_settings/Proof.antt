@@ -13,15 +13,6 @@ use borrow.Author.Needs.{needs}
 use Rattle.fox_sheet.proofs.sheet.read_settings.Statement.{statement}
 use Rattle.fox_sheet.proofs.sheet.read_settings.Tie as tie
 
-slice-aggregate-decimal-line : tie.Need-slice-aggregate-decimal-line
-slice-aggregate-decimal-line c = search needs
-
-decimal-line-requires : tie.Need-decimal-line-requires
-decimal-line-requires c κs = search needs
-
-broken-requires : tie.Need-broken-requires
-broken-requires c κs = search needs
-
 returns : tie.Need-returns
 unfolding codes ascii cipherName
 returns c =
@@ -30,18 +21,12 @@ returns c =
     let no = decimal-tested t cipherName t 0 refl (c .before .before .before .decimal-line .ensures) (not-true _ (c .before .if1 .taken)) in
     settings-broken t (start .args .key .now) 1 (omega arith) (line-1 t no) (c .broken .ensures)
 
-slice-aggregate-decimal-line-2 : tie.Need-slice-aggregate-decimal-line-2
-slice-aggregate-decimal-line-2 c = search needs
-
 decimal-line-requires-2 : tie.Need-decimal-line-requires-2
 unfolding codes ascii cipherName
 decimal-line-requires-2 c κs =
     let start = c .before .before .before .before .before .before in
     let t = start .args .sheet .now in
     decimal-read t cipherName t 0 (omega arith) refl (c .before .before .before .decimal-line .ensures) (not-false _ (c .before .if1 .left)) .within
-
-broken-requires-2 : tie.Need-broken-requires-2
-broken-requires-2 c κs = search needs
 
 returns-2 : tie.Need-returns-2
 unfolding codes ascii cipherName roundsName afterLines
@@ -54,9 +39,6 @@ returns-2 c =
     let no = decimal-tested t roundsName (afterLines 1 t) _ (first .after) (c .before .before .before .decimal-line2 .ensures) wrong in
     settings-broken t (start .args .key .now) 2 (omega arith) (line-2 t (first .kept) no) (c .broken2 .ensures)
 
-slice-aggregate-pairs-line : tie.Need-slice-aggregate-pairs-line
-slice-aggregate-pairs-line c = search needs
-
 pairs-line-requires : tie.Need-pairs-line-requires
 unfolding codes ascii cipherName roundsName afterLines
 pairs-line-requires c κs =
@@ -68,9 +50,6 @@ pairs-line-requires c κs =
     let read = two .before .before .decimal-line2 in
     let second = decimal-read t roundsName (afterLines 1 t) _ (first .within) (first .after) (read .ensures) (not-false _ (two .if2 .left)) in
     (second .within, omega arith)
-
-broken-requires-3 : tie.Need-broken-requires-3
-broken-requires-3 c κs = search needs
 
 returns-3 : tie.Need-returns-3
 unfolding codes ascii cipherName roundsName keyName afterLines
@@ -107,18 +86,5 @@ returns-4 c =
 
 pub read-settings-spec : {M : Type 1} → statement M
 read-settings-spec =
-    tie.close
-    (tie.spec
-    slice-aggregate-decimal-line
-    decimal-line-requires
-    broken-requires
-    returns
-    slice-aggregate-decimal-line-2
-    decimal-line-requires-2
-    broken-requires-2
-    returns-2
-    slice-aggregate-pairs-line
-    pairs-line-requires
-    broken-requires-3
-    returns-3
-    returns-4)
+    tie.close (tie.spec (λ c. search needs) (λ c κs. search needs) (λ c κs. search needs) returns (λ c. search needs) decimal-line-requires-2
+    (λ c κs. search needs) returns-2 (λ c. search needs) pairs-line-requires (λ c κs. search needs) returns-3 returns-4)

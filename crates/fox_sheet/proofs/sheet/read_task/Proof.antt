@@ -26,12 +26,6 @@ use borrow.Author.Needs.{needs}
 use Rattle.fox_sheet.proofs.sheet.read_task.Statement.{statement}
 use Rattle.fox_sheet.proofs.sheet.read_task.Tie as tie
 
-way-line-requires : tie.Need-way-line-requires
-way-line-requires c κs = search needs
-
-broken-requires : tie.Need-broken-requires
-broken-requires c κs = search needs
-
 returns : tie.Need-returns
 unfolding hasBlock
 returns c =
@@ -39,9 +33,6 @@ returns c =
     let t = drop (start .args .at) (start .args .sheet .now) in
     let no = way-tested t (start .args .at) (c .before .before .before .way-line .ensures) (not-true _ (c .before .if1 .taken)) in
     (task-broken t 4 (omega arith) (line-4 t no) (c .broken .ensures), rw no)
-
-slice-aggregate-pairs-line : tie.Need-slice-aggregate-pairs-line
-slice-aggregate-pairs-line c = search needs
 
 pairs-line-requires : tie.Need-pairs-line-requires
 pairs-line-requires c κs =
@@ -51,9 +42,6 @@ pairs-line-requires c κs =
     let t = drop (start .args .at) s in
     let first = way-read s (start .args .at) (start .pre) (one .before .before .way-line .ensures) (not-false _ (one .if1 .left)) in
     (first .within, omega arith)
-
-broken-requires-2 : tie.Need-broken-requires-2
-broken-requires-2 c κs = search needs
 
 returns-2 : tie.Need-returns-2
 unfolding codes ascii blockName afterLines hasBlock
@@ -68,9 +56,6 @@ returns-2 c =
       task-broken t 5 (omega arith) (line-5 t (first .kept) no) (c .broken2 .ensures),
       rw (first .kept, no) (rw (first .after, no) at (line .ensures .1)),
     )
-
-broken-requires-3 : tie.Need-broken-requires-3
-broken-requires-3 c κs = search needs
 
 returns-3 : tie.Need-returns-3
 unfolding codes ascii blockName afterLines hasBlock
@@ -105,15 +90,5 @@ returns-4 c =
 
 pub read-task-spec : {M : Type 1} → statement M
 read-task-spec =
-    tie.close
-    (tie.spec
-    way-line-requires
-    broken-requires
-    returns
-    slice-aggregate-pairs-line
-    pairs-line-requires
-    broken-requires-2
-    returns-2
-    broken-requires-3
-    returns-3
-    returns-4)
+    tie.close (tie.spec (λ c κs. search needs) (λ c κs. search needs) returns (λ c. search needs) pairs-line-requires (λ c κs. search needs)
+    returns-2 (λ c κs. search needs) returns-3 returns-4)

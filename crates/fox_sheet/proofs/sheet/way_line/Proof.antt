@@ -14,32 +14,17 @@ use borrow.Author.Needs.{needs}
 use Rattle.fox_sheet.proofs.sheet.way_line.Statement.{statement}
 use Rattle.fox_sheet.proofs.sheet.way_line.Tie as tie
 
-line-end-requires : tie.Need-line-end-requires
-line-end-requires c κs = search needs
-
 returns : tie.Need-returns
 returns c =
     let a = c .before .before .before .args in
     let t = drop (a .at) (a .sheet .now) in
     sym (no-way-line t (a .at) (omega (arith, c .before .line-end .ensures, c .if1 .taken, length-drop (a .at) (a .sheet .now))))
 
-sub-line : tie.Need-sub-line
-sub-line c = search needs
-
-part-line-start : tie.Need-part-line-start
-part-line-start c = search needs
-
 part-line-end : tie.Need-part-line-end
 part-line-end c =
     let a = c .before .before .before .args in
     let t = drop (a .at) (a .sheet .now) in
     omega (arith, c .before .line-end .ensures, line-end-within t, length-drop (a .at) (a .sheet .now))
-
-slice-aggregate-same : tie.Need-slice-aggregate-same
-slice-aggregate-same c = search needs
-
-same-requires : tie.Need-same-requires
-same-requires c κs = search needs
 
 add-t15 : tie.Need-add-t15
 add-t15 c =
@@ -61,12 +46,6 @@ returns-2 c =
     let next : ended .before .line-end .result + 1 ≡ suc (a .at + lineEnd t) = omega (arith, e) in
     let opens = line-part openWay t (a .at) _ e ∙ sym (c .before .same .ensures) ∙ c .if2 .taken in
     rw next (sym (way-opens t (a .at) h opens))
-
-slice-aggregate-same-2 : tie.Need-slice-aggregate-same-2
-slice-aggregate-same-2 c = search needs
-
-same-requires-2 : tie.Need-same-requires-2
-same-requires-2 c κs = search needs
 
 add-t19 : tie.Need-add-t19
 add-t19 c =
@@ -104,19 +83,5 @@ returns-4 c =
 
 pub way-line-spec : {M : Type 1} → statement M
 way-line-spec =
-    tie.close
-    (tie.spec
-    line-end-requires
-    returns
-    sub-line
-    part-line-start
-    part-line-end
-    slice-aggregate-same
-    same-requires
-    add-t15
-    returns-2
-    slice-aggregate-same-2
-    same-requires-2
-    add-t19
-    returns-3
-    returns-4)
+    tie.close (tie.spec (λ c κs. search needs) returns (λ c. search needs) (λ c. search needs) part-line-end (λ c. search needs)
+    (λ c κs. search needs) add-t15 returns-2 (λ c. search needs) (λ c κs. search needs) add-t19 returns-3 returns-4)

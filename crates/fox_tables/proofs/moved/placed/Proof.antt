@@ -7,15 +7,6 @@ use borrow.Author.Needs.{needs}
 use Rattle.fox_tables.proofs.moved.placed.Statement.{statement}
 use Rattle.fox_tables.proofs.moved.placed.Tie as tie
 
-mul-result : tie.Need-mul-result
-mul-result c = search needs
-
-mul-result-2 : tie.Need-mul-result-2
-mul-result-2 c = search needs
-
-mul-result-3 : tie.Need-mul-result-3
-mul-result-3 c = search needs
-
 returns : tie.Need-returns
 returns c =
     let e : c .before .args .j ≡ 0 = search needs in
@@ -37,4 +28,4 @@ returns-4 c =
     rw e (omega arith)
 
 pub placed-spec : {M : Type 1} → statement M
-placed-spec = tie.close (tie.spec mul-result mul-result-2 mul-result-3 returns returns-2 returns-3 returns-4)
+placed-spec = tie.close (tie.spec (λ c. search needs) (λ c. search needs) (λ c. search needs) returns returns-2 returns-3 returns-4)

@@ -78,17 +78,5 @@ returns c =
 
 pub tbs-spec : {M : Type 1} → statement M
 tbs-spec =
-    tie.close
-    (tie.spec
-    Inv-loop
-    μ-loop
-    sbox-requires
-    loop-holds
-    array-read-placed
-    placed-requires
-    mul-t
-    array-write-t
-    add-i
-    loop-less
-    loop-again
+    tie.close (tie.spec Inv-loop μ-loop sbox-requires loop-holds array-read-placed placed-requires mul-t array-write-t add-i loop-less loop-again
     returns)

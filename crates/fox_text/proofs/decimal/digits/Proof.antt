@@ -103,19 +103,5 @@ returns-4 c =
 
 pub digits-spec : {M : Type 1} → statement M
 digits-spec =
-    tie.close
-    (tie.spec
-    Inv-loop
-    μ-loop
-    loop-holds
-    shared-slice-read-d
-    returns
-    returns-2
-    mul-v
-    cast-v
-    add-v
-    returns-3
-    add-i
-    loop-less
-    loop-again
+    tie.close (tie.spec Inv-loop μ-loop loop-holds shared-slice-read-d returns returns-2 mul-v cast-v add-v returns-3 add-i loop-less loop-again
     returns-4)

@@ -14,16 +14,10 @@ returns c =
     let ds = c .before .before .args .ds .now in
     sym (ap (λ (b : Bool). found b ds) (no-decimal ds (c .if1 .taken)))
 
-digits-requires : tie.Need-digits-requires
-digits-requires c κs = search needs
-
 returns-2 : tie.Need-returns-2
 returns-2 c =
     let ds = c .before .before .before .before .args .ds .now in
     c .digits .ensures ∙ sym (ap (λ (b : Bool). found b ds) (one-digit ds (c .before .if2 .taken)))
-
-shared-slice-read-if3 : tie.Need-shared-slice-read-if3
-shared-slice-read-if3 c = search needs
 
 returns-3 : tie.Need-returns-3
 unfolding found
@@ -31,22 +25,10 @@ returns-3 c =
     let ds = c .before .before .before .before .before .args .ds .now in
     sym (ap (λ (b : Bool). found b ds) (zero-led ds (search needs) (c .if3 .taken)))
 
-digits-requires-2 : tie.Need-digits-requires-2
-digits-requires-2 c κs = search needs
-
 returns-4 : tie.Need-returns-4
 returns-4 c =
     let ds = c .before .before .before .before .before .before .args .ds .now in
     c .digits2 .ensures ∙ sym (ap (λ (b : Bool). found b ds) (more-digits ds (search needs) (c .before .if3 .left)))
 
 pub read-decimal-spec : {M : Type 1} → statement M
-read-decimal-spec =
-    tie.close
-    (tie.spec
-    returns
-    digits-requires
-    returns-2
-    shared-slice-read-if3
-    returns-3
-    digits-requires-2
-    returns-4)
+read-decimal-spec = tie.close (tie.spec returns (λ c κs. search needs) returns-2 (λ c. search needs) returns-3 (λ c κs. search needs) returns-4)

@@ -23,9 +23,6 @@ module _ (c : tie.Else1) where
       (c .before .before .before .before .before .args .at) (c .before .before .find-value .result)
   found-here = stands _ _ _ (c .before .before .before .before .before .pre) (c .before .before .find-value .ensures) (not-false _ (c .if1 .left))
 
-find-value-requires : tie.Need-find-value-requires
-find-value-requires c κs = search needs
-
 returns : tie.Need-returns
 returns c =
     let a = c .before .before .before .before .before .args in
@@ -47,9 +44,6 @@ part-read-decimal-end : tie.Need-part-read-decimal-end
 part-read-decimal-end c =
     let v = found-here c in
     omega (arith, v .ordered, v .within)
-
-read-decimal-requires : tie.Need-read-decimal-requires
-read-decimal-requires c κs = search needs
 
 returns-2 : tie.Need-returns-2
 unfolding found
@@ -79,14 +73,5 @@ returns-3 c =
 
 pub decimal-line-spec : {M : Type 1} → statement M
 decimal-line-spec =
-    tie.close
-    (tie.spec
-    find-value-requires
-    returns
-    sub-read-decimal
-    part-read-decimal-start
-    part-read-decimal-end
-    read-decimal-requires
-    returns-2
-    add-t11
-    returns-3)
+    tie.close (tie.spec (λ c κs. search needs) returns sub-read-decimal part-read-decimal-start part-read-decimal-end (λ c κs. search needs)
+    returns-2 add-t11 returns-3)

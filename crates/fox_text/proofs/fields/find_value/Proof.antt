@@ -14,9 +14,6 @@ use borrow.Author.Needs.{needs}
 use Rattle.fox_text.proofs.fields.find_value.Statement.{statement}
 use Rattle.fox_text.proofs.fields.find_value.Tie as tie
 
-line-end-requires : tie.Need-line-end-requires
-line-end-requires c κs = search needs
-
 returns : tie.Need-returns
 returns c =
     let a = c .before .before .before .before .args in
@@ -25,20 +22,11 @@ returns c =
     let whole : length t ≤ lineEnd t = omega (arith, e, c .if1 .taken, length-drop (a .at) (a .sheet .now)) in
     sym (value-wrong (a .name .now) t (a .at) (no-line (a .name .now) t whole))
 
-sub-starts-with : tie.Need-sub-starts-with
-sub-starts-with c = search needs
-
-part-starts-with-start : tie.Need-part-starts-with-start
-part-starts-with-start c = search needs
-
 part-starts-with-end : tie.Need-part-starts-with-end
 part-starts-with-end c =
     let a = c .before .before .before .before .args in
     let t = drop (a .at) (a .sheet .now) in
     omega (arith, c .before .line-end .ensures, line-end-within t, length-drop (a .at) (a .sheet .now))
-
-starts-with-requires : tie.Need-starts-with-requires
-starts-with-requires c κs = search needs
 
 returns-2 : tie.Need-returns-2
 returns-2 c =
@@ -49,9 +37,6 @@ returns-2 c =
     let ended : lineEnd t < length t = omega (arith, e, found .if1 .left, line-end-within t, length-drop (a .at) (a .sheet .now)) in
     let tested = part-tested (a .name .now) t (a .at) _ e ended ∙ sym (c .before .starts-with .ensures) in
     sym (value-wrong (a .name .now) t (a .at) (tested ∙ not-true _ (c .if2 .taken)))
-
-add-t12 : tie.Need-add-t12
-add-t12 c = search needs
 
 returns-3 : tie.Need-returns-3
 returns-3 c =
@@ -66,14 +51,5 @@ returns-3 c =
 
 pub find-value-spec : {M : Type 1} → statement M
 find-value-spec =
-    tie.close
-    (tie.spec
-    line-end-requires
-    returns
-    sub-starts-with
-    part-starts-with-start
-    part-starts-with-end
-    starts-with-requires
-    returns-2
-    add-t12
-    returns-3)
+    tie.close (tie.spec (λ c κs. search needs) returns (λ c. search needs) (λ c. search needs) part-starts-with-end (λ c κs. search needs) returns-2
+    (λ c. search needs) returns-3)

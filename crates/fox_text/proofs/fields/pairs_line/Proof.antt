@@ -23,9 +23,6 @@ module _ (c : tie.Else1) where
       (c .before .before .before .before .before .args .at) (c .before .before .find-value .result)
   found-here = stands _ _ _ (c .before .before .before .before .before .pre .0) (c .before .before .find-value .ensures) (not-false _ (c .if1 .left))
 
-find-value-requires : tie.Need-find-value-requires
-find-value-requires c κs = search needs
-
 returns : tie.Need-returns
 returns c =
     let a = c .before .before .before .before .before .args in
@@ -48,9 +45,6 @@ part-ds-end : tie.Need-part-ds-end
 part-ds-end c =
     let v = found-here c in
     omega (arith, v .ordered, v .within)
-
-is-pairs-requires : tie.Need-is-pairs-requires
-is-pairs-requires c κs = search needs
 
 returns-2 : tie.Need-returns-2
 returns-2 c =
@@ -90,15 +84,5 @@ returns-3 c =
 
 pub pairs-line-spec : {M : Type 1} → statement M
 pairs-line-spec =
-    tie.close
-    (tie.spec
-    find-value-requires
-    returns
-    sub-ds
-    part-ds-start
-    part-ds-end
-    is-pairs-requires
-    returns-2
-    join-pairs-requires
-    add-t20
+    tie.close (tie.spec (λ c κs. search needs) returns sub-ds part-ds-start part-ds-end (λ c κs. search needs) returns-2 join-pairs-requires add-t20
     returns-3)

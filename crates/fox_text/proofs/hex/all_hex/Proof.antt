@@ -50,16 +50,4 @@ returns-2 c =
     sym (hex-done ds (at .loop .i) (c .loop-test .left)) ∙ at .loop .inv .2
 
 pub all-hex-spec : {M : Type 1} → statement M
-all-hex-spec =
-    tie.close
-    (tie.spec
-    Inv-loop
-    μ-loop
-    loop-holds
-    shared-slice-read-is-hex
-    is-hex-requires
-    returns
-    add-i
-    loop-less
-    loop-again
-    returns-2)
+all-hex-spec = tie.close (tie.spec Inv-loop μ-loop loop-holds shared-slice-read-is-hex is-hex-requires returns add-i loop-less loop-again returns-2)

@@ -15,12 +15,9 @@ returns-2 : tie.Need-returns-2
 unfolding isPairs
 returns-2 c = simp (eq-eqb _ _ (c .before .if1 .left), lt-leb _ _ (c .if2 .taken))
 
-all-hex-requires : tie.Need-all-hex-requires
-all-hex-requires c κs = search needs
-
 returns-3 : tie.Need-returns-3
 unfolding isPairs
 returns-3 c = c .all-hex .ensures ∙ simp (eq-eqb _ _ (c .before .before .if1 .left), le-leb _ _ (c .before .if2 .left))
 
 pub is-pairs-spec : {M : Type 1} → statement M
-is-pairs-spec = tie.close (tie.spec returns returns-2 all-hex-requires returns-3)
+is-pairs-spec = tie.close (tie.spec returns returns-2 (λ c κs. search needs) returns-3)

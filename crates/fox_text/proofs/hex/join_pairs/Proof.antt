@@ -103,23 +103,5 @@ returns c =
 
 pub join-pairs-spec : {M : Type 1} → statement M
 join-pairs-spec =
-    tie.close
-    (tie.spec
-    Inv-loop
-    μ-loop
-    loop-holds
-    mul-nibble
-    shared-slice-read-nibble
-    nibble-requires
-    mul-out
-    mul-nibble-2
-    add-nibble
-    shared-slice-read-nibble-2
-    nibble-requires-2
-    add-out
-    slice-write-out
-    add-i
-    loop-less
-    loop-again
-    same-length
-    returns)
+    tie.close (tie.spec Inv-loop μ-loop loop-holds mul-nibble shared-slice-read-nibble nibble-requires mul-out mul-nibble-2 add-nibble
+    shared-slice-read-nibble-2 nibble-requires-2 add-out slice-write-out add-i loop-less loop-again same-length returns)

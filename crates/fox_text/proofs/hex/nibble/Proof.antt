@@ -11,9 +11,6 @@ use Rattle.fox_text.proofs.hex.nibble.Tie as tie
 sub-result : tie.Need-sub-result
 sub-result c = omega (arith, ranges (c .before .args .d) (c .before .pre) .low)
 
-sub-result-2 : tie.Need-sub-result-2
-sub-result-2 c = search needs
-
 returns : tie.Need-returns
 unfolding nibble
 returns c = simp (lt-ltb _ _ (c .if1 .taken))
@@ -23,4 +20,4 @@ unfolding nibble
 returns-2 c = simp (le-ltb _ _ (c .if1 .left))
 
 pub nibble-spec : {M : Type 1} → statement M
-nibble-spec = tie.close (tie.spec sub-result sub-result-2 returns returns-2)
+nibble-spec = tie.close (tie.spec sub-result (λ c. search needs) returns returns-2)

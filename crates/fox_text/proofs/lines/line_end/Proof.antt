@@ -48,15 +48,4 @@ returns-2 c =
     omega (arith, at .loop .inv .1, c .loop-test .left, line-end-within (drop (at .loop .i) t), length-drop (at .loop .i) t)
 
 pub line-end-spec : {M : Type 1} → statement M
-line-end-spec =
-    tie.close
-    (tie.spec
-    Inv-loop
-    μ-loop
-    loop-holds
-    shared-slice-read-if1
-    returns
-    add-i
-    loop-less
-    loop-again
-    returns-2)
+line-end-spec = tie.close (tie.spec Inv-loop μ-loop loop-holds shared-slice-read-if1 returns add-i loop-less loop-again returns-2)

@@ -11,12 +11,9 @@ returns : tie.Need-returns
 unfolding same
 returns c = simp (ne-eqb _ _ (c .if1 .taken))
 
-starts-with-requires : tie.Need-starts-with-requires
-starts-with-requires c κs = search needs
-
 returns-2 : tie.Need-returns-2
 unfolding same
 returns-2 c = c .starts-with .ensures ∙ simp (eq-eqb _ _ (c .before .if1 .left))
 
 pub same-spec : {M : Type 1} → statement M
-same-spec = tie.close (tie.spec returns starts-with-requires returns-2)
+same-spec = tie.close (tie.spec returns (λ c κs. search needs) returns-2)

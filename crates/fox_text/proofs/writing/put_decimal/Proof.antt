@@ -9,9 +9,6 @@ use borrow.Author.Needs.{needs}
 use Rattle.fox_text.proofs.writing.put_decimal.Statement.{statement}
 use Rattle.fox_text.proofs.writing.put_decimal.Tie as tie
 
-put-place-requires : tie.Need-put-place-requires
-put-place-requires c κs = search needs
-
 put-place-requires-2 : tie.Need-put-place-requires-2
 put-place-requires-2 c κs =
     let n = c .before .before .before .args .n in
@@ -30,12 +27,6 @@ put-place-requires-4 c κs =
     let one = s .before .before .put-place .ensures .place in
     let two = s .put-place2 .ensures .place in
     (omega (arith, one, two, c .before .put-place3 .ensures .place, place-short 10000 n, place-short 1000 n, place-short 100 n), omega arith)
-
-cast-out : tie.Need-cast-out
-cast-out c = search needs
-
-add-out : tie.Need-add-out
-add-out c = search needs
 
 element-write-out : tie.Need-element-write-out
 element-write-out c =
@@ -79,14 +70,5 @@ returns c =
 
 pub put-decimal-spec : {M : Type 1} → statement M
 put-decimal-spec =
-    tie.close
-    (tie.spec
-    put-place-requires
-    put-place-requires-2
-    put-place-requires-3
-    put-place-requires-4
-    cast-out
-    add-out
-    element-write-out
-    add-result
-    returns)
+    tie.close (tie.spec (λ c κs. search needs) put-place-requires-2 put-place-requires-3 put-place-requires-4 (λ c. search needs) (λ c. search needs)
+    element-write-out add-result returns)

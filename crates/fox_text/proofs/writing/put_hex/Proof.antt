@@ -93,25 +93,5 @@ returns c =
 
 pub put-hex-spec : {M : Type 1} → statement M
 put-hex-spec =
-    tie.close
-    (tie.spec
-    Inv-loop
-    μ-loop
-    loop-holds
-    shared-slice-read-digit
-    digit-requires
-    mul-out
-    add-out
-    element-write-out
-    shared-slice-read-digit-2
-    digit-requires-2
-    mul-out-2
-    add-out-2
-    add-out-3
-    element-write-out-2
-    add-i
-    loop-less
-    loop-again
-    mul-result
-    add-result
-    returns)
+    tie.close (tie.spec Inv-loop μ-loop loop-holds shared-slice-read-digit digit-requires mul-out add-out element-write-out shared-slice-read-digit-2
+    digit-requires-2 mul-out-2 add-out-2 add-out-3 element-write-out-2 add-i loop-less loop-again mul-result add-result returns)

@@ -8,15 +8,6 @@ use borrow.Author.Needs.{needs}
 use Rattle.fox_text.proofs.writing.put_pairs_line.Statement.{statement}
 use Rattle.fox_text.proofs.writing.put_pairs_line.Tie as tie
 
-put-requires : tie.Need-put-requires
-put-requires c κs = search needs
-
-put-hex-requires : tie.Need-put-hex-requires
-put-hex-requires c κs = search needs
-
-slice-aggregate-put : tie.Need-slice-aggregate-put
-slice-aggregate-put c = search needs
-
 put-requires-2 : tie.Need-put-requires-2
 put-requires-2 c κs =
     let second = c .before .before in
@@ -30,5 +21,4 @@ returns c =
     then (then (second .before .before .put .ensures) (second .put-hex .ensures)) (c .put2 .ensures)
 
 pub put-pairs-line-spec : {M : Type 1} → statement M
-put-pairs-line-spec =
-    tie.close (tie.spec put-requires put-hex-requires slice-aggregate-put put-requires-2 returns)
+put-pairs-line-spec = tie.close (tie.spec (λ c κs. search needs) (λ c κs. search needs) (λ c. search needs) put-requires-2 returns)

@@ -13,21 +13,6 @@ returns c =
     let t = lt-ltb _ _ (c .if1 .taken) in
     record { place = simp t (omega arith); bytes = simp t }
 
-div-out : tie.Need-div-out
-div-out c = search needs
-
-cast-out : tie.Need-cast-out
-cast-out c = search needs
-
-add-out : tie.Need-add-out
-add-out c = search needs
-
-element-write-out : tie.Need-element-write-out
-element-write-out c = search needs
-
-add-result : tie.Need-add-result
-add-result c = search needs
-
 returns-2 : tie.Need-returns-2
 unfolding place
 returns-2 c =
@@ -36,4 +21,4 @@ returns-2 c =
 
 pub put-place-spec : {M : Type 1} → statement M
 put-place-spec =
-    tie.close (tie.spec returns div-out cast-out add-out element-write-out add-result returns-2)
+    tie.close (tie.spec returns (λ c. search needs) (λ c. search needs) (λ c. search needs) (λ c. search needs) (λ c. search needs) returns-2)

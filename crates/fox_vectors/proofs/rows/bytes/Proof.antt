@@ -80,28 +80,6 @@ returns-3 c = counts _ _ (search needs)
 
 pub bytes-spec : {M : Type 1} → statement M
 bytes-spec =
-    tie.close
-    (tie.spec
-    Inv-loop
-    μ-loop
-    start-of-requires
-    loop-holds
-    add-if1
-    same-length
-    returns
-    shared-slice-read-digit
-    digit-requires
-    same-length-2
-    returns-2
-    mul-out
-    add-digit
-    shared-slice-read-digit-2
-    digit-requires-2
-    add-out
-    slice-write-out
-    add-n
-    add-i
-    loop-less
-    loop-again
-    same-length-3
+    tie.close (tie.spec Inv-loop μ-loop start-of-requires loop-holds add-if1 same-length returns shared-slice-read-digit digit-requires same-length-2
+    returns-2 mul-out add-digit shared-slice-read-digit-2 digit-requires-2 add-out slice-write-out add-n add-i loop-less loop-again same-length-3
     returns-3)

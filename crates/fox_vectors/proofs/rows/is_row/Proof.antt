@@ -61,22 +61,5 @@ returns-4 c = search needs
 
 pub is-row-spec : {M : Type 1} → statement M
 is-row-spec =
-    tie.close
-    (tie.spec
-    Inv-loop
-    μ-loop
-    loop-holds
-    shared-slice-read-if1
-    is-length-requires
-    returns
-    add-k
-    shared-slice-read-is-digit
-    is-digit-requires
-    returns-2
-    add-digits
-    add-i
-    loop-less
-    loop-again
-    is-length-requires-2
-    returns-3
-    returns-4)
+    tie.close (tie.spec Inv-loop μ-loop loop-holds shared-slice-read-if1 is-length-requires returns add-k shared-slice-read-is-digit
+    is-digit-requires returns-2 add-digits add-i loop-less loop-again is-length-requires-2 returns-3 returns-4)

@@ -50,19 +50,5 @@ returns-2 c = search needs
 
 pub number-spec : {M : Type 1} → statement M
 number-spec =
-    tie.close
-    (tie.spec
-    Inv-loop
-    μ-loop
-    start-of-requires
-    loop-holds
-    shared-slice-read-digit
-    digit-requires
-    returns
-    mul-value
-    cast-value
-    add-value
-    add-i
-    loop-less
-    loop-again
-    returns-2)
+    tie.close (tie.spec Inv-loop μ-loop start-of-requires loop-holds shared-slice-read-digit digit-requires returns mul-value cast-value add-value
+    add-i loop-less loop-again returns-2)

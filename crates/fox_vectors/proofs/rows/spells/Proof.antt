@@ -71,26 +71,5 @@ returns-3 c = search needs
 
 pub spells-spec : {M : Type 1} → statement M
 spells-spec =
-    tie.close
-    (tie.spec
-    Inv-loop
-    μ-loop
-    start-of-requires
-    loop-holds
-    add-if1
-    returns
-    shared-slice-read-digit
-    digit-requires
-    mul-if2
-    add-digit
-    shared-slice-read-digit-2
-    digit-requires-2
-    add-if2
-    shared-slice-read-if2
-    returns-2
-    add-n
-    add-i
-    loop-less
-    loop-again
-    end-of-requires
-    returns-3)
+    tie.close (tie.spec Inv-loop μ-loop start-of-requires loop-holds add-if1 returns shared-slice-read-digit digit-requires mul-if2 add-digit
+    shared-slice-read-digit-2 digit-requires-2 add-if2 shared-slice-read-if2 returns-2 add-n add-i loop-less loop-again end-of-requires returns-3)

@@ -38,16 +38,4 @@ returns-2 : tie.Need-returns-2 Inv-loop μ-loop
 returns-2 c = search needs
 
 pub start-of-spec : {M : Type 1} → statement M
-start-of-spec =
-    tie.close
-    (tie.spec
-    Inv-loop
-    μ-loop
-    loop-holds
-    returns
-    shared-slice-read-if2
-    sub-left
-    add-i
-    loop-less
-    loop-again
-    returns-2)
+start-of-spec = tie.close (tie.spec Inv-loop μ-loop loop-holds returns shared-slice-read-if2 sub-left add-i loop-less loop-again returns-2)

@@ -36,16 +36,4 @@ returns : tie.Need-returns Inv-loop μ-loop
 returns c = search needs
 
 pub agree-spec : {M : Type 1} → statement M
-agree-spec =
-    tie.close
-    (tie.spec
-    Inv-loop
-    μ-loop
-    number-requires
-    loop-holds
-    agrees-requires
-    print-way-requires
-    add-way
-    loop-less
-    loop-again
-    returns)
+agree-spec = tie.close (tie.spec Inv-loop μ-loop number-requires loop-holds agrees-requires print-way-requires add-way loop-less loop-again returns)

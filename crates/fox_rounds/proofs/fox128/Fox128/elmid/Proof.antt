@@ -7,15 +7,6 @@ use Rattle.fox_rounds.specs.Rounds.{f64, plus128, elmid128}
 use Rattle.fox_rounds.proofs.fox128.Fox128.elmid.Statement.{statement}
 use Rattle.fox_rounds.proofs.fox128.Fox128.elmid.Tie as tie
 
-sums-requires : tie.Need-sums-requires
-sums-requires c κs = search needs
-
-f64-requires : tie.Need-f64-requires
-f64-requires c κs = search needs
-
-plus-requires : tie.Need-plus-requires
-plus-requires c κs = search needs
-
 returns : tie.Need-returns
 unfolding elmid128
 returns c =
@@ -27,4 +18,4 @@ returns c =
     ∙ ap (λ (t : ℕ). plus128 t (a .self)) (c1 .f64 .ensures ∙ ap (λ (s : ℕ). f64 s rk) (c2 .sums .ensures))
 
 pub elmid-spec : {M : Type 1} → statement M
-elmid-spec = tie.close (tie.spec sums-requires f64-requires plus-requires returns)
+elmid-spec = tie.close (tie.spec (λ c κs. search needs) (λ c κs. search needs) (λ c κs. search needs) returns)

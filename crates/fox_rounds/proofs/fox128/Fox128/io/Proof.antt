@@ -5,12 +5,6 @@ use Rattle.fox_rounds.specs.Rounds.{io128}
 use Rattle.fox_rounds.proofs.fox128.Fox128.io.Statement.{statement}
 use Rattle.fox_rounds.proofs.fox128.Fox128.io.Tie as tie
 
-io-requires : tie.Need-io-requires
-io-requires c κs = search needs
-
-io-requires-2 : tie.Need-io-requires-2
-io-requires-2 c κs = search needs
-
 returns : tie.Need-returns
 unfolding io128
 returns c =
@@ -18,4 +12,4 @@ returns c =
     λ i. record { ll = c .before .io .ensures i; lr = x .lr; rl = c .io2 .ensures i; rr = x .rr }
 
 pub io-spec : {M : Type 1} → statement M
-io-spec = tie.close (tie.spec io-requires io-requires-2 returns)
+io-spec = tie.close (tie.spec (λ c κs. search needs) (λ c κs. search needs) returns)

@@ -5,12 +5,6 @@ use Rattle.fox_rounds.specs.Rounds.{or128}
 use Rattle.fox_rounds.proofs.fox128.Fox128.or.Statement.{statement}
 use Rattle.fox_rounds.proofs.fox128.Fox128.or.Tie as tie
 
-or-requires : tie.Need-or-requires
-or-requires c κs = search needs
-
-or-requires-2 : tie.Need-or-requires-2
-or-requires-2 c κs = search needs
-
 returns : tie.Need-returns
 unfolding or128
 returns c =
@@ -18,4 +12,4 @@ returns c =
     λ i. record { ll = c .before .or .ensures i; lr = x .lr; rl = c .or2 .ensures i; rr = x .rr }
 
 pub or-spec : {M : Type 1} → statement M
-or-spec = tie.close (tie.spec or-requires or-requires-2 returns)
+or-spec = tie.close (tie.spec (λ c κs. search needs) (λ c κs. search needs) returns)

@@ -8,12 +8,6 @@ use Rattle.fox_rounds.proofs.Laws.Halves.{left-div}
 use Rattle.fox_rounds.proofs.fox128.Fox128.plus.Statement.{statement}
 use Rattle.fox_rounds.proofs.fox128.Fox128.plus.Tie as tie
 
-cast-a : tie.Need-cast-a
-cast-a c = search needs
-
-cast-b : tie.Need-cast-b
-cast-b c = search needs
-
 returns : tie.Need-returns
 unfolding plus128 right
 returns c =
@@ -24,4 +18,4 @@ returns c =
     λ i. record { ll = x .ll ⊕ high i; lr = x .lr ⊕ high i; rl = x .rl ⊕ low; rr = x .rr ⊕ low }
 
 pub plus-spec : {M : Type 1} → statement M
-plus-spec = tie.close (tie.spec cast-a cast-b returns)
+plus-spec = tie.close (tie.spec (λ c. search needs) (λ c. search needs) returns)

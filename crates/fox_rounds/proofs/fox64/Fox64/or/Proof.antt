@@ -5,12 +5,9 @@ use Rattle.fox_rounds.specs.Rounds.{or64}
 use Rattle.fox_rounds.proofs.fox64.Fox64.or.Statement.{statement}
 use Rattle.fox_rounds.proofs.fox64.Fox64.or.Tie as tie
 
-or-requires : tie.Need-or-requires
-or-requires c κs = search needs
-
 returns : tie.Need-returns
 unfolding or64
 returns c = λ i. record { l = c .or .ensures i; r = c .before .args .self .r }
 
 pub or-spec : {M : Type 1} → statement M
-or-spec = tie.close (tie.spec or-requires returns)
+or-spec = tie.close (tie.spec (λ c κs. search needs) returns)

@@ -5,11 +5,8 @@ use mathlib.Core.Path.{refl}
 use Rattle.fox_schedule.proofs.step.Schedule128.of.Statement.{statement}
 use Rattle.fox_schedule.proofs.step.Schedule128.of.Tie as tie
 
-mkey32-requires : tie.Need-mkey32-requires
-mkey32-requires c κs = search needs
-
 returns : tie.Need-returns
 returns c = record { mixed = c .mkey32 .ensures; flipped = refl }
 
 pub of-spec : {M : Type 1} → statement M
-of-spec = tie.close (tie.spec mkey32-requires returns)
+of-spec = tie.close (tie.spec (λ c κs. search needs) returns)

@@ -7,15 +7,9 @@ use Rattle.fox_schedule.specs.Step.{made128}
 use Rattle.fox_schedule.proofs.step.Schedule128.round_key.Statement.{statement}
 use Rattle.fox_schedule.proofs.step.Schedule128.round_key.Tie as tie
 
-dkey32-requires : tie.Need-dkey32-requires
-dkey32-requires c κs = search needs
-
-nl128-requires : tie.Need-nl128-requires
-nl128-requires c κs = search needs
-
 returns : tie.Need-returns
 unfolding made128
 returns c = c .nl128 .ensures ∙ ap (NL128 _) (c .before .dkey32 .ensures)
 
 pub round-key-spec : {M : Type 1} → statement M
-round-key-spec = tie.close (tie.spec dkey32-requires nl128-requires returns)
+round-key-spec = tie.close (tie.spec (λ c κs. search needs) (λ c κs. search needs) returns)

@@ -6,12 +6,6 @@ use Rattle.fox_schedule.specs.Step.{Scheduled64}
 use Rattle.fox_schedule.proofs.step.Schedule64.of.Statement.{statement}
 use Rattle.fox_schedule.proofs.step.Schedule64.of.Tie as tie
 
-mkey16-requires : tie.Need-mkey16-requires
-mkey16-requires c κs = search needs
-
-mkey32-requires : tie.Need-mkey32-requires
-mkey32-requires c κs = search needs
-
 returns : tie.Need-returns
 unfolding Scheduled64
 returns c = (c .before .if1 .taken, c .mkey16 .ensures, refl)
@@ -21,4 +15,4 @@ unfolding Scheduled64
 returns-2 c = (c .before .if1 .left, c .mkey32 .ensures, refl)
 
 pub of-spec : {M : Type 1} → statement M
-of-spec = tie.close (tie.spec mkey16-requires mkey32-requires returns returns-2)
+of-spec = tie.close (tie.spec (λ c κs. search needs) (λ c κs. search needs) returns returns-2)

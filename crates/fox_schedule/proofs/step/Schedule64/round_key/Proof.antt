@@ -8,24 +8,6 @@ use Rattle.fox_schedule.specs.declared.step.Schedule64.{Schedule64}
 use Rattle.fox_schedule.proofs.step.Schedule64.round_key.Statement.{statement}
 use Rattle.fox_schedule.proofs.step.Schedule64.round_key.Tie as tie
 
-enum-known-self : tie.Need-enum-known-self
-enum-known-self c = search needs
-
-dkey16-requires : tie.Need-dkey16-requires
-dkey16-requires c κs = search needs
-
-nl64-requires : tie.Need-nl64-requires
-nl64-requires c κs = search needs
-
-enum-known-self-2 : tie.Need-enum-known-self-2
-enum-known-self-2 c = search needs
-
-dkey32-requires : tie.Need-dkey32-requires
-dkey32-requires c κs = search needs
-
-nl64h-requires : tie.Need-nl64h-requires
-nl64h-requires c κs = search needs
-
 returns : tie.Need-returns
 unfolding made64
 returns c =
@@ -46,13 +28,5 @@ returns-2 c =
 
 pub round-key-spec : {M : Type 1} → statement M
 round-key-spec =
-    tie.close
-    (tie.spec
-    enum-known-self
-    dkey16-requires
-    nl64-requires
-    enum-known-self-2
-    dkey32-requires
-    nl64h-requires
-    returns
-    returns-2)
+    tie.close (tie.spec (λ c. search needs) (λ c κs. search needs) (λ c κs. search needs) (λ c. search needs) (λ c κs. search needs)
+    (λ c κs. search needs) returns returns-2)

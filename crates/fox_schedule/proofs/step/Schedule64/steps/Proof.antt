@@ -9,9 +9,6 @@ use Rattle.fox_schedule.proofs.step.Schedule64.steps.Tie as tie
 enum-told : tie.Need-enum-told
 enum-told c = search needs
 
-enum-told-2 : tie.Need-enum-told-2
-enum-told-2 c = search needs
-
 returns : tie.Need-returns
 unfolding steps64
 returns c = sym (ap steps64 (c .enum-told .given .1))
@@ -21,4 +18,4 @@ unfolding steps64
 returns-2 c = sym (ap steps64 (c .enum-told2 .given .1))
 
 pub steps-spec : {M : Type 1} → statement M
-steps-spec = tie.close (tie.spec enum-told enum-told-2 returns returns-2)
+steps-spec = tie.close (tie.spec enum-told (λ c. search needs) returns returns-2)
