@@ -16,6 +16,13 @@ unfoldable pub refusalOf : List Refusal → ℕ
 refusalOf [] = 0
 refusalOf (x ∷ xs) = cond (x .applies) (x .number) (refusalOf xs)
 
+-- the two forms that most tests have: a number is above a limit, and two numbers differ
+abbrev pub above : ℕ → ℕ → Bool
+above limit n = ltb limit n
+
+abbrev pub differs : ℕ → ℕ → Bool
+differs a b = not (eqb a b)
+
 -- the block size in bytes: B
 unfoldable pub blockSize : ℕ → ℕ
 blockSize cipher = cond (eqb cipher 64) 8 16
@@ -30,23 +37,27 @@ noRounds rounds = record { number = 2; applies = cond (ltb rounds 12) true (ltb 
 
 -- 3: key longer than 32 bytes
 unfoldable pub longKey : ℕ → Refusal
-longKey keyLen = record { number = 3; applies = ltb 32 keyLen }
+longKey keyLen = record { number = 3; applies = above 32 keyLen }
 
 -- 4: input block or counter block is not B bytes
 unfoldable pub noBlock : ℕ → ℕ → Refusal
-noBlock cipher blockLen = record { number = 4; applies = not (eqb blockLen (blockSize cipher)) }
+noBlock cipher blockLen = record { number = 4; applies = differs blockLen (blockSize cipher) }
 
 -- 5: run data above 65,536 bytes in one call
 unfoldable pub longData : ℕ → Refusal
-longData inputLen = record { number = 5; applies = ltb 65536 inputLen }
+longData inputLen = record { number = 5; applies = above 65536 inputLen }
 
 -- 6: output length is not the input length
 unfoldable pub noOutput : ℕ → ℕ → Refusal
-noOutput inputLen outLen = record { number = 6; applies = not (eqb outLen inputLen) }
+noOutput inputLen outLen = record { number = 6; applies = differs outLen inputLen }
 
 -- 7: offset plus length above 1,073,741,824
 unfoldable pub pastEnd : ℕ → ℕ → Refusal
-pastEnd offset inputLen = record { number = 7; applies = ltb 1073741824 (offset + inputLen) }
+pastEnd offset inputLen = record { number = 7; applies = above 1073741824 (offset + inputLen) }
+
+-- the first refusal so far, and where there is none yet, one test more
+unfoldable pub orElse : ℕ → Bool → ℕ → ℕ
+orElse refusal applies number = cond (eqb refusal 0) (cond applies number 0) refusal
 
 -- preparing a key meets only these
 unfoldable pub forKey : ℕ → ℕ → ℕ → List Refusal
@@ -75,19 +86,13 @@ pub record Keyed (c r k : ℕ) : Type 0 where
 
 -- what a call on one block knows where no refusal applies
 pub record Blocked (c r k b o : ℕ) : Type 0 where
-  pub cipher : (c ≡ 64) ⊎ (c ≡ 128)
-  pub low : 12 ≤ r
-  pub high : r ≤ 255
-  pub key : k ≤ 32
+  pub keyed : Keyed c r k
   pub block : b ≡ blockSize c
   pub output : o ≡ b
 
 -- what a call on a stretch of a run knows where no refusal applies
 pub record Stretched (c r k b n d o : ℕ) : Type 0 where
-  pub cipher : (c ≡ 64) ⊎ (c ≡ 128)
-  pub low : 12 ≤ r
-  pub high : r ≤ 255
-  pub key : k ≤ 32
+  pub keyed : Keyed c r k
   pub counter : b ≡ blockSize c
   pub short : d ≤ 65536
   pub output : o ≡ d

@@ -1,4 +1,4 @@
--- The whole answer of a call that writes an output: refusal number, count, and every byte of the output.
+-- The whole answer of a call: refusal number, count, and every byte of the output; and how it ends, served or refused.
 -- Assumes nothing.
 use mathlib.Core.Path.{_≡_}
 use Prim.Native.Nat.{ℕ}
@@ -14,3 +14,26 @@ pub record Reply (refusals : List Refusal) (value before after : List ℕ) (r : 
   pub refusal : r .refusal ≡ refusalOf refusals
   pub count : r .count ≡ cond (eqb (refusalOf refusals) 0) (length before) 0
   pub output : after ≡ cond (eqb (refusalOf refusals) 0) value before
+
+-- the same for a call that writes nothing: the count is 0
+pub record Verdict (refusals : List Refusal) (r : Answer) : Type 0 where
+  pub refusal : r .refusal ≡ refusalOf refusals
+  pub count : r .count ≡ 0
+
+-- a call that is served: it hands back 0 and a count, and its output is a value
+pub record Served (n : ℕ) (value after : List ℕ) (r : Answer) : Type 0 where
+  pub refusal : r .refusal ≡ 0
+  pub count : r .count ≡ n
+  pub output : after ≡ value
+
+-- a call that is refused: it hands back the first refusal that applies and count 0, and the output is as it was
+pub record Refused (refusals : List Refusal) (before after : List ℕ) (r : Answer) : Type 0 where
+  pub refusal : r .refusal ≡ refusalOf refusals
+  pub count : r .count ≡ 0
+  pub output : after ≡ before
+
+-- two calls that answer the same: refusal, count and output
+pub record Same (after₁ after₂ : List ℕ) (r₁ r₂ : Answer) : Type 0 where
+  pub refusal : r₁ .refusal ≡ r₂ .refusal
+  pub count : r₁ .count ≡ r₂ .count
+  pub output : after₁ ≡ after₂

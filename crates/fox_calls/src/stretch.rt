@@ -3,6 +3,7 @@ ghost use mathlib.Core.Path.{_≡_};
 ghost use Rattle.fox_calls.specs.Refusals.{refusalOf, pastEnd, forRun};
 use crate::refusals::block_size;
 use crate::refusals::for_key;
+use crate::refusals::or_else;
 use std::num::wrapping_add_u64;
 
 // The true sum of offset and length: one that wraps comes out below the offset.
@@ -27,23 +28,10 @@ pub fn for_run(
 ) -> u32
     ensures { λ r. ⌜ r ≡ refusalOf (forRun cipher rounds «key_len» «counter_len» offset «input_len» «out_len») ⌝ }
 {
-    let refusal = for_key(cipher, rounds, key_len);
-    if refusal != 0 {
-        return refusal;
-    }
+    let of_key = for_key(cipher, rounds, key_len);
     let size = block_size(cipher);
-    if counter_len != size {
-        return 4;
-    }
-    if input_len > 65_536 {
-        return 5;
-    }
-    if out_len != input_len {
-        return 6;
-    }
-    let past = past_end(offset, input_len as u64);
-    if past {
-        return 7;
-    }
-    0
+    let of_counter = or_else(of_key, counter_len != size, 4);
+    let of_input = or_else(of_counter, input_len > 65_536, 5);
+    let of_output = or_else(of_input, out_len != input_len, 6);
+    or_else(of_output, past_end(offset, input_len as u64), 7)
 }

@@ -1,4 +1,3 @@
 // The card's way: sealing and opening one block with no list of round keys, and no table above the 32 bytes of padding.
 pub mod block;
-pub mod rounds128;
-pub mod rounds64;
+pub mod rounds;

@@ -1,84 +1,57 @@
 -- Opening a block undoes sealing it, and sealing undoes opening: by the round keys of any list, so also by those that a caller put into a prepared key
--- himself, and by those of a key.
+-- himself, and by those of a key. First on the definitions, and then on calls, whichever ways they go.
 -- Assumes nothing.
-use mathlib.Core.Path.{_≡_, ap, _∙_}
+use mathlib.Core.Path.{_≡_, sym, ap, _∙_}
+use mathlib.Core.Bool.{Bool, true, false, not}
 use mathlib.Core.List.{List}
 use Prim.Native.Nat.{ℕ}
+use lib.Dec.{eqb}
 use lib.ListN.{length}
-use Rattle.fox_layers.specs.Words.{Bytes}
-use Rattle.fox_rounds.specs.Skeleton.{seal64, open64, seal128, open128}
-use Rattle.fox_rounds.proofs.Laws.Undoing.{open64-seal64, seal64-open64, open128-seal128, seal128-open128, seal64-words, open64-words, seal128-words, open128-words}
+use Rattle.fox_rounds.specs.Skeleton.{turned}
+use Rattle.fox_rounds.specs.declared.state.State.{State}
+use Rattle.fox_rounds.proofs.Laws.Undoing.{turned-fits, turned-back}
+use Rattle.fox_schedule.specs.Schedule.{roundKeys}
 use Rattle.fox_calls.specs.Refusals.{blockSize, Keyed}
-use Rattle.fox_cipher.specs.Block.{state64, state128, bytes64, bytes128, sealWith, openWith, roundKeys, sealBlock, openBlock}
-use Rattle.fox_cipher.proofs.Laws.Block.{by-cipher, size-64, size-128, sealWith-64, sealWith-128, openWith-64, openWith-128}
-use Rattle.fox_cipher.proofs.Laws.States.{state64-bytes64, state128-bytes128, bytes64-state64, bytes128-state128, state64-words, state128-words}
+use Rattle.fox_calls.specs.declared.answer.Answer.{Answer}
+use Rattle.fox_calls.proofs.Laws.Refusals.{blocked-served}
+use Rattle.fox_calls.proofs.Laws.Reply.{served}
+use Rattle.fox_cipher.specs.Block.{state, bytes, turnWith, sealBlock, openBlock, BlockOf}
+use Rattle.fox_cipher.specs.Calls.{TurnsWith, TurnedBack}
+use Rattle.fox_cipher.proofs.Laws.Block.{length-turned}
+use Rattle.fox_cipher.proofs.Laws.States.{state-bytes, bytes-state, state-fits}
 
--- a block of the right length
-pub record BlockOf (c : ℕ) (block : List ℕ) : Type 0 where
-  pub size : length block ≡ blockSize c
-  pub bytes : Bytes block
-
--- a call and the call that undoes it, each by way of states: the state goes there and back, and its bytes are the block's
-there-and-back : {S : Type 0} (there back : List ℕ → List ℕ) (state : List ℕ → S) (bytes : S → List ℕ) (f g : S → S) (block : List ℕ)
-    → ((bs : List ℕ) → there bs ≡ bytes (f (state bs))) → ((bs : List ℕ) → back bs ≡ bytes (g (state bs)))
-    → state (bytes (f (state block))) ≡ f (state block) → g (f (state block)) ≡ state block → bytes (state block) ≡ block → back (there block) ≡ block
-there-and-back there back state bytes f g block et eb kept undone same =
-    ap back (et block)
-    ∙ eb (bytes (f (state block)))
-    ∙ ap (λ y. bytes (g y)) kept
-    ∙ ap bytes undone
-    ∙ same
-
-module _ (c : ℕ) (ks block : List ℕ) (b : BlockOf c block) where
-  open-seal-64 : c ≡ 64 → openWith c ks (sealWith c ks block) ≡ block
-  open-seal-64 e =
-      let n = b .size ∙ size-64 c e in
-      let x = state64 block in
-      let w = state64-words block (b .bytes) n in
-      there-and-back (sealWith c ks) (openWith c ks) state64 bytes64 (seal64 ks) (open64 ks) block
-      (λ bs. sealWith-64 c ks bs e) (λ bs. openWith-64 c ks bs e) (state64-bytes64 (seal64 ks x) (seal64-words ks x w))
-      (open64-seal64 ks x w) (bytes64-state64 block (b .bytes) n)
-
-  seal-open-64 : c ≡ 64 → sealWith c ks (openWith c ks block) ≡ block
-  seal-open-64 e =
-      let n = b .size ∙ size-64 c e in
-      let x = state64 block in
-      let w = state64-words block (b .bytes) n in
-      there-and-back (openWith c ks) (sealWith c ks) state64 bytes64 (open64 ks) (seal64 ks) block
-      (λ bs. openWith-64 c ks bs e) (λ bs. sealWith-64 c ks bs e) (state64-bytes64 (open64 ks x) (open64-words ks x w))
-      (seal64-open64 ks x w) (bytes64-state64 block (b .bytes) n)
-
-  open-seal-128 : (c ≡ 64 → ⊥) → openWith c ks (sealWith c ks block) ≡ block
-  open-seal-128 e =
-      let n = b .size ∙ size-128 c e in
-      let x = state128 block in
-      let w = state128-words block (b .bytes) n in
-      there-and-back (sealWith c ks) (openWith c ks) state128 bytes128 (seal128 ks) (open128 ks) block
-      (λ bs. sealWith-128 c ks bs e) (λ bs. openWith-128 c ks bs e) (state128-bytes128 (seal128 ks x) (seal128-words ks x w))
-      (open128-seal128 ks x w) (bytes128-state128 block (b .bytes) n)
-
-  seal-open-128 : (c ≡ 64 → ⊥) → sealWith c ks (openWith c ks block) ≡ block
-  seal-open-128 e =
-      let n = b .size ∙ size-128 c e in
-      let x = state128 block in
-      let w = state128-words block (b .bytes) n in
-      there-and-back (openWith c ks) (sealWith c ks) state128 bytes128 (open128 ks) (seal128 ks) block
-      (λ bs. openWith-128 c ks bs e) (λ bs. sealWith-128 c ks bs e) (state128-bytes128 (open128 ks x) (open128-words ks x w))
-      (seal128-open128 ks x w) (bytes128-state128 block (b .bytes) n)
-
-  -- by the round keys of any list
-  pub open-seal-with : openWith c ks (sealWith c ks block) ≡ block
-  open-seal-with = by-cipher c open-seal-64 open-seal-128
-
-  pub seal-open-with : sealWith c ks (openWith c ks block) ≡ block
-  seal-open-with = by-cipher c seal-open-64 seal-open-128
+-- by the round keys of any list, and in either direction
+module _ (d : Bool) (c : ℕ) (ks block : List ℕ) (b : BlockOf c block) where
+  pub turn-back-with : turnWith (not d) c ks (turnWith d c ks block) ≡ block
+  unfolding turnWith
+  turn-back-with =
+      let x = state c block in
+      let w = state-fits c block b in
+      ap (λ (y : State). bytes (turned (not d) ks y)) (state-bytes c (turned d ks x) (turned-fits d (eqb c 64) ks x w))
+      ∙ ap bytes (turned-back d (eqb c 64) ks x w)
+      ∙ bytes-state c block b
 
 -- for every cipher, every round count of 12 to 255, every key of 0 to 32 bytes and every block of the right length
 module _ (c rounds : ℕ) (key block : List ℕ) (k : Keyed c rounds (length key)) (b : BlockOf c block) where
   pub open-seal : openBlock c rounds key (sealBlock c rounds key block) ≡ block
-  unfolding sealBlock openBlock
-  open-seal = open-seal-with c (roundKeys c rounds key) block b
+  open-seal = turn-back-with true c (roundKeys c rounds key) block b
 
   pub seal-open : sealBlock c rounds key (openBlock c rounds key block) ≡ block
-  unfolding sealBlock openBlock
-  seal-open = seal-open-with c (roundKeys c rounds key) block b
+  seal-open = turn-back-with false c (roundKeys c rounds key) block b
+
+-- A call that seals or opens a block, and a call that turns it back with the same round keys: both are served, and the second hands the block back. With the
+-- round keys of a key this is every pair of ways from key bytes; with those that a prepared key holds, whoever filled it, every pair that uses that key.
+module _ (d : Bool) (c rounds keyLen : ℕ) (ks block : List ℕ) (k : Keyed c rounds keyLen) (b : BlockOf c block) where
+  pub turned-back-calls : {before mid before-back after : List ℕ} {r s : Answer} → length before ≡ blockSize c → length before-back ≡ blockSize c
+      → TurnsWith d c rounds keyLen ks block before mid r → TurnsWith (not d) c rounds keyLen ks mid before-back after s → TurnedBack c block after r s
+  turned-back-calls room room-back first second =
+      let there = served first (blocked-served (record { keyed = k; block = b .size; output = room ∙ sym (b .size) })) in
+      let size = ap length (there .output) ∙ length-turned d c ks block in
+      let back = served second (blocked-served (record { keyed = k; block = size; output = room-back ∙ sym size })) in
+      record {
+        served = there .refusal;
+        count = there .count ∙ room;
+        served-back = back .refusal;
+        count-back = back .count ∙ room-back;
+        same = back .output ∙ ap (turnWith (not d) c ks) (there .output) ∙ turn-back-with d c ks block b;
+      }

@@ -1,17 +1,21 @@
 -- Sealing and opening one block, on lists of bytes (001 §2.1), by the round keys of a list, and by those of a key.
 -- Assumes nothing.
+use mathlib.Core.Path.{_≡_}
 use Prim.Native.Nat.{ℕ}
+use mathlib.Core.Bool.{Bool, true, false, cond}
 use mathlib.Core.List.{List, _++_}
-use mathlib.Core.Bool.{cond}
 use lib.Dec.{eqb}
-use lib.ListN.{take, drop}
-use Rattle.fox_layers.specs.Words.{joined, split}
-use Rattle.fox_rounds.specs.Skeleton.{numbered, seal64, open64, seal128, open128}
+use lib.ListN.{length, take, drop}
+use Rattle.fox_layers.specs.Words.{joined, split, Bytes}
+use Rattle.fox_rounds.specs.Skeleton.{turned}
 use Rattle.fox_rounds.specs.declared.fox64.Fox64.{Fox64}
 use Rattle.fox_rounds.specs.declared.fox128.Fox128.{Fox128}
-use Rattle.fox_schedule.specs.Schedule.{roundKey64, roundKey128}
+use Rattle.fox_rounds.specs.declared.state.State.{State}
+use Rattle.fox_rounds.specs.declared.state.State.the-variants.{Of64, Of128}
+use Rattle.fox_schedule.specs.Schedule.{roundKeys}
+use Rattle.fox_calls.specs.Refusals.{blockSize}
 
--- a block's bytes as the words of a state
+-- a block's bytes as the words of a state, for each cipher
 unfoldable pub state64 : List ℕ → Fox64
 state64 block = record { l = joined (take 4 block); r = joined (take 4 (drop 4 block)) }
 
@@ -31,30 +35,35 @@ bytes64 x = split 4 (x .l) ++ split 4 (x .r)
 unfoldable pub bytes128 : Fox128 → List ℕ
 bytes128 x = split 4 (x .ll) ++ split 4 (x .lr) ++ split 4 (x .rl) ++ split 4 (x .rr)
 
--- a block sealed and opened by the round keys of a list, for cipher 64 and else for cipher 128. What cipher 128 gives stands in a let, which the prover
--- computes only where it is taken
-unfoldable pub sealWith : ℕ → List ℕ → List ℕ → List ℕ
-sealWith cipher rks block =
-    let other = bytes128 (seal128 rks (state128 block)) in
-    cond (eqb cipher 64) (bytes64 (seal64 rks (state64 block))) other
+-- a block's bytes as a state of the cipher, 64 or else 128, and back
+unfoldable pub state : ℕ → List ℕ → State
+state cipher block = cond (eqb cipher 64) (Of64 (state64 block)) (Of128 (state128 block))
 
-unfoldable pub openWith : ℕ → List ℕ → List ℕ → List ℕ
-openWith cipher rks block =
-    let other = bytes128 (open128 rks (state128 block)) in
-    cond (eqb cipher 64) (bytes64 (open64 rks (state64 block))) other
+unfoldable pub bytes : State → List ℕ
+bytes (Of64 x) = bytes64 x
+bytes (Of128 x) = bytes128 x
 
--- the round key number i, from 1 on, of a key
-unfoldable pub roundKey : ℕ → ℕ → List ℕ → ℕ → ℕ
-roundKey cipher rounds key i =
-    let other = roundKey128 rounds key i in
-    cond (eqb cipher 64) (roundKey64 rounds key i) other
+-- a block sealed or opened by the round keys of a list
+unfoldable pub turnWith : Bool → ℕ → List ℕ → List ℕ → List ℕ
+turnWith sealing cipher rks block = bytes (turned sealing rks (state cipher block))
 
--- all of them
-unfoldable pub roundKeys : ℕ → ℕ → List ℕ → List ℕ
-roundKeys cipher rounds key = numbered (roundKey cipher rounds key) rounds 1
+abbrev pub sealWith : ℕ → List ℕ → List ℕ → List ℕ
+sealWith = turnWith true
 
-unfoldable pub sealBlock : ℕ → ℕ → List ℕ → List ℕ → List ℕ
-sealBlock cipher rounds key block = sealWith cipher (roundKeys cipher rounds key) block
+abbrev pub openWith : ℕ → List ℕ → List ℕ → List ℕ
+openWith = turnWith false
 
-unfoldable pub openBlock : ℕ → ℕ → List ℕ → List ℕ → List ℕ
-openBlock cipher rounds key block = openWith cipher (roundKeys cipher rounds key) block
+-- and by those of a key
+abbrev pub turnBlock : Bool → ℕ → ℕ → List ℕ → List ℕ → List ℕ
+turnBlock sealing cipher rounds key block = turnWith sealing cipher (roundKeys cipher rounds key) block
+
+abbrev pub sealBlock : ℕ → ℕ → List ℕ → List ℕ → List ℕ
+sealBlock = turnBlock true
+
+abbrev pub openBlock : ℕ → ℕ → List ℕ → List ℕ → List ℕ
+openBlock = turnBlock false
+
+-- a block of the cipher's size
+pub record BlockOf (c : ℕ) (block : List ℕ) : Type 0 where
+  pub size : length block ≡ blockSize c
+  pub bytes : Bytes block

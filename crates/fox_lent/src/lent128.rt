@@ -2,9 +2,11 @@
 ghost use mathlib.Core.Path.{_≡_};
 ghost use Prim.Native.Nat.{_+_, _*_, _^_, _≤_, _<_};
 ghost use Rattle.fox_rounds.specs.Rounds.{elmid128};
-ghost use Rattle.fox_rounds.specs.Skeleton.{numbered, seal128, open128};
+ghost use Rattle.fox_rounds.specs.Skeleton.{numbered, turned};
+ghost use Rattle.fox_rounds.specs.declared.state.State.the-variants.{Of128};
 ghost use Rattle.fox_lent.specs.Held.{held128};
 ghost use Rattle.fox_lent.specs.Lent.{Lent8};
+use crate::order::place;
 use fox_rounds::fox128::Fox128;
 use fox_tables::sigma_mu8;
 use fox_tables::sigma4;
@@ -60,7 +62,9 @@ pub fn elmid128_at<'a>(
     elmid128(s, a, b, c, d, e, f, g, h, x, keys[2 * i], keys[2 * i + 1])
 }
 
-pub fn seal128<'a>(
+// A block sealed or opened: the round keys are taken in the order of the direction.
+pub fn turn128<'a>(
+    sealing: bool,
     s: &'a [u32; 1024],
     a: &'a [u64; 256],
     b: &'a [u64; 256],
@@ -75,41 +79,15 @@ pub fn seal128<'a>(
     x: Fox128,
 ) -> Fox128
     requires { ⌜ Lent8 (now s) (now a) (now b) (now c) (now d) (now e) (now f) (now g) (now h) ⌝ }
-    requires { ⌜ 1 ≤ rounds ⌝ }
-    requires { ⌜ rounds ≤ 255 ⌝ }
-    ensures { λ r. ⌜ r ≡ seal128 (numbered (held128 (now (keys .entry))) rounds 0) x ⌝ }
+    requires { ⌜ (1 ≤ rounds) × (rounds ≤ 255) ⌝ }
+    ensures { λ r. ⌜ Of128 r ≡ turned sealing (numbered (held128 (now (keys .entry))) rounds 0) (Of128 x) ⌝ }
 {
     let last = rounds - 1;
     let mut y = x;
     for i in 0..last {
-        y = elmid128_at(s, a, b, c, d, e, f, g, h, keys, i, y).or();
+        let at = place(sealing, rounds, i);
+        y = elmid128_at(s, a, b, c, d, e, f, g, h, keys, at, y).between(sealing);
     }
-    elmid128_at(s, a, b, c, d, e, f, g, h, keys, last, y)
-}
-
-pub fn open128<'a>(
-    s: &'a [u32; 1024],
-    a: &'a [u64; 256],
-    b: &'a [u64; 256],
-    c: &'a [u64; 256],
-    d: &'a [u64; 256],
-    e: &'a [u64; 256],
-    f: &'a [u64; 256],
-    g: &'a [u64; 256],
-    h: &'a [u64; 256],
-    keys: &[u64; 510],
-    rounds: usize,
-    x: Fox128,
-) -> Fox128
-    requires { ⌜ Lent8 (now s) (now a) (now b) (now c) (now d) (now e) (now f) (now g) (now h) ⌝ }
-    requires { ⌜ 1 ≤ rounds ⌝ }
-    requires { ⌜ rounds ≤ 255 ⌝ }
-    ensures { λ r. ⌜ r ≡ open128 (numbered (held128 (now (keys .entry))) rounds 0) x ⌝ }
-{
-    let last = rounds - 1;
-    let mut y = x;
-    for j in 0..last {
-        y = elmid128_at(s, a, b, c, d, e, f, g, h, keys, last - j, y).io();
-    }
-    elmid128_at(s, a, b, c, d, e, f, g, h, keys, 0, y)
+    let end = place(sealing, rounds, last);
+    elmid128_at(s, a, b, c, d, e, f, g, h, keys, end, y)
 }

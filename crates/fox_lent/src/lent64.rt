@@ -2,9 +2,11 @@
 ghost use mathlib.Core.Path.{_≡_};
 ghost use Prim.Native.Nat.{_≤_};
 ghost use Rattle.fox_rounds.specs.Rounds.{f32, lmid64};
-ghost use Rattle.fox_rounds.specs.Skeleton.{numbered, seal64, open64};
+ghost use Rattle.fox_rounds.specs.Skeleton.{numbered, turned};
+ghost use Rattle.fox_rounds.specs.declared.state.State.the-variants.{Of64};
 ghost use Rattle.fox_lent.specs.Held.{held64};
 ghost use Rattle.fox_lent.specs.Lent.{Lent4};
+use crate::order::place;
 use fox_rounds::fox64::Fox64;
 use fox_tables::sigma_mu4;
 use fox_tables::sigma4;
@@ -45,7 +47,9 @@ pub fn lmid64<'a>(
     }
 }
 
-pub fn seal64<'a>(
+// A block sealed or opened: the round keys are taken in the order of the direction.
+pub fn turn64<'a>(
+    sealing: bool,
     s: &'a [u32; 1024],
     a: &'a [u32; 256],
     b: &'a [u32; 256],
@@ -56,37 +60,15 @@ pub fn seal64<'a>(
     x: Fox64,
 ) -> Fox64
     requires { ⌜ Lent4 (now s) (now a) (now b) (now c) (now d) ⌝ }
-    requires { ⌜ 1 ≤ rounds ⌝ }
-    requires { ⌜ rounds ≤ 510 ⌝ }
-    ensures { λ r. ⌜ r ≡ seal64 (numbered (held64 (now (keys .entry))) rounds 0) x ⌝ }
+    requires { ⌜ (1 ≤ rounds) × (rounds ≤ 255) ⌝ }
+    ensures { λ r. ⌜ Of64 r ≡ turned sealing (numbered (held64 (now (keys .entry))) rounds 0) (Of64 x) ⌝ }
 {
     let last = rounds - 1;
     let mut y = x;
     for i in 0..last {
-        y = lmid64(s, a, b, c, d, y, keys[i]).or();
+        let at = place(sealing, rounds, i);
+        y = lmid64(s, a, b, c, d, y, keys[at]).between(sealing);
     }
-    lmid64(s, a, b, c, d, y, keys[last])
-}
-
-pub fn open64<'a>(
-    s: &'a [u32; 1024],
-    a: &'a [u32; 256],
-    b: &'a [u32; 256],
-    c: &'a [u32; 256],
-    d: &'a [u32; 256],
-    keys: &[u64; 510],
-    rounds: usize,
-    x: Fox64,
-) -> Fox64
-    requires { ⌜ Lent4 (now s) (now a) (now b) (now c) (now d) ⌝ }
-    requires { ⌜ 1 ≤ rounds ⌝ }
-    requires { ⌜ rounds ≤ 510 ⌝ }
-    ensures { λ r. ⌜ r ≡ open64 (numbered (held64 (now (keys .entry))) rounds 0) x ⌝ }
-{
-    let last = rounds - 1;
-    let mut y = x;
-    for j in 0..last {
-        y = lmid64(s, a, b, c, d, y, keys[last - j]).io();
-    }
-    lmid64(s, a, b, c, d, y, keys[0])
+    let end = place(sealing, rounds, last);
+    lmid64(s, a, b, c, d, y, keys[end])
 }

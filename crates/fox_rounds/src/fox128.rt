@@ -3,6 +3,8 @@ ghost use mathlib.Core.Path.{_≡_};
 ghost use Prim.Native.Nat.{_+_, _*_, _^_};
 ghost use Rattle.fox_layers.specs.Words.{_⊕_};
 ghost use Rattle.fox_rounds.specs.Rounds.{f64, plus128, elmid128, or128, io128};
+ghost use Rattle.fox_rounds.specs.Skeleton.{between};
+ghost use Rattle.fox_rounds.specs.declared.state.State.the-variants.{Of128};
 use crate::fox64::io;
 use crate::fox64::or;
 use fox_layers::diffusion::mu8;
@@ -91,5 +93,12 @@ impl Fox128 {
             rl: io(self.rl),
             rr: self.rr,
         }
+    }
+
+    // What follows every round but the last.
+    pub fn between(self, sealing: bool) -> Fox128
+        ensures { λ x. ⌜ Of128 x ≡ between sealing (Of128 self) ⌝ }
+    {
+        if sealing { self.or() } else { self.io() }
     }
 }

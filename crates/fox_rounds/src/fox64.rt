@@ -1,6 +1,8 @@
 // FOX64: its constants, its state of two words, and its round by the card's way (001 §2.2.1, §2.2.3, §2.2.4).
 ghost use mathlib.Core.Path.{_≡_};
 ghost use Rattle.fox_rounds.specs.Rounds.{or, io, f32, lmid64, or64, io64};
+ghost use Rattle.fox_rounds.specs.Skeleton.{between};
+ghost use Rattle.fox_rounds.specs.declared.state.State.the-variants.{Of64};
 use fox_layers::diffusion::mu4;
 use fox_layers::small_boxes::sigma4;
 
@@ -81,5 +83,12 @@ impl Fox64 {
             l: io(self.l),
             r: self.r,
         }
+    }
+
+    // What follows every round but the last.
+    pub fn between(self, sealing: bool) -> Fox64
+        ensures { λ x. ⌜ Of64 x ≡ between sealing (Of64 self) ⌝ }
+    {
+        if sealing { self.or() } else { self.io() }
     }
 }

@@ -6,15 +6,14 @@ use lib.ListN.{length}
 use Rattle.fox_calls.specs.Refusals.{forRun}
 use Rattle.fox_calls.specs.Reply.{Reply}
 use Rattle.fox_calls.specs.declared.answer.Answer.{Answer}
-use Rattle.fox_run.specs.Run.{runWith, run}
+use Rattle.fox_schedule.specs.Schedule.{roundKeys}
+use Rattle.fox_run.specs.Run.{runWith}
 
--- from cipher, rounds, key bytes, counter block, offset and input, with the output before and after
-abbrev pub Runs : ℕ → ℕ → List ℕ → List ℕ → ℕ → List ℕ → List ℕ → List ℕ → Answer → Type 0
-Runs cipher rounds key counter offset input before after r =
-    Reply (forRun cipher rounds (length key) (length counter) offset (length input) (length before)) (run cipher rounds key counter offset input) before
-    after r
-
--- from cipher, rounds, key length and a list of round keys
+-- from cipher, rounds, key length, a list of round keys, counter block, offset and input, with the output before and after
 abbrev pub RunsWith : ℕ → ℕ → ℕ → List ℕ → List ℕ → ℕ → List ℕ → List ℕ → List ℕ → Answer → Type 0
 RunsWith cipher rounds keyLen rks counter offset input before after r =
     Reply (forRun cipher rounds keyLen (length counter) offset (length input) (length before)) (runWith cipher rks counter offset input) before after r
+
+-- from cipher, rounds and key bytes: the round keys are the key's
+abbrev pub Runs : ℕ → ℕ → List ℕ → List ℕ → ℕ → List ℕ → List ℕ → List ℕ → Answer → Type 0
+Runs cipher rounds key = RunsWith cipher rounds (length key) (roundKeys cipher rounds key)

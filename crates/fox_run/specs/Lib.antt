@@ -4,3 +4,4 @@ pub mod Run
 pub mod Calls
 pub mod States
 pub mod Steps
+pub mod Cuts

@@ -6,7 +6,8 @@ use mathlib.Core.List.{List, [], _∷_}
 use lib.ListN.{getD}
 use Rattle.fox_layers.specs.Words.{_⊕_}
 use Rattle.fox_calls.specs.Refusals.{blockSize}
-use Rattle.fox_cipher.specs.Block.{sealWith, roundKeys}
+use Rattle.fox_schedule.specs.Schedule.{roundKeys}
+use Rattle.fox_cipher.specs.Block.{sealWith}
 use Rattle.fox_run.specs.Counter.{counterBlock}
 
 -- byte n of a stream of blocks of B bytes: byte n mod B of block number n div B
@@ -27,5 +28,5 @@ unfoldable pub runWith : ℕ → List ℕ → List ℕ → ℕ → List ℕ → 
 runWith cipher rks counter n bytes = addedFrom (keyStream cipher rks counter) n bytes
 
 -- and by those of a key
-unfoldable pub run : ℕ → ℕ → List ℕ → List ℕ → ℕ → List ℕ → List ℕ
+abbrev pub run : ℕ → ℕ → List ℕ → List ℕ → ℕ → List ℕ → List ℕ
 run cipher rounds key counter n bytes = runWith cipher (roundKeys cipher rounds key) counter n bytes

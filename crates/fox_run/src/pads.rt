@@ -6,13 +6,15 @@ ghost use mathlib.Core.Logic.{_⊎_};
 ghost use Prim.Native.Nat.{_≤_, _<_};
 ghost use lib.ListN.{length, drop};
 ghost use Rattle.fox_layers.specs.Words.{sum, split};
-ghost use Rattle.fox_cipher.specs.Block.{bytes64, bytes128};
+ghost use Rattle.fox_rounds.specs.Skeleton.{size};
+ghost use Rattle.fox_cipher.specs.Block.{bytes64, bytes128, bytes};
+ghost use Rattle.fox_run.specs.Steps.{Added};
 use fox_calls::bytes::load4;
 use fox_calls::bytes::store4;
-use fox_cipher::blocks::write64;
-use fox_cipher::blocks::write128;
+use fox_cipher::blocks::write;
 use fox_rounds::fox64::Fox64;
 use fox_rounds::fox128::Fox128;
+use fox_rounds::state::State;
 
 fn shorter(a: usize, b: usize) -> usize
     ensures { λ r. ⌜ (r ≤ a) × (r ≤ b) × ((r ≡ a) ⊎ (r ≡ b)) ⌝ }
@@ -23,7 +25,7 @@ fn shorter(a: usize, b: usize) -> usize
 // As far as both go; the count of bytes written is handed back.
 fn add(pad: &[u8], input: &[u8], out: &mut [u8]) -> usize
     requires { ⌜ length (now out) ≡ length (now input) ⌝ }
-    ensures { λ r. ⌜ (r ≡ length (sum (now (pad .entry)) (now (input .entry)))) × (now (out .exit) ≡ sum (now (pad .entry)) (now (input .entry)) ++ drop r (now (out .entry))) ⌝ }
+    ensures { λ r. ⌜ Added (now (pad .entry)) (now (input .entry)) (now (out .entry)) (now (out .exit)) r ⌝ }
 {
     let end = shorter(pad.len(), input.len());
     for i in 0..end {
@@ -33,22 +35,14 @@ fn add(pad: &[u8], input: &[u8], out: &mut [u8]) -> usize
 }
 
 // The bytes of a block from its byte number skip on.
-pub fn add_part64(x: Fox64, skip: usize, input: &[u8], out: &mut [u8]) -> usize
-    requires { ⌜ (skip < 8) × (length (now out) ≡ length (now input)) ⌝ }
-    ensures { λ r. ⌜ (r ≡ length (sum (drop skip (bytes64 x)) (now (input .entry)))) × (now (out .exit) ≡ sum (drop skip (bytes64 x)) (now (input .entry)) ++ drop r (now (out .entry))) ⌝ }
+pub fn add_part(x: State, skip: usize, input: &[u8], out: &mut [u8]) -> usize
+    requires { ⌜ (skip < size x) × (length (now out) ≡ length (now input)) ⌝ }
+    ensures { λ r. ⌜ Added (drop skip (bytes x)) (now (input .entry)) (now (out .entry)) (now (out .exit)) r ⌝ }
 {
-    let mut pad = [0; 8];
-    write64(&mut pad, x);
-    add(&pad[skip..], input, out)
-}
-
-pub fn add_part128(x: Fox128, skip: usize, input: &[u8], out: &mut [u8]) -> usize
-    requires { ⌜ (skip < 16) × (length (now out) ≡ length (now input)) ⌝ }
-    ensures { λ r. ⌜ (r ≡ length (sum (drop skip (bytes128 x)) (now (input .entry)))) × (now (out .exit) ≡ sum (drop skip (bytes128 x)) (now (input .entry)) ++ drop r (now (out .entry))) ⌝ }
-{
+    let end = x.size();
     let mut pad = [0; 16];
-    write128(&mut pad, x);
-    add(&pad[skip..], input, out)
+    write(&mut pad[0..end], x);
+    add(&pad[skip..end], input, out)
 }
 
 // Two words added to the first eight bytes.

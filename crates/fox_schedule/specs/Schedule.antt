@@ -38,9 +38,12 @@ roundKey64 r key i = key64 key (LFSR ((i - 1) * groups (ek64 (length key))) r)
 unfoldable pub roundKey128 : ℕ → List ℕ → ℕ → ℕ
 roundKey128 r key i = key128 key (LFSR ((i - 1) * groups ek128) r)
 
--- all r round keys
-unfoldable pub roundKeys64 : ℕ → List ℕ → List ℕ
-roundKeys64 r key = numbered (roundKey64 r key) r 1
+-- for either cipher
+unfoldable pub roundKey : ℕ → ℕ → List ℕ → ℕ → ℕ
+roundKey cipher r key i =
+    let other = roundKey128 r key i in
+    cond (eqb cipher 64) (roundKey64 r key i) other
 
-unfoldable pub roundKeys128 : ℕ → List ℕ → List ℕ
-roundKeys128 r key = numbered (roundKey128 r key) r 1
+-- all r round keys
+unfoldable pub roundKeys : ℕ → ℕ → List ℕ → List ℕ
+roundKeys cipher r key = numbered (roundKey cipher r key) r 1

@@ -1,42 +1,63 @@
--- What a schedule of the code makes: the round key where the register stands at reg.
+-- What a schedule of the code makes: the round key where the register stands at reg, and where that is for each round.
 -- Assumes nothing.
 use mathlib.Core.Path.{_≡_}
-use Prim.Native.Nat.{ℕ, _*_, _<_, _≤_}
+use Prim.Native.Nat.{ℕ, _+_, _*_, _^_, _<_, _≤_}
+use mathlib.Core.Bool.{Bool, true, false}
 use mathlib.Core.List.{List}
 use lib.Dec.{eqb}
 use lib.ListN.{length}
+use Rattle.fox_rounds.specs.Skeleton.{place}
 use Rattle.fox_keying.specs.Padding.{mkey}
-use Rattle.fox_keying.specs.Register.{LFSR, dkey}
+use Rattle.fox_keying.specs.Register.{LFSR, dkey, clocked, clockedBack, iterate}
 use Rattle.fox_keying.specs.Held.{bytes16, bytes32}
 use Rattle.fox_nonlinear.specs.Nonlinear.{NL64, NL64h, NL128}
-use Rattle.fox_schedule.specs.declared.step.Schedule64.{Schedule64}
-use Rattle.fox_schedule.specs.declared.step.Schedule64.the-variants.{Ks64, Ks64h}
-use Rattle.fox_schedule.specs.declared.step.Schedule128.{Schedule128}
+use Rattle.fox_nonlinear.specs.declared.nl128.Key128.{Key128}
+use Rattle.fox_schedule.specs.declared.step.Schedule.{Schedule}
+use Rattle.fox_schedule.specs.declared.step.Schedule.the-variants.{Ks64, Ks64h, Ks128}
 
-unfoldable pub made64 : Schedule64 → ℕ → ℕ
-made64 (Ks64 m flip) reg = NL64 flip (dkey (bytes16 m) reg)
-made64 (Ks64h m flip) reg = NL64h flip (dkey (bytes32 m) reg)
+unfoldable pub made : Schedule → ℕ → ℕ
+made (Ks64 m flip) reg = NL64 flip (dkey (bytes16 m) reg)
+made (Ks64h m flip) reg = NL64h flip (dkey (bytes32 m) reg)
+made (Ks128 m flip) reg = NL128 flip (dkey (bytes32 m) reg)
+
+-- FOX64's round keys have 64 bits
+unfoldable pub narrow : Schedule → Bool
+narrow (Ks64 m flip) = true
+narrow (Ks64h m flip) = true
+narrow (Ks128 m flip) = false
+
+-- a round key as two words of 64 bits, of which FOX64's has the right one only
+pub record Made (s : Schedule) (reg : ℕ) (k : Key128) : Type 0 where
+  pub whole : k .left * 2 ^ 64 + k .right ≡ made s reg
+  pub short : narrow s ≡ true → k .left ≡ 0
 
 -- register steps from one round key to the next
-unfoldable pub steps64 : Schedule64 → ℕ
-steps64 (Ks64 m flip) = 6
-steps64 (Ks64h m flip) = 11
+unfoldable pub steps : Schedule → ℕ
+steps (Ks64 m flip) = 6
+steps (Ks64h m flip) = 11
+steps (Ks128 m flip) = 11
 
-unfoldable pub made128 : Schedule128 → ℕ → ℕ
-made128 s reg = NL128 (s .flip) (dkey (bytes32 (s .key)) reg)
-
--- the schedule of a key: which of the two it is, the mixed key, and whether the key has ek bytes
-unfoldable pub Scheduled64 : List ℕ → Schedule64 → Type 0
-Scheduled64 key (Ks64 m flip) = (length key ≤ 16) × (bytes16 m ≡ mkey 16 key) × (flip ≡ eqb (length key) 16)
-Scheduled64 key (Ks64h m flip) = (16 < length key) × (bytes32 m ≡ mkey 32 key) × (flip ≡ eqb (length key) 32)
-
-pub record Scheduled128 (key : List ℕ) (s : Schedule128) : Type 0 where
-  pub mixed : bytes32 (s .key) ≡ mkey 32 key
-  pub flipped : s .flip ≡ eqb (length key) 32
+-- the schedule of a key: which of the three it is, the mixed key, and whether the key has ek bytes
+unfoldable pub Scheduled : ℕ → List ℕ → Schedule → Type 0
+Scheduled cipher key (Ks64 m flip) = (cipher ≡ 64) × (length key ≤ 16) × (bytes16 m ≡ mkey 16 key) × (flip ≡ eqb (length key) 16)
+Scheduled cipher key (Ks64h m flip) = (cipher ≡ 64) × (16 < length key) × (bytes32 m ≡ mkey 32 key) × (flip ≡ eqb (length key) 32)
+Scheduled cipher key (Ks128 m flip) = (cipher ≡ 64 → ⊥) × (bytes32 m ≡ mkey 32 key) × (flip ≡ eqb (length key) 32)
 
 -- the round key number i, from 0 on, that a schedule makes for r rounds: the register has made i times its steps
-unfoldable pub keyAt64 : Schedule64 → ℕ → ℕ → ℕ
-keyAt64 s r i = made64 s (LFSR (i * steps64 s) r)
+unfoldable pub keyAt : Schedule → ℕ → ℕ → ℕ
+keyAt s r i = made s (LFSR (i * steps s) r)
 
-unfoldable pub keyAt128 : Schedule128 → ℕ → ℕ → ℕ
-keyAt128 s r i = made128 s (LFSR (i * 11) r)
+-- where the register stands for the round number i of r, counted from 0, in sealing or in opening
+pub record Stands (s : Schedule) (sealing : Bool) (r i reg : ℕ) : Type 0 where
+  pub here : reg ≡ LFSR (place sealing r i * steps s) r
+  pub small : reg < 2 ^ 24
+
+-- the register so many steps on, in sealing, or back, in opening
+unfoldable pub stepped : Bool → ℕ → ℕ → ℕ
+stepped true n reg = iterate n clocked reg
+stepped false n reg = iterate n clockedBack reg
+
+-- the register moved from one round key to the next of that direction
+pub record Moved (s : Schedule) (sealing : Bool) (reg to : ℕ) : Type 0 where
+  pub there : to ≡ stepped sealing (steps s) reg
+  pub small : to < 2 ^ 24

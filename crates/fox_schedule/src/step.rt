@@ -1,15 +1,18 @@
-// The round-key step, one for each cipher: whatever needs a round key, the card's way or a prepared key, has it from here. A schedule is the mixed key
-// with what the non-linear part wants to know of the key's length (001 §2.3.1 to §2.3.4).
+// The round-key step of either cipher: whatever needs a round key, the card's way or a prepared key, has it from here, and moves the register by what
+// stands here. A schedule is the mixed key with what the non-linear part wants to know of the key's length (001 §2.3.1 to §2.3.4).
 ghost use mathlib.Core.Path.{_≡_};
-ghost use Prim.Native.Nat.{_+_, _*_, _^_, _<_, _≤_};
+ghost use Prim.Native.Nat.{_^_, _<_, _≤_};
 ghost use lib.ListN.{length};
-ghost use Rattle.fox_schedule.specs.Step.{made64, steps64, made128, Scheduled64, Scheduled128};
+ghost use Rattle.fox_schedule.specs.Step.{Made, steps, Scheduled, Stands, Moved};
 use fox_keying::diversification::dkey16;
 use fox_keying::diversification::dkey32;
 use fox_keying::held::Key16;
 use fox_keying::held::Key32;
 use fox_keying::mixing::mkey16;
 use fox_keying::mixing::mkey32;
+use fox_keying::register::back;
+use fox_keying::register::forward;
+use fox_keying::register::seed;
 use fox_nonlinear::nl64::nl64;
 use fox_nonlinear::nl64h::nl64h;
 use fox_nonlinear::nl128::Key128;
@@ -17,68 +20,78 @@ use fox_nonlinear::nl128::nl128;
 use fox_rounds::fox64::Fox64;
 use fox_rounds::fox128::Fox128;
 
-// KS64 or KS64h, and whether the key has ek bytes.
-pub enum Schedule64 {
+// KS64, KS64h or KS128, and whether the key has ek bytes.
+pub enum Schedule {
     Ks64(Key16, bool),
     Ks64h(Key32, bool),
+    Ks128(Key32, bool),
 }
 
-impl Schedule64 {
-    pub fn of(key: &[u8]) -> Schedule64
+impl Schedule {
+    pub fn of(cipher: u32, key: &[u8]) -> Schedule
         requires { ⌜ length (now key) ≤ 32 ⌝ }
-        ensures { λ s. ⌜ Scheduled64 (now (key .entry)) s ⌝ }
+        ensures { λ s. ⌜ Scheduled cipher (now (key .entry)) s ⌝ }
     {
+        if cipher != 64 {
+            return Schedule::Ks128(mkey32(key), key.len() == Fox128::EK);
+        }
         if key.len() <= Fox64::EK {
-            Schedule64::Ks64(mkey16(key), key.len() == Fox64::EK)
+            Schedule::Ks64(mkey16(key), key.len() == Fox64::EK)
         } else {
-            Schedule64::Ks64h(mkey32(key), key.len() == Fox64::EK_LONG)
+            Schedule::Ks64h(mkey32(key), key.len() == Fox64::EK_LONG)
         }
     }
 
     // Register steps from one round key to the next.
-    pub fn steps(self) -> u32
-        ensures { λ r. ⌜ r ≡ steps64 self ⌝ }
+    fn steps(self) -> u32
+        ensures { λ r. ⌜ r ≡ steps self ⌝ }
     {
         match self {
-            Schedule64::Ks64(_, _) => Fox64::STEPS,
-            Schedule64::Ks64h(_, _) => Fox64::STEPS_LONG,
+            Schedule::Ks64(_, _) => Fox64::STEPS,
+            Schedule::Ks64h(_, _) => Fox64::STEPS_LONG,
+            Schedule::Ks128(_, _) => Fox128::STEPS,
         }
     }
 
-    pub fn round_key(self, reg: u32) -> u64
-        requires { ⌜ reg < 2 ^ 24 ⌝ }
-        ensures { λ r. ⌜ r ≡ made64 self reg ⌝ }
-    {
-        match self {
-            Schedule64::Ks64(m, flip) => nl64(dkey16(m, reg), flip),
-            Schedule64::Ks64h(m, flip) => nl64h(dkey32(m, reg), flip),
-        }
-    }
-}
-
-// KS128, and whether the key has ek bytes.
-pub struct Schedule128 {
-    pub key: Key32,
-    pub flip: bool,
-}
-
-impl Schedule128 {
-    pub fn of(key: &[u8]) -> Schedule128
-        requires { ⌜ length (now key) ≤ 32 ⌝ }
-        ensures { λ s. ⌜ Scheduled128 (now (key .entry)) s ⌝ }
-    {
-        let m = mkey32(key);
-        Schedule128 {
-            key: m,
-            flip: key.len() == Fox128::EK,
-        }
-    }
-
+    // FOX64's round keys are the right word.
     pub fn round_key(self, reg: u32) -> Key128
         requires { ⌜ reg < 2 ^ 24 ⌝ }
-        ensures { λ r. ⌜ r .left * 2 ^ 64 + r .right ≡ made128 self reg ⌝ }
+        ensures { λ k. ⌜ Made self reg k ⌝ }
     {
-        let m = self.key;
-        nl128(dkey32(m, reg), self.flip)
+        match self {
+            Schedule::Ks64(m, flip) => Key128 {
+                left: 0,
+                right: nl64(dkey16(m, reg), flip),
+            },
+            Schedule::Ks64h(m, flip) => Key128 {
+                left: 0,
+                right: nl64h(dkey32(m, reg), flip),
+            },
+            Schedule::Ks128(m, flip) => nl128(dkey32(m, reg), flip),
+        }
+    }
+
+    // Where the register stands for the first round: at its seed in sealing, and in opening where the last round key is made.
+    pub fn first(self, sealing: bool, rounds: u8) -> u32
+        requires { ⌜ 1 ≤ rounds ⌝ }
+        ensures { λ r. ⌜ Stands self sealing rounds 0 r ⌝ }
+    {
+        let start = seed(rounds);
+        if sealing {
+            return start;
+        }
+        forward(start, ((rounds - 1) as u32) * self.steps())
+    }
+
+    // From one round to the next: forward in sealing, and back in opening.
+    pub fn next(self, sealing: bool, reg: u32) -> u32
+        requires { ⌜ reg < 2 ^ 24 ⌝ }
+        ensures { λ r. ⌜ Moved self sealing reg r ⌝ }
+    {
+        let steps = self.steps();
+        if sealing {
+            return forward(reg, steps);
+        }
+        back(reg, steps)
     }
 }

@@ -2,7 +2,7 @@
 -- first; the rest are 0.
 -- Assumes nothing.
 use mathlib.Core.Path.{_≡_}
-use Prim.Native.Nat.{ℕ, _-_, _*_}
+use Prim.Native.Nat.{ℕ, _-_, _*_, _≤_}
 use mathlib.Core.List.{List, [], _∷_, _++_}
 use mathlib.Core.Bool.{cond}
 use lib.Dec.{eqb}
@@ -10,7 +10,7 @@ use lib.ListN.{length, replicate}
 use Rattle.fox_rounds.specs.Rounds.{left, right}
 use Rattle.fox_rounds.specs.Skeleton.{numbered}
 use Rattle.fox_lent.specs.Held.{held64, held128}
-use Rattle.fox_schedule.specs.Schedule.{roundKeys64, roundKeys128}
+use Rattle.fox_schedule.specs.Schedule.{roundKeys}
 use Rattle.fox_calls.specs.Refusals.{refusalOf, blockSize, forKey}
 use Rattle.fox_server.specs.declared.prepared.Prepared.{Prepared}
 use Rattle.fox_server.specs.declared.prepared.Preparation.{Preparation}
@@ -26,8 +26,8 @@ filled ws = ws ++ replicate (510 - length ws) 0
 
 unfoldable pub preparedWords : ℕ → ℕ → List ℕ → List ℕ
 preparedWords cipher rounds key =
-    let other = filled (inHalves (roundKeys128 rounds key)) in
-    cond (eqb cipher 64) (filled (roundKeys64 rounds key)) other
+    let other = filled (inHalves (roundKeys cipher rounds key)) in
+    cond (eqb cipher 64) (filled (roundKeys cipher rounds key)) other
 
 -- the prepared key of a key
 unfoldable pub preparedKey : ℕ → ℕ → List ℕ → Prepared
@@ -48,3 +48,10 @@ unfoldable pub heldKeys : Prepared → List ℕ
 heldKeys p =
     let other = numbered (held128 (p .keys)) (p .rounds) 0 in
     cond (eqb (p .cipher) 64) (numbered (held64 (p .keys)) (p .rounds) 0) other
+
+-- what the steps on one block of B bytes ask of rounds, block and output
+pub record Ready (B rounds : ℕ) (block out : List ℕ) : Type 0 where
+  pub some : 1 ≤ rounds
+  pub few : rounds ≤ 255
+  pub block : length block ≡ B
+  pub output : length out ≡ B

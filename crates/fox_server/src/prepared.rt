@@ -1,19 +1,16 @@
 // The prepared key: cipher, rounds, key length in bytes, and the round keys in an array of 510 words, FOX64 one a round and FOX128 two, the left
 // first; the rest are 0. A refused one is all zeros.
+ghost use mathlib.Core.Bool.{true};
 ghost use mathlib.Core.Path.{_≡_};
 ghost use Prim.Native.Nat.{_+_, _*_, _≤_};
 ghost use lib.ListN.{length};
 ghost use Rattle.fox_rounds.specs.Skeleton.{numbered};
-ghost use Rattle.fox_schedule.specs.Step.{keyAt64, keyAt128};
+ghost use Rattle.fox_schedule.specs.Step.{narrow, keyAt};
 ghost use Rattle.fox_server.specs.Prepared.{inHalves, filled, preparedWords, noKey, Prepares};
 use fox_calls::answer::Answer;
 use fox_calls::refusals::block_size;
 use fox_calls::refusals::for_key;
-use fox_keying::register::forward;
-use fox_keying::register::seed;
-use fox_rounds::fox128::Fox128;
-use fox_schedule::step::Schedule64;
-use fox_schedule::step::Schedule128;
+use fox_schedule::step::Schedule;
 
 pub struct Prepared {
     pub cipher: u32,
@@ -28,43 +25,46 @@ pub struct Preparation {
     pub key: Prepared,
 }
 
-fn fill64(s: Schedule64, rounds: u8) -> [u64; 510]
-    ensures { λ r. ⌜ r ≡ filled (numbered (keyAt64 s rounds) rounds 0) ⌝ }
+fn fill64(s: Schedule, rounds: u8) -> [u64; 510]
+    requires { ⌜ (narrow s ≡ true) × (1 ≤ rounds) ⌝ }
+    ensures { λ r. ⌜ r ≡ filled (numbered (keyAt s rounds) rounds 0) ⌝ }
 {
-    let steps = s.steps();
     let mut keys = [0u64; 510];
-    let mut reg = seed(rounds);
+    let mut reg = s.first(true, rounds);
     for i in 0..rounds {
-        keys[i as usize] = s.round_key(reg);
-        reg = forward(reg, steps);
+        let k = s.round_key(reg);
+        keys[i as usize] = k.right;
+        reg = s.next(true, reg);
     }
     keys
 }
 
-fn fill128(s: Schedule128, rounds: u8) -> [u64; 510]
-    ensures { λ r. ⌜ r ≡ filled (inHalves (numbered (keyAt128 s rounds) rounds 0)) ⌝ }
+fn fill128(s: Schedule, rounds: u8) -> [u64; 510]
+    requires { ⌜ 1 ≤ rounds ⌝ }
+    ensures { λ r. ⌜ r ≡ filled (inHalves (numbered (keyAt s rounds) rounds 0)) ⌝ }
 {
     let mut keys = [0u64; 510];
-    let mut reg = seed(rounds);
+    let mut reg = s.first(true, rounds);
     for i in 0..rounds {
         let k = s.round_key(reg);
         let at = 2 * (i as usize);
         keys[at] = k.left;
         keys[at + 1] = k.right;
-        reg = forward(reg, Fox128::STEPS);
+        reg = s.next(true, reg);
     }
     keys
 }
 
 // The words of the prepared key of a key of at most 32 bytes.
 fn words(cipher: u32, rounds: u8, key: &[u8]) -> [u64; 510]
-    requires { ⌜ length (now key) ≤ 32 ⌝ }
+    requires { ⌜ (1 ≤ rounds) × (length (now key) ≤ 32) ⌝ }
     ensures { λ r. ⌜ r ≡ preparedWords cipher rounds (now (key .entry)) ⌝ }
 {
+    let s = Schedule::of(cipher, key);
     if cipher == 64 {
-        fill64(Schedule64::of(key), rounds)
+        fill64(s, rounds)
     } else {
-        fill128(Schedule128::of(key), rounds)
+        fill128(s, rounds)
     }
 }
 

@@ -10,13 +10,11 @@ use Rattle.fox_calls.specs.declared.answer.Answer.{Answer}
 use Rattle.fox_server.specs.Prepared.{Prepares, heldKeys}
 use Rattle.fox_server.specs.declared.prepared.Preparation.{Preparation}
 use Rattle.fox_server.proofs.Laws.Prepares.{from-prepared}
-use Rattle.fox_run.specs.Run.{run}
 use Rattle.fox_run.specs.Calls.{Runs, RunsWith}
 
 pub run-prepared : (c rounds : ℕ) (key counter : List ℕ) (offset : ℕ) (ds : List ℕ) (made : Preparation) {before after : List ℕ} {r : Answer}
     → refusalOf (forKey c rounds (length key)) ≡ 0 → Prepares c rounds key made
     → RunsWith (made .key .cipher) (made .key .rounds) (made .key .«key_len») (heldKeys (made .key)) counter offset ds before after r
     → Runs c rounds key counter offset ds before after r
-unfolding run
 run-prepared c rounds key counter offset ds made {before} {after} {r} served is call =
     from-prepared (λ (cipher n keyLen : ℕ) (rks : List ℕ). RunsWith cipher n keyLen rks counter offset ds before after r) c rounds key made served is call

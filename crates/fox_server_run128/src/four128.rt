@@ -5,10 +5,11 @@ ghost use Prim.Native.Nat.{_+_, _%_, _≤_};
 ghost use lib.ListN.{length, drop};
 ghost use Rattle.fox_layers.specs.Words.{sum};
 ghost use Rattle.fox_rounds.specs.Skeleton.{numbered};
+ghost use Rattle.fox_rounds.specs.declared.state.State.the-variants.{Of128};
 ghost use Rattle.fox_lent.specs.Held.{held128};
 ghost use Rattle.fox_lent.specs.Lent.{Lent8};
 ghost use Rattle.fox_cipher.specs.Block.{bytes128};
-ghost use Rattle.fox_run.specs.States.{counted128, stream128};
+ghost use Rattle.fox_run.specs.States.{counted128, stream};
 ghost use Rattle.fox_run.specs.Steps.{Laid};
 use fox_four::four128::Four128;
 use fox_four::four128::seal_four128;
@@ -68,7 +69,7 @@ pub(crate) fn four128<'a>(
 )
     requires { ⌜ Lent8 (now s) (now a) (now b) (now c) (now d) (now e) (now f) (now g) (now h) ⌝ }
     requires { ⌜ (1 ≤ rounds) × (rounds ≤ 255) × (n % 16 ≡ 0) × (n + 64 ≤ 1073741824) × (64 ≤ length (now input)) × (64 ≤ length (now out)) ⌝ }
-    ensures { λ _. ⌜ Laid (stream128 (numbered (held128 (now (keys .entry))) rounds 0) x) n (now (input .entry)) (now (out .entry)) 64 (now (out .exit)) ⌝ }
+    ensures { λ _. ⌜ Laid (stream (numbered (held128 (now (keys .entry))) rounds 0) (Of128 x)) n (now (input .entry)) (now (out .entry)) 64 (now (out .exit)) ⌝ }
 {
     let blocks = counted_four128(x, (n / 16) as u32);
     let sealed = seal_four128(s, a, b, c, d, e, f, g, h, keys, rounds, blocks);

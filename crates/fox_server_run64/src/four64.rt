@@ -5,10 +5,11 @@ ghost use Prim.Native.Nat.{_+_, _%_, _≤_};
 ghost use lib.ListN.{length, drop};
 ghost use Rattle.fox_layers.specs.Words.{sum};
 ghost use Rattle.fox_rounds.specs.Skeleton.{numbered};
+ghost use Rattle.fox_rounds.specs.declared.state.State.the-variants.{Of64};
 ghost use Rattle.fox_lent.specs.Held.{held64};
 ghost use Rattle.fox_lent.specs.Lent.{Lent4};
 ghost use Rattle.fox_cipher.specs.Block.{bytes64};
-ghost use Rattle.fox_run.specs.States.{counted64, stream64};
+ghost use Rattle.fox_run.specs.States.{counted64, stream};
 ghost use Rattle.fox_run.specs.Steps.{Laid};
 use fox_four::four64::Four64;
 use fox_four::four64::seal_four64;
@@ -64,7 +65,7 @@ pub(crate) fn four64<'a>(
 )
     requires { ⌜ Lent4 (now s) (now a) (now b) (now c) (now d) ⌝ }
     requires { ⌜ (1 ≤ rounds) × (rounds ≤ 255) × (n % 8 ≡ 0) × (n + 32 ≤ 1073741824) × (32 ≤ length (now input)) × (32 ≤ length (now out)) ⌝ }
-    ensures { λ _. ⌜ Laid (stream64 (numbered (held64 (now (keys .entry))) rounds 0) x) n (now (input .entry)) (now (out .entry)) 32 (now (out .exit)) ⌝ }
+    ensures { λ _. ⌜ Laid (stream (numbered (held64 (now (keys .entry))) rounds 0) (Of64 x)) n (now (input .entry)) (now (out .entry)) 32 (now (out .exit)) ⌝ }
 {
     let blocks = counted_four64(x, (n / 8) as u32);
     let sealed = seal_four64(s, a, b, c, d, keys, rounds, blocks);

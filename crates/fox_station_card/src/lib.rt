@@ -1,8 +1,8 @@
 // The station's calls by the card's way, on numbers and byte slices. Each hands back the refusal number, 0 for success, from which the count follows: the
 // output length, or 0.
-ghost use Rattle.fox_station.specs.Exports.{OpenHanded, RunHanded, SealHanded};
-use fox_card::block::open;
-use fox_card::block::seal;
+ghost use mathlib.Core.Bool.{true, false};
+ghost use Rattle.fox_station.specs.Exports.{RunHanded, TurnHanded};
+use fox_card::block::turn;
 use fox_card_run::run::run;
 
 #[no_mangle]
@@ -13,9 +13,9 @@ pub extern "C" fn fox_card_seal_block(
     block: &[u8],
     out: &mut [u8],
 ) -> u32
-    ensures { λ r. ⌜ SealHanded cipher rounds (now (key .entry)) (now (block .entry)) (now (out .entry)) (now (out .exit)) r ⌝ }
+    ensures { λ r. ⌜ TurnHanded true cipher rounds (now (key .entry)) (now (block .entry)) (now (out .entry)) (now (out .exit)) r ⌝ }
 {
-    let answer = seal(cipher, rounds, key, block, out);
+    let answer = turn(true, cipher, rounds, key, block, out);
     answer.refusal
 }
 
@@ -27,9 +27,9 @@ pub extern "C" fn fox_card_open_block(
     block: &[u8],
     out: &mut [u8],
 ) -> u32
-    ensures { λ r. ⌜ OpenHanded cipher rounds (now (key .entry)) (now (block .entry)) (now (out .entry)) (now (out .exit)) r ⌝ }
+    ensures { λ r. ⌜ TurnHanded false cipher rounds (now (key .entry)) (now (block .entry)) (now (out .entry)) (now (out .exit)) r ⌝ }
 {
-    let answer = open(cipher, rounds, key, block, out);
+    let answer = turn(false, cipher, rounds, key, block, out);
     answer.refusal
 }
 

@@ -1,8 +1,8 @@
 // The station's calls by the server's way, on numbers and byte slices. Each hands back the refusal number, 0 for success, from which the count follows: the
 // output length, or 0. The key is prepared within the call.
-ghost use Rattle.fox_station.specs.Exports.{OpenHanded, RunHanded, SealHanded};
-use fox_server::block::open_from_key;
-use fox_server::block::seal_from_key;
+ghost use mathlib.Core.Bool.{true, false};
+ghost use Rattle.fox_station.specs.Exports.{RunHanded, TurnHanded};
+use fox_server::block::turn_from_key;
 use fox_server_run::run::run_from_key;
 
 #[no_mangle]
@@ -13,9 +13,9 @@ pub extern "C" fn fox_server_seal_block(
     block: &[u8],
     out: &mut [u8],
 ) -> u32
-    ensures { λ r. ⌜ SealHanded cipher rounds (now (key .entry)) (now (block .entry)) (now (out .entry)) (now (out .exit)) r ⌝ }
+    ensures { λ r. ⌜ TurnHanded true cipher rounds (now (key .entry)) (now (block .entry)) (now (out .entry)) (now (out .exit)) r ⌝ }
 {
-    let answer = seal_from_key(cipher, rounds, key, block, out);
+    let answer = turn_from_key(true, cipher, rounds, key, block, out);
     answer.refusal
 }
 
@@ -27,9 +27,9 @@ pub extern "C" fn fox_server_open_block(
     block: &[u8],
     out: &mut [u8],
 ) -> u32
-    ensures { λ r. ⌜ OpenHanded cipher rounds (now (key .entry)) (now (block .entry)) (now (out .entry)) (now (out .exit)) r ⌝ }
+    ensures { λ r. ⌜ TurnHanded false cipher rounds (now (key .entry)) (now (block .entry)) (now (out .entry)) (now (out .exit)) r ⌝ }
 {
-    let answer = open_from_key(cipher, rounds, key, block, out);
+    let answer = turn_from_key(false, cipher, rounds, key, block, out);
     answer.refusal
 }
 

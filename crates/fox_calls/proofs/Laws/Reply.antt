@@ -1,6 +1,6 @@
--- A reply from its parts: the two ways that a call ends. Which one it is, is decided by whether the number of the refusals is 0.
+-- A reply from its parts, and what it says: the two ways that a call ends. Which one it is, is decided by whether the number of the refusals is 0.
 -- Assumes nothing.
-use mathlib.Core.Path.{_≡_, sym, _∙_}
+use mathlib.Core.Path.{_≡_, sym, ap, _∙_}
 use mathlib.Core.Bool.{cond}
 use mathlib.Core.List.{List}
 use Prim.Native.Nat.{ℕ}
@@ -8,7 +8,8 @@ use lib.Dec.{eqb}
 use lib.ListN.{length}
 use borrow.Author.Tests.{eq-eqb, ne-eqb}
 use Rattle.fox_calls.specs.Refusals.{Refusal, refusalOf}
-use Rattle.fox_calls.specs.Reply.{Reply}
+use Rattle.fox_calls.specs.Reply.{Reply, Served, Refused, Same}
+use Rattle.fox_calls.specs.Handed.{Handed, answer}
 use Rattle.fox_calls.specs.declared.answer.Answer.{Answer}
 
 -- which of two a number of refusals picks
@@ -33,3 +34,36 @@ refused-reply rs value before after r refusal refused count output =
       count = count ∙ passed-over (refusalOf rs) (length before) 0 refused;
       output = output ∙ passed-over (refusalOf rs) value before refused;
     }
+
+-- what a reply says
+
+module _ {rs : List Refusal} {value before after : List ℕ} {r : Answer} (call : Reply rs value before after r) where
+  pub served : refusalOf rs ≡ 0 → Served (length before) value after r
+  served z =
+      record {
+        refusal = call .refusal ∙ z;
+        count = call .count ∙ sym (chosen (refusalOf rs) (length before) 0 z);
+        output = call .output ∙ sym (chosen (refusalOf rs) value before z);
+      }
+
+  -- a refused call has count 0 and leaves the output as it was, whatever kind of call it is
+  pub refused : (r .refusal ≡ 0 → ⊥) → Refused rs before after r
+  refused n =
+      let h : refusalOf rs ≡ 0 → ⊥ = λ z. n (call .refusal ∙ z) in
+      record {
+        refusal = call .refusal;
+        count = call .count ∙ sym (passed-over (refusalOf rs) (length before) 0 h);
+        output = call .output ∙ sym (passed-over (refusalOf rs) value before h);
+      }
+
+-- two calls with the same refusals and the same value, whatever ways they are
+pub same : {rs : List Refusal} {value before after₁ after₂ : List ℕ} {r₁ r₂ : Answer}
+    → Reply rs value before after₁ r₁ → Reply rs value before after₂ r₂ → Same after₁ after₂ r₁ r₂
+same a b = record { refusal = a .refusal ∙ sym (b .refusal); count = a .count ∙ sym (b .count); output = a .output ∙ sym (b .output) }
+
+-- what a call over the C interface hands back is a reply, with the count that follows from the number
+pub handed-reply : {rs : List Refusal} {value before after : List ℕ} {r : ℕ}
+    → Handed rs value before after r → Reply rs value before after (answer r (length before))
+unfolding answer
+handed-reply {before = before} h =
+    record { refusal = h .refusal; count = ap (λ (n : ℕ). cond (eqb n 0) (length before) 0) (h .refusal); output = h .output }

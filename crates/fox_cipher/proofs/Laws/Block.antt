@@ -2,16 +2,21 @@
 -- Assumes nothing.
 use mathlib.Core.Path.{_≡_, refl, sym, ap, _∙_}
 use mathlib.Core.List.{List}
-use mathlib.Core.Bool.{Bool, true, false}
-use Prim.Native.Nat.{ℕ, _%_, _≤_}
+use mathlib.Core.Bool.{Bool, true, false, cond}
+use Prim.Native.Nat.{ℕ, _%_}
 use native.Mathlib.Omega.{arith}
 use lib.Dec.{eqb}
+use lib.ListN.{length}
 use borrow.Author.Tests.{eq-eqb, ne-eqb, eqb-true, eqb-false}
-use Rattle.fox_rounds.specs.Skeleton.{seal64, open64, seal128, open128}
-use Rattle.fox_rounds.proofs.Laws.Skeleton.{numbered-same}
-use Rattle.fox_schedule.specs.Schedule.{roundKey64, roundKey128, roundKeys64, roundKeys128}
-use Rattle.fox_calls.specs.Refusals.{blockSize, Blocked}
-use Rattle.fox_cipher.specs.Block.{state64, state128, bytes64, bytes128, sealWith, openWith, roundKey, roundKeys, sealBlock, openBlock}
+use Rattle.fox_layers.specs.Words.{split}
+use Rattle.fox_rounds.specs.Skeleton.{size, round, between, inOrder, turned}
+use Rattle.fox_rounds.specs.declared.fox64.Fox64.{Fox64}
+use Rattle.fox_rounds.specs.declared.fox128.Fox128.{Fox128}
+use Rattle.fox_rounds.specs.declared.state.State.{State}
+use Rattle.fox_rounds.specs.declared.state.State.the-variants.{Of64, Of128}
+use Rattle.fox_rounds.proofs.Laws.Skeleton.{through-keeps}
+use Rattle.fox_calls.specs.Refusals.{blockSize, Keyed}
+use Rattle.fox_cipher.specs.Block.{state64, state128, bytes64, bytes128, state, bytes, turnWith}
 
 -- a number is 64 or not
 case : (c : ℕ) {A : Type 0} (t : Bool) → eqb c 64 ≡ t → (c ≡ 64 → A) → ((c ≡ 64 → ⊥) → A) → A
@@ -29,79 +34,59 @@ pub size-128 : (c : ℕ) → (c ≡ 64 → ⊥) → blockSize c ≡ 16
 unfolding blockSize
 size-128 c n = simp (ne-eqb c 64 n)
 
--- what the steps on a block ask, of rounds that are handed on in a byte
-pub asked-64 : {c r k b o : ℕ} → Blocked c r k b o → c ≡ 64 → (1 ≤ r % 256) × (k ≤ 32) × (b ≡ 8) × (o ≡ 8)
-asked-64 {c} s e =
-    let whole : _≡_ {A = ℕ} _ 8 = s .block ∙ size-64 c e in
-    (omega arith, s .key, whole, s .output ∙ whole)
-
-pub asked-128 : {c r k b o : ℕ} → Blocked c r k b o → (c ≡ 64 → ⊥) → (1 ≤ r % 256) × (k ≤ 32) × (b ≡ 16) × (o ≡ 16)
-asked-128 {c} s n =
-    let whole : _≡_ {A = ℕ} _ 16 = s .block ∙ size-128 c n in
-    (omega arith, s .key, whole, s .output ∙ whole)
-
-pub rounds-whole : {c r k b o : ℕ} → Blocked c r k b o → r % 256 ≡ r
+-- rounds that are handed on in a byte
+pub rounds-whole : {c r k : ℕ} → Keyed c r k → r % 256 ≡ r
 rounds-whole s = omega arith
 
-pub sealWith-64 : (c : ℕ) (ks bs : List ℕ) → c ≡ 64 → sealWith c ks bs ≡ bytes64 (seal64 ks (state64 bs))
-unfolding sealWith
-sealWith-64 c ks bs e = simp (eq-eqb c 64 e)
+pub state-64 : (c : ℕ) (bs : List ℕ) → c ≡ 64 → state c bs ≡ Of64 (state64 bs)
+unfolding state
+state-64 c bs e = simp (eq-eqb c 64 e)
 
-pub sealWith-128 : (c : ℕ) (ks bs : List ℕ) → (c ≡ 64 → ⊥) → sealWith c ks bs ≡ bytes128 (seal128 ks (state128 bs))
-unfolding sealWith
-sealWith-128 c ks bs n = simp (ne-eqb c 64 n)
+pub state-128 : (c : ℕ) (bs : List ℕ) → (c ≡ 64 → ⊥) → state c bs ≡ Of128 (state128 bs)
+unfolding state
+state-128 c bs n = simp (ne-eqb c 64 n)
 
-pub openWith-64 : (c : ℕ) (ks bs : List ℕ) → c ≡ 64 → openWith c ks bs ≡ bytes64 (open64 ks (state64 bs))
-unfolding openWith
-openWith-64 c ks bs e = simp (eq-eqb c 64 e)
+-- a state has the cipher's size, and keeps it
 
-pub openWith-128 : (c : ℕ) (ks bs : List ℕ) → (c ≡ 64 → ⊥) → openWith c ks bs ≡ bytes128 (open128 ks (state128 bs))
-unfolding openWith
-openWith-128 c ks bs n = simp (ne-eqb c 64 n)
+pub state-size : (c : ℕ) (bs : List ℕ) → size (state c bs) ≡ blockSize c
+unfolding size state blockSize
+state-size c bs = both (eqb c 64)
+  where
+    both : (t : Bool) → size (cond t (Of64 (state64 bs)) (Of128 (state128 bs))) ≡ cond t 8 16
+    both true = refl
+    both false = refl
 
-pub roundKey-64 : (c r : ℕ) (key : List ℕ) (i : ℕ) → c ≡ 64 → roundKey c r key i ≡ roundKey64 r key i
-unfolding roundKey
-roundKey-64 c r key i e = simp (eq-eqb c 64 e)
+round-size : (k : ℕ) (x : State) → size (round k x) ≡ size x
+unfolding size round
+round-size k (Of64 x) = refl
+round-size k (Of128 x) = refl
 
-pub roundKey-128 : (c r : ℕ) (key : List ℕ) (i : ℕ) → (c ≡ 64 → ⊥) → roundKey c r key i ≡ roundKey128 r key i
-unfolding roundKey
-roundKey-128 c r key i n = simp (ne-eqb c 64 n)
+between-size : (d : Bool) (x : State) → size (between d x) ≡ size x
+unfolding size between
+between-size true (Of64 x) = refl
+between-size true (Of128 x) = refl
+between-size false (Of64 x) = refl
+between-size false (Of128 x) = refl
 
-pub roundKeys-64 : (c r : ℕ) (key : List ℕ) → c ≡ 64 → roundKeys c r key ≡ roundKeys64 r key
-unfolding roundKeys roundKeys64
-roundKeys-64 c r key e = numbered-same (roundKey c r key) (roundKey64 r key) r 1 (λ i h. roundKey-64 c r key i e)
+pub turned-size : (d : Bool) (ks : List ℕ) (x : State) → size (turned d ks x) ≡ size x
+unfolding turned
+turned-size d ks x = through-keeps size round (between d) round-size (between-size d) (inOrder d ks) x
 
-pub roundKeys-128 : (c r : ℕ) (key : List ℕ) → (c ≡ 64 → ⊥) → roundKeys c r key ≡ roundKeys128 r key
-unfolding roundKeys roundKeys128
-roundKeys-128 c r key n = numbered-same (roundKey c r key) (roundKey128 r key) r 1 (λ i h. roundKey-128 c r key i n)
+pub length-bytes : (x : State) → length (bytes x) ≡ size x
+unfolding size bytes bytes64 bytes128 split
+length-bytes (Of64 x) = refl
+length-bytes (Of128 x) = refl
 
--- a call's own words for a block by the round keys of a key, n of them, are the definition's: whole is the definition over any list of round keys, and
--- one what it is for the cipher at hand
-by-keys : (one whole : List ℕ → List ℕ) {n r : ℕ} (made : ℕ → List ℕ) (keys : List ℕ) → n ≡ r → keys ≡ made r → ((ks : List ℕ) → whole ks ≡ one ks)
-    → one (made n) ≡ whole keys
-by-keys one whole made keys e is same = ap (λ (m : ℕ). one (made m)) e ∙ ap one (sym is) ∙ sym (same keys)
+pub length-turned : (d : Bool) (c : ℕ) (ks bs : List ℕ) → length (turnWith d c ks bs) ≡ blockSize c
+unfolding turnWith
+length-turned d c ks bs = length-bytes (turned d ks (state c bs)) ∙ turned-size d ks (state c bs) ∙ state-size c bs
 
-module _ {c r n : ℕ} (key bs : List ℕ) where
-  pub sealBlock-64 : c ≡ 64 → n ≡ r → bytes64 (seal64 (roundKeys64 n key) (state64 bs)) ≡ sealBlock c r key bs
-  unfolding sealBlock
-  sealBlock-64 is e =
-      by-keys (λ (ks : List ℕ). bytes64 (seal64 ks (state64 bs))) (λ (ks : List ℕ). sealWith c ks bs) (λ (m : ℕ). roundKeys64 m key) (roundKeys c r key) e
-      (roundKeys-64 c r key is) (λ ks. sealWith-64 c ks bs is)
+-- a state turned by either cipher's own code is the definition's block
+module _ (d : Bool) (c : ℕ) (ks bs : List ℕ) where
+  pub turned-64 : {y : Fox64} → c ≡ 64 → Of64 y ≡ turned d ks (Of64 (state64 bs)) → bytes64 y ≡ turnWith d c ks bs
+  unfolding turnWith bytes
+  turned-64 is e = ap bytes e ∙ ap (λ (x : State). bytes (turned d ks x)) (sym (state-64 c bs is))
 
-  pub sealBlock-128 : (c ≡ 64 → ⊥) → n ≡ r → bytes128 (seal128 (roundKeys128 n key) (state128 bs)) ≡ sealBlock c r key bs
-  unfolding sealBlock
-  sealBlock-128 isnt e =
-      by-keys (λ (ks : List ℕ). bytes128 (seal128 ks (state128 bs))) (λ (ks : List ℕ). sealWith c ks bs) (λ (m : ℕ). roundKeys128 m key) (roundKeys c r key) e
-      (roundKeys-128 c r key isnt) (λ ks. sealWith-128 c ks bs isnt)
-
-  pub openBlock-64 : c ≡ 64 → n ≡ r → bytes64 (open64 (roundKeys64 n key) (state64 bs)) ≡ openBlock c r key bs
-  unfolding openBlock
-  openBlock-64 is e =
-      by-keys (λ (ks : List ℕ). bytes64 (open64 ks (state64 bs))) (λ (ks : List ℕ). openWith c ks bs) (λ (m : ℕ). roundKeys64 m key) (roundKeys c r key) e
-      (roundKeys-64 c r key is) (λ ks. openWith-64 c ks bs is)
-
-  pub openBlock-128 : (c ≡ 64 → ⊥) → n ≡ r → bytes128 (open128 (roundKeys128 n key) (state128 bs)) ≡ openBlock c r key bs
-  unfolding openBlock
-  openBlock-128 isnt e =
-      by-keys (λ (ks : List ℕ). bytes128 (open128 ks (state128 bs))) (λ (ks : List ℕ). openWith c ks bs) (λ (m : ℕ). roundKeys128 m key) (roundKeys c r key) e
-      (roundKeys-128 c r key isnt) (λ ks. openWith-128 c ks bs isnt)
+  pub turned-128 : {y : Fox128} → (c ≡ 64 → ⊥) → Of128 y ≡ turned d ks (Of128 (state128 bs)) → bytes128 y ≡ turnWith d c ks bs
+  unfolding turnWith bytes
+  turned-128 isnt e = ap bytes e ∙ ap (λ (x : State). bytes (turned d ks x)) (sym (state-128 c bs isnt))

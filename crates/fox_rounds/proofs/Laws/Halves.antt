@@ -1,9 +1,9 @@
 -- A number of two times n bits is its left half and its right half.
 -- Assumes nothing.
-use mathlib.Core.Path.{_≡_, ap, _∙_}
+use mathlib.Core.Path.{_≡_, sym, ap, _∙_}
 use Prim.Native.Nat.{ℕ, _+_, _*_, _/_, _%_, _^_, _<_}
-use native.Mathlib.Nat.{mod-lt, mod-eq-of-lt}
-use lib.Pow.{pow-pos, high, low, recompose, shr-mod}
+use native.Mathlib.Nat.{mod-lt, mod-eq-of-lt, mul-assoc, mul-add-mod-self-right, mul-add-div-right}
+use lib.Pow.{pow-add, pow-pos, high, low, recompose, shr-mod}
 use Rattle.fox_rounds.specs.Rounds.{left, right}
 
 pub left-lt : (n w : ℕ) → left n w < 2 ^ n
@@ -30,3 +30,18 @@ right-pair n a b hb = low a n hb
 pub pair : (n w : ℕ) → w < 2 ^ (n + n) → left n w * 2 ^ n + right n w ≡ w
 unfolding left right
 pair n w h = recompose n n h
+
+-- what stands above the two halves does not count
+above : (n a b : ℕ) → a * 2 ^ (n + n) + b ≡ a * 2 ^ n * 2 ^ n + b
+above n a b = ap (λ (m : ℕ). m + b) (ap (λ (m : ℕ). a * m) (pow-add 2 n n) ∙ sym (mul-assoc a (2 ^ n) (2 ^ n)))
+
+pub right-low : (n a b : ℕ) → right n (a * 2 ^ (n + n) + b) ≡ right n b
+unfolding right
+right-low n a b = ap (λ (w : ℕ). w % 2 ^ n) (above n a b) ∙ mul-add-mod-self-right (a * 2 ^ n) (2 ^ n) b
+
+pub left-low : (n a b : ℕ) → left n (a * 2 ^ (n + n) + b) ≡ left n b
+unfolding left
+left-low n a b =
+    ap (λ (w : ℕ). w / 2 ^ n % 2 ^ n) (above n a b)
+    ∙ ap (λ (w : ℕ). w % 2 ^ n) (mul-add-div-right (pow-pos n) (a * 2 ^ n) b)
+    ∙ mul-add-mod-self-right a (2 ^ n) (b / 2 ^ n)

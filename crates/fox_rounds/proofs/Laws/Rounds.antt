@@ -15,7 +15,7 @@ use Rattle.fox_layers.proofs.Laws.Tables.{map-sbox-bytes}
 use Rattle.fox_rounds.specs.Rounds.{left, right, or, io, f, f32, f64, lmid64, or64, io64, plus128, elmid128, or128, io128}
 use Rattle.fox_rounds.specs.declared.fox64.Fox64.{Fox64}
 use Rattle.fox_rounds.specs.declared.fox128.Fox128.{Fox128}
-use Rattle.fox_rounds.proofs.Laws.Halves.{left-lt, right-lt, left-pair, right-pair, pair}
+use Rattle.fox_rounds.proofs.Laws.Halves.{left-lt, right-lt, left-pair, right-pair, pair, left-low, right-low}
 
 -- two halves of 16 bits make a word of 32
 halves-lt : (a b : ℕ) → a < 2 ^ 16 → b < 2 ^ 16 → a * 2 ^ 16 + b < 2 ^ 32
@@ -165,3 +165,9 @@ pub or128-io128 : (x : Fox128) → Words128 x → or128 (io128 x) ≡ x
 unfolding or128 io128
 or128-io128 x w =
     λ i. record { ll = or-io (x .ll) (w .first) i; lr = x .lr; rl = or-io (x .rl) (w .third) i; rr = x .rr }
+
+-- a round of FOX64 looks at the lowest 64 bits of its round key alone
+pub lmid64-low : (a b : ℕ) (x : Fox64) → lmid64 (a * 2 ^ 64 + b) x ≡ lmid64 b x
+unfolding lmid64 f32 f
+lmid64-low a b x =
+    ap₂ (λ (k l : ℕ). let t = sigma 4 (mu4 (sigma 4 ((x .l ⊕ x .r) ⊕ k)) ⊕ l) ⊕ k in record { l = x .l ⊕ t; r = x .r ⊕ t }) (left-low 32 a b) (right-low 32 a b)

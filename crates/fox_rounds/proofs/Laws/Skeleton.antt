@@ -1,12 +1,18 @@
 -- Rounds over a numbered list of round keys, one turn at a time, as a loop does them; and the list read backwards.
 -- Assumes nothing.
 use mathlib.Core.Path.{_≡_, refl, sym, ap, ap₂, _∙_}
+use mathlib.Core.Bool.{Bool, true, false}
 use mathlib.Core.List.{List, [], _∷_, _++_, reverse, reverse-cons}
 use Prim.Native.Nat.{ℕ, zero, suc, _+_, _-_, _<_, _≤_}
 use native.Mathlib.Nat.{add-zero, add-suc, suc-add, not-suc-le-zero, le-of-suc-le-suc}
 use native.Mathlib.Omega.{arith}
 use lib.ListN.{length, getD}
-use Rattle.fox_rounds.specs.Skeleton.{numbered, through}
+use Rattle.fox_rounds.specs.Rounds.{lmid64, or64, elmid128, or128}
+use Rattle.fox_rounds.specs.Skeleton.{numbered, through, round, between, inOrder, place, turned, seal64, seal128}
+use Rattle.fox_rounds.specs.declared.fox64.Fox64.{Fox64}
+use Rattle.fox_rounds.specs.declared.fox128.Fox128.{Fox128}
+use Rattle.fox_rounds.specs.declared.state.State.{State}
+use Rattle.fox_rounds.specs.declared.state.State.the-variants.{Of64, Of128}
 
 module _ {S : Type 0} (round : ℕ → S → S) (between : S → S) (k : ℕ → ℕ) where
   -- one more round to come after this one
@@ -109,3 +115,54 @@ module _ {A : Type 0} where
       ap (λ (n : ℕ). reverse (numbered k n 0)) whole
       ∙ reverse-numbered k (m - 1)
       ∙ ap (λ (n : ℕ). numbered (λ (j : ℕ). k (m - 1 - j)) n 0) (sym whole)
+
+-- in the order of a direction
+pub inOrder-numbered : (d : Bool) (k : ℕ → ℕ) (m : ℕ) → 1 ≤ m → inOrder d (numbered k m 0) ≡ numbered (λ (i : ℕ). k (place d m i)) m 0
+unfolding inOrder place
+inOrder-numbered true k m some = refl
+inOrder-numbered false k m some = reversed k m some
+
+-- a state turned by m rounds, one after the other, as a loop does them: i of them are done, and they have made y of x
+module _ (d : Bool) (k : ℕ → ℕ) (m : ℕ) where
+  abbrev pub Turning : State → ℕ → State → Type 0
+  Turning x i y = Going round (between d) (λ (j : ℕ). k (place d m j)) (m - 1) x i y
+
+  pub turning-first : (x : State) → Turning x 0 x
+  turning-first x = going-first round (between d) (λ (j : ℕ). k (place d m j)) (m - 1) x
+
+  pub turning-on : (i : ℕ) (x y z : State) → i < m - 1 → Turning x i y → z ≡ between d (round (k (place d m i)) y) → Turning x (i + 1) z
+  turning-on i x y z h t e = going-on round (between d) (λ (j : ℕ). k (place d m j)) (m - 1) i x y z h t e
+
+  pub turning-last : (i : ℕ) (x y z : State) → 1 ≤ m → i ≤ m - 1 → m - 1 ≤ i → Turning x i y → z ≡ round (k (place d m (m - 1))) y
+      → z ≡ turned d (numbered k m 0) x
+  unfolding turned
+  turning-last i x y z some low high t e =
+      going-last round (between d) (λ (j : ℕ). k (place d m j)) m i x y z some low high t e
+      ∙ ap (λ (ks : List ℕ). through round (between d) ks x) (sym (inOrder-numbered d k m some))
+
+-- FOX64 and FOX128 sealed are cases of it
+pub sealed-64 : (ks : List ℕ) (x : Fox64) → turned true ks (Of64 x) ≡ Of64 (seal64 ks x)
+unfolding through round between turned inOrder seal64
+sealed-64 ks x = on ks x
+  where
+    on : (ls : List ℕ) (y : Fox64) → through round (between true) ls (Of64 y) ≡ Of64 (through lmid64 or64 ls y)
+    on [] y = refl
+    on (k ∷ []) y = refl
+    on (k ∷ l ∷ ls) y = on (l ∷ ls) (or64 (lmid64 k y))
+
+pub sealed-128 : (ks : List ℕ) (x : Fox128) → turned true ks (Of128 x) ≡ Of128 (seal128 ks x)
+unfolding through round between turned inOrder seal128
+sealed-128 ks x = on ks x
+  where
+    on : (ls : List ℕ) (y : Fox128) → through round (between true) ls (Of128 y) ≡ Of128 (through elmid128 or128 ls y)
+    on [] y = refl
+    on (k ∷ []) y = refl
+    on (k ∷ l ∷ ls) y = on (l ∷ ls) (or128 (elmid128 k y))
+
+-- what no round and no step between rounds changes, all of them leave
+pub through-keeps : {S A : Type 0} (f : S → A) (step : ℕ → S → S) (after : S → S) → ((k : ℕ) (x : S) → f (step k x) ≡ f x) → ((x : S) → f (after x) ≡ f x)
+    → (ks : List ℕ) (x : S) → f (through step after ks x) ≡ f x
+unfolding through
+through-keeps f step after s a [] x = refl
+through-keeps f step after s a (k ∷ []) x = s k x
+through-keeps f step after s a (k ∷ l ∷ ks) x = through-keeps f step after s a (l ∷ ks) (after (step k x)) ∙ a (step k x) ∙ s k x

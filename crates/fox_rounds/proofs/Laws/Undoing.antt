@@ -1,13 +1,15 @@
 -- Opening undoes sealing, once for all: for any round that undoes itself, any two steps between rounds of which one undoes the other, and any list of round
 -- keys. FOX64 and FOX128, and both directions, are cases of it.
 -- Assumes nothing.
-use mathlib.Core.Path.{_≡_, refl, sym, ap, _∙_}
+use mathlib.Core.Path.{_≡_, refl, sym, ap, _∙_, subst}
+use mathlib.Core.Bool.{Bool, true, false, not}
 use mathlib.Core.List.{List, [], _∷_, _++_, reverse, reverse-cons, reverse-reverse}
 use Prim.Native.Nat.{ℕ}
-use Rattle.fox_rounds.specs.Rounds.{lmid64, or64, io64, elmid128, or128, io128}
-use Rattle.fox_rounds.specs.Skeleton.{through, seal64, open64, seal128, open128}
-use Rattle.fox_rounds.specs.declared.fox64.Fox64.{Fox64}
+use Rattle.fox_rounds.specs.Skeleton.{through, round, between, inOrder, turned, seal128}
 use Rattle.fox_rounds.specs.declared.fox128.Fox128.{Fox128}
+use Rattle.fox_rounds.specs.declared.state.State.{State}
+use Rattle.fox_rounds.specs.declared.state.State.the-variants.{Of64, Of128}
+use Rattle.fox_rounds.proofs.Laws.Skeleton.{sealed-128}
 use Rattle.fox_rounds.proofs.Laws.Rounds.{Words64, Words128, lmid64-words, lmid64-twice, or64-words, io64-words, io64-or64, or64-io64, elmid128-words, elmid128-twice, or128-words, io128-words, io128-or128, or128-io128}
 
 -- a round, a step between rounds and the step that undoes it, on the states that have the right width
@@ -47,38 +49,6 @@ undo {round = round} {there = there} {back = back} u (k ∷ l ∷ ks) x w =
     ∙ ap (round k) (u .undone (round k x) (u .round-wide k x w))
     ∙ u .twice k x
 
-undone64 : Undone Words64 lmid64 or64 io64
-undone64 = record { round-wide = lmid64-words; there-wide = or64-words; twice = lmid64-twice; undone = io64-or64 }
-
-redone64 : Undone Words64 lmid64 io64 or64
-redone64 = record { round-wide = lmid64-words; there-wide = io64-words; twice = lmid64-twice; undone = or64-io64 }
-
-undone128 : Undone Words128 elmid128 or128 io128
-undone128 = record { round-wide = elmid128-words; there-wide = or128-words; twice = elmid128-twice; undone = io128-or128 }
-
-redone128 : Undone Words128 elmid128 io128 or128
-redone128 = record { round-wide = elmid128-words; there-wide = io128-words; twice = elmid128-twice; undone = or128-io128 }
-
-pub open64-seal64 : (ks : List ℕ) (x : Fox64) → Words64 x → open64 ks (seal64 ks x) ≡ x
-unfolding seal64 open64
-open64-seal64 ks x w = undo undone64 ks x w
-
-pub seal64-open64 : (ks : List ℕ) (x : Fox64) → Words64 x → seal64 ks (open64 ks x) ≡ x
-unfolding seal64 open64
-seal64-open64 ks x w =
-    ap (λ (ls : List ℕ). through lmid64 or64 ls (through lmid64 io64 (reverse ks) x)) (sym (reverse-reverse ks))
-    ∙ undo redone64 (reverse ks) x w
-
-pub open128-seal128 : (ks : List ℕ) (x : Fox128) → Words128 x → open128 ks (seal128 ks x) ≡ x
-unfolding seal128 open128
-open128-seal128 ks x w = undo undone128 ks x w
-
-pub seal128-open128 : (ks : List ℕ) (x : Fox128) → Words128 x → seal128 ks (open128 ks x) ≡ x
-unfolding seal128 open128
-seal128-open128 ks x w =
-    ap (λ (ls : List ℕ). through elmid128 or128 ls (through elmid128 io128 (reverse ks) x)) (sym (reverse-reverse ks))
-    ∙ undo redone128 (reverse ks) x w
-
 -- no number of rounds leaves the width
 through-wide : {S : Type 0} {Wide : S → Type 0} {round : ℕ → S → S} {there back : S → S} → Undone Wide round there back
     → (ks : List ℕ) (x : S) → Wide x → Wide (through round there ks x)
@@ -88,18 +58,63 @@ through-wide u (k ∷ []) x w = u .round-wide k x w
 through-wide {round = round} {there = there} u (k ∷ l ∷ ks) x w =
     through-wide u (l ∷ ks) (there (round k x)) (u .there-wide (round k x) (u .round-wide k x w))
 
-pub seal64-words : (ks : List ℕ) (x : Fox64) → Words64 x → Words64 (seal64 ks x)
-unfolding seal64
-seal64-words ks x w = through-wide undone64 ks x w
+-- a state of FOX64, or else of FOX128, whose words have 32 bits
+unfoldable pub Fits : Bool → State → Type 0
+Fits true (Of64 x) = Words64 x
+Fits true (Of128 x) = ⊥
+Fits false (Of64 x) = ⊥
+Fits false (Of128 x) = Words128 x
 
-pub open64-words : (ks : List ℕ) (x : Fox64) → Words64 x → Words64 (open64 ks x)
-unfolding open64
-open64-words ks x w = through-wide redone64 (reverse ks) x w
+round-fits : (b : Bool) (k : ℕ) (x : State) → Fits b x → Fits b (round k x)
+unfolding Fits round
+round-fits true k (Of64 x) w = lmid64-words k x w
+round-fits true k (Of128 x) w = w
+round-fits false k (Of64 x) w = w
+round-fits false k (Of128 x) w = elmid128-words k x w
+
+round-twice : (k : ℕ) (x : State) → round k (round k x) ≡ x
+unfolding round
+round-twice k (Of64 x) = ap Of64 (lmid64-twice k x)
+round-twice k (Of128 x) = ap Of128 (elmid128-twice k x)
+
+between-fits : (d b : Bool) (x : State) → Fits b x → Fits b (between d x)
+unfolding Fits between
+between-fits true true (Of64 x) w = or64-words x w
+between-fits true true (Of128 x) w = w
+between-fits true false (Of64 x) w = w
+between-fits true false (Of128 x) w = or128-words x w
+between-fits false true (Of64 x) w = io64-words x w
+between-fits false true (Of128 x) w = w
+between-fits false false (Of64 x) w = w
+between-fits false false (Of128 x) w = io128-words x w
+
+between-undone : (d b : Bool) (x : State) → Fits b x → between (not d) (between d x) ≡ x
+unfolding Fits between
+between-undone true true (Of64 x) w = ap Of64 (io64-or64 x w)
+between-undone true true (Of128 x) w = absurd w
+between-undone true false (Of64 x) w = absurd w
+between-undone true false (Of128 x) w = ap Of128 (io128-or128 x w)
+between-undone false true (Of64 x) w = ap Of64 (or64-io64 x w)
+between-undone false true (Of128 x) w = absurd w
+between-undone false false (Of64 x) w = absurd w
+between-undone false false (Of128 x) w = ap Of128 (or128-io128 x w)
+
+either-way : (d b : Bool) → Undone (Fits b) round (between d) (between (not d))
+either-way d b = record { round-wide = round-fits b; there-wide = between-fits d b; twice = round-twice; undone = between-undone d b }
+
+-- a state that fits is turned into one that fits
+pub turned-fits : (d b : Bool) (ks : List ℕ) (x : State) → Fits b x → Fits b (turned d ks x)
+unfolding turned
+turned-fits d b ks x w = through-wide (either-way d b) (inOrder d ks) x w
+
+-- opening undoes sealing, and sealing opening
+pub turned-back : (d b : Bool) (ks : List ℕ) (x : State) → Fits b x → turned (not d) ks (turned d ks x) ≡ x
+unfolding turned inOrder
+turned-back true b ks x w = undo (either-way true b) ks x w
+turned-back false b ks x w =
+    ap (λ (ls : List ℕ). through round (between true) ls (through round (between false) (reverse ks) x)) (sym (reverse-reverse ks))
+    ∙ undo (either-way false b) (reverse ks) x w
 
 pub seal128-words : (ks : List ℕ) (x : Fox128) → Words128 x → Words128 (seal128 ks x)
-unfolding seal128
-seal128-words ks x w = through-wide undone128 ks x w
-
-pub open128-words : (ks : List ℕ) (x : Fox128) → Words128 x → Words128 (open128 ks x)
-unfolding open128
-open128-words ks x w = through-wide redone128 (reverse ks) x w
+unfolding Fits
+seal128-words ks x w = subst (Fits false) (sealed-128 ks x) (turned-fits true false ks (Of128 x) w)

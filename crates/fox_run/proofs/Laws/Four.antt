@@ -1,5 +1,5 @@
 -- Bytes added to four blocks of a stream side by side: two blocks laid one after the other are their bytes joined, and four whole blocks from the one on
--- that byte n begins are the stream from byte n on. And a stretch laid down in three parts, each beginning where the one before it ended.
+-- that byte n begins are the stream from byte n on.
 -- Assumes nothing.
 use mathlib.Core.Path.{_≡_, sym, ap, ap₂, _∙_}
 use mathlib.Core.List.{List, _++_, append-assoc, append-nil}
@@ -7,13 +7,13 @@ use Prim.Native.Nat.{ℕ, _+_, _*_, _-_, _/_, _%_, _≤_, _<_}
 use native.Mathlib.Nat.{div-add-mod'}
 use native.Mathlib.Omega.{arith}
 use borrow.Rule.Slice.PartMut.{midOf, putMid}
-use lib.ListN.{length, take, drop, length-drop}
+use lib.ListN.{length, take, drop}
 use Rattle.fox_layers.specs.Words.{sum}
 use Rattle.fox_run.specs.Run.{streamed, addedFrom}
 use Rattle.fox_run.specs.Steps.{Laid}
 use Rattle.fox_run.proofs.Laws.Sums.{length-sum-min, sum-append, laid-after}
 use Rattle.fox_run.proofs.Laws.Streams.{blocksFrom, whole-blocks}
-use Rattle.fox_run.proofs.Laws.Laid.{part-end, laid-next, laid-rest}
+use Rattle.fox_run.proofs.Laws.Laid.{part-end}
 
 -- two sums laid one after the other, as the checker says it of parts from a to the end
 pub laid-two : (a : ℕ) (xs ys ds os l p : List ℕ) → length xs ≡ a → a ≤ length ds → l ≡ sum xs ds ++ drop a os
@@ -44,17 +44,3 @@ module _ (block : ℕ → List ℕ) where
       ∙ ap (λ (xs : List ℕ). xs ++ drop (4 * B) os)
       (ap (λ (xs : List ℕ). sum xs ds) (four-blocks (n / B) p q u v ep eq eu ev) ∙ sym (whole-blocks B block pos size (n / B) 4 ds)
       ∙ ap (λ (m : ℕ). addedFrom (streamed B block) m (take (4 * B) ds)) start)
-
--- the length of a part from one place to the end
-pub length-end : (at : ℕ) (xs : List ℕ) → length (midOf at (length xs - at) xs) ≡ length xs - at
-length-end at xs = ap length (part-end at xs) ∙ length-drop at xs
-
--- a stretch laid down in three parts, as the checker says it of parts to the end
-pub laid-three : (f : ℕ → ℕ) (n head whole : ℕ) (ds os one two three : List ℕ) → length os ≡ length ds → head ≤ length ds → Laid f n ds os head one
-    → (whole ≤ length (midOf head (length ds - head) ds)) × Laid f (n + head) (midOf head (length ds - head) ds) (midOf head (length one - head) one) whole two
-    → three ≡ addedFrom f (n + (head + whole)) (midOf (head + whole) (length ds - (head + whole)) ds)
-    → putMid (head + whole) (length (putMid head (length one - head) one two) - (head + whole)) (putMid head (length one - head) one two) three ≡ addedFrom f n ds
-laid-three f n head whole ds os one two three same h laid next rest =
-    let within : head + whole ≤ length ds = omega (arith, next .0, length-end head ds) in
-    laid-rest f n ds os (head + whole) (putMid head (length one - head) one two) three within same
-    (laid-next f n ds os head whole one two within same laid (next .1)) rest

@@ -17,6 +17,9 @@ use Rattle.fox_run.proofs.Laws.Added.{length-addedFrom, addedFrom-appen
 pub part-end : (at : ℕ) (xs : List ℕ) → midOf at (length xs - at) xs ≡ drop at xs
 part-end at xs = take-all (length xs - at) (drop at xs) (rw (length-drop at xs) (omega arith))
 
+pub length-end : (at : ℕ) (xs : List ℕ) → length (midOf at (length xs - at) xs) ≡ length xs - at
+length-end at xs = ap length (part-end at xs) ∙ length-drop at xs
+
 module _ (f : ℕ → ℕ) (n : ℕ) (ds os : List ℕ) where
   pub laid-first : Laid f n ds os 0 os
   unfolding addedFrom
@@ -52,14 +55,3 @@ module _ (f : ℕ → ℕ) (n : ℕ) (ds os : List ℕ) where
   laid-last at same e laid =
       laid ∙ ap₂ (λ (xs ys : List ℕ). addedFrom f n xs ++ ys) (take-all at ds (omega arith)) (drop-of-length-le os {i = at} (omega arith))
       ∙ append-nil (addedFrom f n ds)
-
-  -- all that is left laid down
-  pub laid-rest : (at : ℕ) (now part : List ℕ) → at ≤ length ds → length os ≡ length ds → Laid f n ds os at now
-      → part ≡ addedFrom f (n + at) (midOf at (length ds - at) ds) → putMid at (length now - at) now part ≡ addedFrom f n ds
-  laid-rest at now part h same laid ep =
-      let left : length (midOf at (length ds - at) ds) ≡ length ds - at = ap length (part-end at ds) ∙ length-drop at ds in
-      let room : length (midOf at (length now - at) now) ≡ length ds - at = ap length (part-end at now) ∙ length-drop at now ∙ omega (arith, laid-length at h same laid) in
-      laid-last (at + (length ds - at)) same (omega arith)
-      (laid-next at (length ds - at) now part (omega arith) same laid
-      (ep ∙ sym (append-nil _)
-      ∙ ap₂ (λ (xs ys : List ℕ). addedFrom f (n + at) xs ++ ys) (sym (take-all (length ds - at) _ (omega (arith, left)))) (sym (drop-of-length-le _ {i = length ds - at} (omega (arith, room))))))

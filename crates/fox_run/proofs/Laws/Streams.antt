@@ -2,23 +2,25 @@
 -- is that of the counter blocks as states: the state of the counter block number i is the first one's, counted on by i.
 -- Assumes nothing.
 use mathlib.Core.Path.{_≡_, refl, sym, ap, ap₂, _∙_}
+use mathlib.Core.Bool.{Bool, true, false, cond}
 use mathlib.Core.List.{List, [], _∷_, _++_}
 use Prim.Native.Nat.{ℕ, zero, suc, _+_, _*_, _-_, _/_, _%_, _^_, _≤_, _<_, min}
 use native.Mathlib.Nat.{add-zero, zero-mul, mod-lt, mod-eq-of-lt, div-eq-of-lt, mul-add-div-right, mul-add-mod-self-right, div-add-mod', zero-lt-suc}
 use native.Mathlib.Omega.{arith}
+use lib.Dec.{eqb, lit≤}
 use lib.ListN.{length, take, drop, getD, length-append, length-drop, take-append-drop}
 use lib.Seq.{length-take-le, take-all, drop-at, take-append-le, drop-append-le, getD-drop}
 use Rattle.fox_layers.specs.Words.{_⊕_, joined, split, sum}
 use Rattle.fox_layers.proofs.Laws.Words.{length-split, joined-split}
-use Rattle.fox_rounds.specs.Skeleton.{seal64, seal128}
-use Rattle.fox_rounds.specs.declared.fox64.Fox64.{Fox64}
-use Rattle.fox_rounds.specs.declared.fox128.Fox128.{Fox128}
-use Rattle.fox_schedule.specs.Schedule.{roundKeys64, roundKeys128}
-use Rattle.fox_cipher.specs.Block.{state64, state128, bytes64, bytes128, sealWith, roundKeys}
-use Rattle.fox_cipher.proofs.Laws.Block.{size-64, size-128, sealWith-64, sealWith-128, roundKeys-64, roundKeys-128}
+use Rattle.fox_rounds.specs.Skeleton.{size, turned}
+use Rattle.fox_rounds.specs.declared.state.State.{State}
+use Rattle.fox_rounds.specs.declared.state.State.the-variants.{Of64, Of128}
+use Rattle.fox_calls.specs.Refusals.{blockSize}
+use Rattle.fox_cipher.specs.Block.{state64, state128, state, bytes, turnWith}
+use Rattle.fox_cipher.proofs.Laws.Block.{state-size, turned-size, length-bytes}
 use Rattle.fox_run.specs.Counter.{counterBlock}
-use Rattle.fox_run.specs.Run.{streamed, addedFrom, keyStream, runWith, run}
-use Rattle.fox_run.specs.States.{counted64, counted128, sealed64, sealed128, stream64, stream128}
+use Rattle.fox_run.specs.Run.{streamed, addedFrom, keyStream, runWith}
+use Rattle.fox_run.specs.States.{counted64, counted128, counted, sealed, stream}
 use Rattle.fox_run.proofs.Laws.Sums.{length-sum-min, take-sum}
 use Rattle.fox_run.proofs.Laws.Added.{addedFrom-same}
 
@@ -101,13 +103,19 @@ module _ (B : ℕ) (block : ℕ → List ℕ) (pos : 0 < B) (size : (i : ℕ) �
 
 -- the sealed counter blocks as a stream of blocks
 
-pub length-sealed64 : (rks : List ℕ) (x : Fox64) (i : ℕ) → length (sealed64 rks x i) ≡ 8
-unfolding sealed64 bytes64 split
-length-sealed64 rks x i = refl
+counted-size : (x : State) (i : ℕ) → size (counted x i) ≡ size x
+unfolding size counted
+counted-size (Of64 x) i = refl
+counted-size (Of128 x) i = refl
 
-pub length-sealed128 : (rks : List ℕ) (x : Fox128) (i : ℕ) → length (sealed128 rks x i) ≡ 16
-unfolding sealed128 bytes128 split
-length-sealed128 rks x i = refl
+pub length-sealed : (rks : List ℕ) (x : State) (i : ℕ) → length (sealed rks x i) ≡ size x
+unfolding sealed
+length-sealed rks x i = length-bytes (turned true rks (counted x i)) ∙ turned-size true rks (counted x i) ∙ counted-size x i
+
+pub size-pos : (x : State) → 0 < size x
+unfolding size
+size-pos (Of64 x) = lit≤ tt
+size-pos (Of128 x) = lit≤ tt
 
 -- a part that lies in the first of two lists
 part-first : (at m : ℕ) (xs ys : List ℕ) → at + m ≤ length xs → take m (drop at (xs ++ ys)) ≡ take m (drop at xs)
@@ -138,44 +146,30 @@ module _ (counter : List ℕ) (k i : ℕ) (e : length counter ≡ k + 4) where
       ap (λ (xs : List ℕ). joined (take 4 xs)) last ∙ ap joined (take-all 4 (split 4 w) (rw (length-split 4 w) (omega arith)))
       ∙ joined-split 4 w (mod-lt _ (zero-lt-suc 4294967295)) ∙ ap (λ (xs : List ℕ). (joined xs + i) % 2 ^ 32) (sym all)
 
-pub counted-64 : (counter : List ℕ) (i : ℕ) → length counter ≡ 8 → state64 (counterBlock counter i) ≡ counted64 (state64 counter) i
+counted-64 : (counter : List ℕ) (i : ℕ) → length counter ≡ 8 → state64 (counterBlock counter i) ≡ counted64 (state64 counter) i
 unfolding state64 counted64
 counted-64 counter i e = λ j. record { l = word-kept counter 4 i e 0 (omega arith) j; r = word-counted counter 4 i e j }
 
-pub counted-128 : (counter : List ℕ) (i : ℕ) → length counter ≡ 16 → state128 (counterBlock counter i) ≡ counted128 (state128 counter) i
+counted-128 : (counter : List ℕ) (i : ℕ) → length counter ≡ 16 → state128 (counterBlock counter i) ≡ counted128 (state128 counter) i
 unfolding state128 counted128
 counted-128 counter i e =
     let kept = word-kept counter 12 i e in
     λ j.
     record { ll = kept 0 (omega arith) j; lr = kept 4 (omega arith) j; rl = kept 8 (omega arith) j; rr = word-counted counter 12 i e j }
 
-pub run-64 : (c : ℕ) (rks counter : List ℕ) (n : ℕ) (ds : List ℕ) → c ≡ 64 → length counter ≡ 8
-    → runWith c rks counter n ds ≡ addedFrom (stream64 rks (state64 counter)) n ds
-unfolding runWith keyStream stream64 sealed64
-run-64 c rks counter n ds is e =
-    ap (λ (B : ℕ). addedFrom (streamed B (λ (i : ℕ). sealWith c rks (counterBlock counter i))) n ds) (size-64 c is)
-    ∙ addedFrom-same _ _ n ds
-    (streamed-same 8 _ _ (λ i. sealWith-64 c rks (counterBlock counter i) is ∙ ap (λ (x : Fox64). bytes64 (seal64 rks x)) (counted-64 counter i e)))
+counted-state : (c : ℕ) (counter : List ℕ) (i : ℕ) → length counter ≡ blockSize c → state c (counterBlock counter i) ≡ counted (state c counter) i
+unfolding state blockSize counted
+counted-state c counter i e = there (eqb c 64) e
+  where
+    there : (t : Bool) → length counter ≡ cond t 8 16
+        → cond t (Of64 (state64 (counterBlock counter i))) (Of128 (state128 (counterBlock counter i))) ≡ counted (cond t (Of64 (state64 counter)) (Of128 (state128 counter))) i
+    there true n = ap Of64 (counted-64 counter i n)
+    there false n = ap Of128 (counted-128 counter i n)
 
-pub run-128 : (c : ℕ) (rks counter : List ℕ) (n : ℕ) (ds : List ℕ) → (c ≡ 64 → ⊥) → length counter ≡ 16
-    → runWith c rks counter n ds ≡ addedFrom (stream128 rks (state128 counter)) n ds
-unfolding runWith keyStream stream128 sealed128
-run-128 c rks counter n ds isnt e =
-    ap (λ (B : ℕ). addedFrom (streamed B (λ (i : ℕ). sealWith c rks (counterBlock counter i))) n ds) (size-128 c isnt)
-    ∙ addedFrom-same _ _ n ds
-    (streamed-same 16 _ _ (λ i. sealWith-128 c rks (counterBlock counter i) isnt ∙ ap (λ (x : Fox128). bytes128 (seal128 rks x)) (counted-128 counter i e)))
-
--- a run by the key's own round keys
-pub run-key-64 : (c r m : ℕ) (key counter : List ℕ) (n : ℕ) (ds : List ℕ) → c ≡ 64 → length counter ≡ 8 → m ≡ r
-    → addedFrom (stream64 (roundKeys64 m key) (state64 counter)) n ds ≡ run c r key counter n ds
-unfolding run
-run-key-64 c r m key counter n ds e l whole =
-    ap (λ (ks : List ℕ). addedFrom (stream64 ks (state64 counter)) n ds) (ap (λ (k : ℕ). roundKeys64 k key) whole ∙ sym (roundKeys-64 c r key e))
-    ∙ sym (run-64 c (roundKeys c r key) counter n ds e l)
-
-pub run-key-128 : (c r m : ℕ) (key counter : List ℕ) (n : ℕ) (ds : List ℕ) → (c ≡ 64 → ⊥) → length counter ≡ 16 → m ≡ r
-    → addedFrom (stream128 (roundKeys128 m key) (state128 counter)) n ds ≡ run c r key counter n ds
-unfolding run
-run-key-128 c r m key counter n ds e l whole =
-    ap (λ (ks : List ℕ). addedFrom (stream128 ks (state128 counter)) n ds) (ap (λ (k : ℕ). roundKeys128 k key) whole ∙ sym (roundKeys-128 c r key e))
-    ∙ sym (run-128 c (roundKeys c r key) counter n ds e l)
+-- a run is the bytes added to the stream of the first counter block's state
+pub run-streamed : (c : ℕ) (rks counter : List ℕ) (n : ℕ) (ds : List ℕ) → length counter ≡ blockSize c
+    → addedFrom (stream rks (state c counter)) n ds ≡ runWith c rks counter n ds
+unfolding runWith keyStream stream sealed turnWith
+run-streamed c rks counter n ds e =
+    sym (ap (λ (B : ℕ). addedFrom (streamed B (λ (i : ℕ). turnWith true c rks (counterBlock counter i))) n ds) (sym (state-size c counter))
+    ∙ addedFrom-same _ _ n ds (streamed-same _ _ _ (λ i. ap (λ (x : State). bytes (turned true rks x)) (counted-state c counter i e))))

@@ -3,21 +3,21 @@
 use mathlib.Core.Path.{_≡_, sym, ap, ap₂, _∙_}
 use mathlib.Core.List.{List}
 use mathlib.Core.Bool.{Bool}
-use Prim.Native.Nat.{ℕ, suc, _-_, _*_, _<_, _≤_}
+use Prim.Native.Nat.{ℕ, suc, _-_, _*_, _^_, _<_, _≤_}
 use native.Mathlib.Omega.{arith}
 use lib.Dec.{eqb}
 use lib.ListN.{length}
-use borrow.Author.Tests.{le-leb, lt-leb}
+use borrow.Author.Tests.{le-leb, lt-leb, eq-eqb, ne-eqb}
 use Rattle.fox_rounds.specs.Skeleton.{numbered}
 use Rattle.fox_rounds.proofs.Laws.Skeleton.{numbered-next, numbered-same}
 use Rattle.fox_keying.specs.Padding.{mkey}
 use Rattle.fox_keying.specs.Register.{LFSR, groups, dkey}
 use Rattle.fox_nonlinear.specs.Nonlinear.{NL64, NL64h, NL128}
-use Rattle.fox_schedule.specs.Schedule.{ek64, ek128, key64, key128, roundKey64, roundKey128, roundKeys64, roundKeys128}
-use Rattle.fox_schedule.specs.Step.{made64, steps64, made128, Scheduled64, Scheduled128, keyAt64, keyAt128}
-use Rattle.fox_schedule.specs.declared.step.Schedule64.{Schedule64}
-use Rattle.fox_schedule.specs.declared.step.Schedule64.the-variants.{Ks64, Ks64h}
-use Rattle.fox_schedule.specs.declared.step.Schedule128.{Schedule128}
+use Rattle.fox_nonlinear.proofs.Laws.Wide.{NL128-lt}
+use Rattle.fox_schedule.specs.Schedule.{ek64, ek128, key64, key128, roundKey64, roundKey128, roundKey, roundKeys}
+use Rattle.fox_schedule.specs.Step.{made, steps, Scheduled, keyAt}
+use Rattle.fox_schedule.specs.declared.step.Schedule.{Schedule}
+use Rattle.fox_schedule.specs.declared.step.Schedule.the-variants.{Ks64, Ks64h, Ks128}
 
 -- KS64
 pub key64-ks64 : (key : List ℕ) (reg : ℕ) → length key ≤ 16
@@ -39,38 +39,43 @@ pub groups-ks64h : (len : ℕ) → 16 < len → groups (ek64 len) ≡ 11
 unfolding groups ek64
 groups-ks64h len h = simp (lt-leb _ _ h)
 
+pub roundKey-64 : (c r : ℕ) (key : List ℕ) (i : ℕ) → c ≡ 64 → roundKey c r key i ≡ roundKey64 r key i
+unfolding roundKey
+roundKey-64 c r key i e = simp (eq-eqb c 64 e)
+
+pub roundKey-128 : (c r : ℕ) (key : List ℕ) (i : ℕ) → (c ≡ 64 → ⊥) → roundKey c r key i ≡ roundKey128 r key i
+unfolding roundKey
+roundKey-128 c r key i n = simp (ne-eqb c 64 n)
+
+-- the round keys of FOX128 fit two words
+pub roundKey128-lt : (r : ℕ) (key : List ℕ) (i : ℕ) → roundKey128 r key i < 2 ^ 128
+unfolding roundKey128 key128
+roundKey128-lt r key i = NL128-lt _ _
+
 -- the schedule of a key makes the round keys of that key
-made64-key : (key : List ℕ) (s : Schedule64) → Scheduled64 key s → (reg : ℕ) → made64 s reg ≡ key64 key reg
-unfolding Scheduled64 made64
-made64-key key (Ks64 m flip) is reg =
-    ap₂ (λ (f : Bool) (ms : List ℕ). NL64 f (dkey ms reg)) (is .2) (is .1) ∙ sym (key64-ks64 key reg (is .0))
-made64-key key (Ks64h m flip) is reg =
-    ap₂ (λ (f : Bool) (ms : List ℕ). NL64h f (dkey ms reg)) (is .2) (is .1) ∙ sym (key64-ks64h key reg (is .0))
-
-steps64-groups : (key : List ℕ) (s : Schedule64) → Scheduled64 key s → steps64 s ≡ groups (ek64 (length key))
-unfolding Scheduled64 steps64
-steps64-groups key (Ks64 m flip) is = sym (groups-ks64 (length key) (is .0))
-steps64-groups key (Ks64h m flip) is = sym (groups-ks64h (length key) (is .0))
-
-made128-key : (key : List ℕ) (s : Schedule128) → Scheduled128 key s → (reg : ℕ) → made128 s reg ≡ key128 key reg
-unfolding made128 key128 ek128
-made128-key key s is reg = ap₂ (λ (f : Bool) (ms : List ℕ). NL128 f (dkey ms reg)) (is .flipped) (is .mixed)
+scheduled-key : (c r : ℕ) (key : List ℕ) (s : Schedule) → Scheduled c key s → (i : ℕ) → roundKey c r key (suc i) ≡ keyAt s r i
+unfolding Scheduled keyAt made steps roundKey64 roundKey128 key128 ek128 groups
+scheduled-key c r key (Ks64 m flip) is i =
+    let back : suc i - 1 ≡ i = omega arith in
+    roundKey-64 c r key (suc i) (is .0)
+    ∙ ap₂ (λ (j g : ℕ). key64 key (LFSR (j * g) r)) back (groups-ks64 (length key) (is .1))
+    ∙ key64-ks64 key (LFSR (i * 6) r) (is .1)
+    ∙ ap₂ (λ (f : Bool) (ms : List ℕ). NL64 f (dkey ms (LFSR (i * 6) r))) (sym (is .3)) (sym (is .2))
+scheduled-key c r key (Ks64h m flip) is i =
+    let back : suc i - 1 ≡ i = omega arith in
+    roundKey-64 c r key (suc i) (is .0)
+    ∙ ap₂ (λ (j g : ℕ). key64 key (LFSR (j * g) r)) back (groups-ks64h (length key) (is .1))
+    ∙ key64-ks64h key (LFSR (i * 11) r) (is .1)
+    ∙ ap₂ (λ (f : Bool) (ms : List ℕ). NL64h f (dkey ms (LFSR (i * 11) r))) (sym (is .3)) (sym (is .2))
+scheduled-key c r key (Ks128 m flip) is i =
+    let back : suc i - 1 ≡ i = omega arith in
+    roundKey-128 c r key (suc i) (is .0)
+    ∙ ap (λ (j : ℕ). key128 key (LFSR (j * 11) r)) back
+    ∙ ap₂ (λ (f : Bool) (ms : List ℕ). NL128 f (dkey ms (LFSR (i * 11) r))) (sym (is .2)) (sym (is .1))
 
 -- the round keys in a row, numbered from 0
-pub roundKeys64-made : (r : ℕ) (key : List ℕ) (s : Schedule64) → Scheduled64 key s → roundKeys64 r key ≡ numbered (keyAt64 s r) r 0
-unfolding roundKeys64 roundKey64 keyAt64
-roundKeys64-made r key s is =
-    numbered-next (roundKey64 r key) r 0
-    ∙ numbered-same (λ (i : ℕ). roundKey64 r key (suc i)) (keyAt64 s r) r 0
-    (λ i h.
-    let back : suc i - 1 ≡ i = omega arith in
-    ap₂ (λ (j g : ℕ). key64 key (LFSR (j * g) r)) back (sym (steps64-groups key s is)) ∙ sym (made64-key key s is (LFSR (i * steps64 s) r)))
-
-pub roundKeys128-made : (r : ℕ) (key : List ℕ) (s : Schedule128) → Scheduled128 key s → roundKeys128 r key ≡ numbered (keyAt128 s r) r 0
-unfolding roundKeys128 roundKey128 ek128 groups keyAt128
-roundKeys128-made r key s is =
-    numbered-next (roundKey128 r key) r 0
-    ∙ numbered-same (λ (i : ℕ). roundKey128 r key (suc i)) (keyAt128 s r) r 0
-    (λ i h.
-    let back : suc i - 1 ≡ i = omega arith in
-    ap (λ (j : ℕ). key128 key (LFSR (j * 11) r)) back ∙ sym (made128-key key s is (LFSR (i * 11) r)))
+pub roundKeys-made : (c r : ℕ) (key : List ℕ) (s : Schedule) → Scheduled c key s → roundKeys c r key ≡ numbered (keyAt s r) r 0
+unfolding roundKeys
+roundKeys-made c r key s is =
+    numbered-next (roundKey c r key) r 0
+    ∙ numbered-same (λ (i : ℕ). roundKey c r key (suc i)) (keyAt s r) r 0 (λ i h. scheduled-key c r key s is i)

@@ -1,21 +1,21 @@
 -- The round keys that a prepared key holds are those that it was filled with; so a key prepared from key bytes holds the round keys of the definition.
 -- Assumes nothing.
 use mathlib.Core.Path.{_≡_, refl, sym, ap, ap₂, _∙_}
-use mathlib.Core.List.{List, [], _∷_}
-use Prim.Native.Nat.{ℕ, zero, suc, _+_, _-_, _*_, _^_, _<_}
+use mathlib.Core.List.{List, [], _∷_, _++_}
+use Prim.Native.Nat.{ℕ, zero, suc, _+_, _-_, _*_, _^_, _<_, _≤_}
 use native.Mathlib.Nat.{le-of-suc-le-suc, not-suc-le-zero}
 use native.Mathlib.Omega.{arith}
 use lib.ListN.{length, getD, replicate, List·getD-append}
+use lib.Seq.{getD-append-add}
 use borrow.Author.Tests.{eq-eqb, ne-eqb}
 use Rattle.fox_rounds.specs.Rounds.{left, right}
 use Rattle.fox_rounds.specs.Skeleton.{numbered}
 use Rattle.fox_lent.specs.Held.{held64, held128}
 use Rattle.fox_rounds.proofs.Laws.Halves.{pair}
 use Rattle.fox_rounds.proofs.Laws.Skeleton.{length-numbered, numbered-next, numbered-same, numbered-at}
-use Rattle.fox_nonlinear.proofs.Laws.Wide.{NL128-lt}
-use Rattle.fox_schedule.specs.Schedule.{key128, roundKey64, roundKey128, roundKeys64, roundKeys128}
-use Rattle.fox_cipher.specs.Block.{roundKeys}
-use Rattle.fox_cipher.proofs.Laws.Block.{by-cipher, roundKeys-64, roundKeys-128}
+use Rattle.fox_schedule.specs.Schedule.{roundKey, roundKeys}
+use Rattle.fox_schedule.proofs.Laws.Schedules.{roundKey-128, roundKey128-lt}
+use Rattle.fox_cipher.proofs.Laws.Block.{by-cipher}
 use Rattle.fox_server.specs.Prepared.{inHalves, filled, preparedWords, heldKeys}
 use Rattle.fox_server.specs.declared.prepared.Prepared.{Prepared}
 use Rattle.fox_server.proofs.Laws.Filled.{length-inHalves}
@@ -26,6 +26,19 @@ unfolding numbered
 listed [] = refl
 listed (k ∷ ks) =
     ap (λ (ls : List ℕ). k ∷ ls) (numbered-next (λ (i : ℕ). getD (k ∷ ks) i 0) (length ks) 0 ∙ listed ks)
+
+pub filled-rest : (ws : List ℕ) (i : ℕ) → length ws ≤ i → getD (filled ws) i 0 ≡ 0
+unfolding filled
+filled-rest ws i h =
+    let here : i ≡ length ws + (i - length ws) = omega arith in
+    ap (λ (j : ℕ). getD (ws ++ replicate (510 - length ws) 0) j 0) here
+    ∙ getD-append-add ws (replicate (510 - length ws) 0) (i - length ws) 0
+    ∙ zeros (510 - length ws) (i - length ws)
+  where
+    zeros : (n j : ℕ) → getD (replicate n 0) j 0 ≡ 0
+    zeros zero j = refl
+    zeros (suc n) zero = refl
+    zeros (suc n) (suc j) = zeros n j
 
 pub filled-at : (ws : List ℕ) (i : ℕ) → i < length ws → getD (filled ws) i 0 ≡ getD ws i 0
 unfolding filled
@@ -69,11 +82,11 @@ held128-filled ks n wide e =
     ∙ pair 64 (getD ks i 0) (wide i (omega arith)))
     ∙ listed ks
 
-pub preparedWords-64 : (c r : ℕ) (key : List ℕ) → c ≡ 64 → preparedWords c r key ≡ filled (roundKeys64 r key)
+pub preparedWords-64 : (c r : ℕ) (key : List ℕ) → c ≡ 64 → preparedWords c r key ≡ filled (roundKeys c r key)
 unfolding preparedWords
 preparedWords-64 c r key e = simp (eq-eqb c 64 e)
 
-pub preparedWords-128 : (c r : ℕ) (key : List ℕ) → (c ≡ 64 → ⊥) → preparedWords c r key ≡ filled (inHalves (roundKeys128 r key))
+pub preparedWords-128 : (c r : ℕ) (key : List ℕ) → (c ≡ 64 → ⊥) → preparedWords c r key ≡ filled (inHalves (roundKeys c r key))
 unfolding preparedWords
 preparedWords-128 c r key n = simp (ne-eqb c 64 n)
 
@@ -86,35 +99,23 @@ unfolding heldKeys
 heldKeys-128 p n = simp (ne-eqb (p .cipher) 64 n)
 
 -- the round keys of FOX128 fit two words
-pub roundKey128-lt : (r : ℕ) (key : List ℕ) (i : ℕ) → roundKey128 r key i < 2 ^ 128
-unfolding roundKey128 key128
-roundKey128-lt r key i = NL128-lt _ _
-
-pub held-64 : (r : ℕ) (key : List ℕ) → numbered (held64 (filled (roundKeys64 r key))) r 0 ≡ roundKeys64 r key
-unfolding roundKeys64
-held-64 r key = held64-filled (numbered (roundKey64 r key) r 1) r (length-numbered (roundKey64 r key) r 1)
-
-pub held-128 : (r : ℕ) (key : List ℕ) → numbered (held128 (filled (inHalves (roundKeys128 r key)))) r 0 ≡ roundKeys128 r key
-unfolding roundKeys128
-held-128 r key =
-    held128-filled (numbered (roundKey128 r key) r 1) r
-    (λ i h. rw (numbered-at (roundKey128 r key) r 1 i 0 h) (roundKey128-lt r key (1 + i)))
-    (length-numbered (roundKey128 r key) r 1)
+pub wide : (c r : ℕ) (key : List ℕ) (i : ℕ) → (c ≡ 64 → ⊥) → roundKey c r key i < 2 ^ 128
+wide c r key i isnt = rw (roundKey-128 c r key i isnt) (roundKey128-lt r key i)
 
 -- a prepared key with the words of a key holds the round keys of the definition
 pub held-prepared : (p : Prepared) (key : List ℕ) → p .keys ≡ preparedWords (p .cipher) (p .rounds) key
     → heldKeys p ≡ roundKeys (p .cipher) (p .rounds) key
+unfolding roundKeys
 held-prepared p key e =
     let c = p .cipher in
     let r = p .rounds in
+    let k = roundKey c r key in
     by-cipher c
     (λ is.
     heldKeys-64 p is
     ∙ ap (λ (ws : List ℕ). numbered (held64 ws) r 0) (e ∙ preparedWords-64 c r key is)
-    ∙ held-64 r key
-    ∙ sym (roundKeys-64 c r key is))
+    ∙ held64-filled (numbered k r 1) r (length-numbered k r 1))
     (λ isnt.
     heldKeys-128 p isnt
     ∙ ap (λ (ws : List ℕ). numbered (held128 ws) r 0) (e ∙ preparedWords-128 c r key isnt)
-    ∙ held-128 r key
-    ∙ sym (roundKeys-128 c r key isnt))
+    ∙ held128-filled (numbered k r 1) r (λ i h. rw (numbered-at k r 1 i 0 h) (wide c r key (1 + i) isnt)) (length-numbered k r 1))

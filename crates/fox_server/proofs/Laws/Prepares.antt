@@ -10,7 +10,7 @@ use lib.Dec.{eqb, lit≤}
 use lib.ListN.{length}
 use Rattle.fox_calls.specs.Refusals.{refusalOf, blockSize, forKey}
 use Rattle.fox_calls.proofs.Laws.Reply.{chosen, passed-over}
-use Rattle.fox_cipher.specs.Block.{roundKeys}
+use Rattle.fox_schedule.specs.Schedule.{roundKeys}
 use Rattle.fox_server.specs.Prepared.{preparedKey, noKey, Prepares, heldKeys}
 use Rattle.fox_server.specs.declared.prepared.Prepared.{Prepared}
 use Rattle.fox_server.specs.declared.prepared.Preparation.{Preparation}

@@ -72,12 +72,13 @@ returns c =
     let a = c .before .before .before .before .before .before .args in
     let s = sum (a .pad .now) (a .input .now) in
     let n = inv .3 in
-    let done : c .before .loop .i ≡ c .before .before .shorter .result = search needs in (
-      n,
-      inv .5
+    let done : c .before .loop .i ≡ c .before .before .shorter .result = search needs in
+    record {
+      count = n;
+      output = inv .5
           ∙ ap (λ (i : ℕ). take i s ++ drop i (a .out .now)) done
-          ∙ ap (λ (xs : List ℕ). xs ++ drop (c .before .before .shorter .result) (a .out .now)) (take-all (c .before .before .shorter .result) s (search needs)),
-    )
+          ∙ ap (λ (xs : List ℕ). xs ++ drop (c .before .before .shorter .result) (a .out .now)) (take-all (c .before .before .shorter .result) s (search needs));
+    }
 
 pub add-spec : {M : Type 1} → statement M
 add-spec =

@@ -1,24 +1,14 @@
 -- `run::run` meets its contract: a refused call hands back the first refusal that applies and writes nothing; past the refusals the rounds and lengths are
 -- those that the stretch for the cipher asks, and the round keys are those that the prepared key holds.
 -- Assumes nothing.
-use mathlib.Core.Path.{_≡_, refl, sym, _∙_}
-use native.Mathlib.Omega.{arith}
-use lib.ListN.{length}
-use Rattle.fox_calls.specs.Refusals.{refusalOf, forRun, Stretched}
+use mathlib.Core.Path.{refl, sym, _∙_}
 use Rattle.fox_calls.proofs.Laws.Refusals.{stretched}
 use Rattle.fox_calls.proofs.Laws.Reply.{served-reply, refused-reply}
-use Rattle.fox_server_run.proofs.Laws.Held.{asked-64, asked-128, held-run-64, held-run-128}
+use Rattle.fox_cipher.proofs.Laws.Block.{size-64, size-128}
+use Rattle.fox_server_run.proofs.Laws.Held.{ready, held-run-64, held-run-128}
 use borrow.Author.Needs.{needs}
 use Rattle.fox_server_run.proofs.run.run.Statement.{statement}
 use Rattle.fox_server_run.proofs.run.run.Tie as tie
-
--- past the refusals
-module _ (c : tie.Else1) where
-  zero : refusalOf (forRun (c .before .before .before .before .before .args .p .cipher) (c .before .before .before .before .before .args .p .rounds) (c .before .before .before .before .before .args .p .«key_len») (length (c .before .before .before .before .before .args .counter .now)) (c .before .before .before .before .before .args .offset) (length (c .before .before .before .before .before .args .input .now)) (length (c .before .before .before .before .before .args .out .now))) ≡ 0
-  zero = sym (c .before .for-run .ensures) ∙ c .if1 .left
-
-  served : Stretched (c .before .before .before .before .before .args .p .cipher) (c .before .before .before .before .before .args .p .rounds) (c .before .before .before .before .before .args .p .«key_len») (length (c .before .before .before .before .before .args .counter .now)) (c .before .before .before .before .before .args .offset) (length (c .before .before .before .before .before .args .input .now)) (length (c .before .before .before .before .before .args .out .now))
-  served = stretched _ _ _ _ _ _ _ zero
 
 returns : tie.Need-returns
 returns c =
@@ -30,8 +20,7 @@ run64-requires : tie.Need-run64-requires
 run64-requires c κs =
     let test = c .before .before in
     let at = test .before .before .before .before in
-    let h = asked-64 (served at) (test .if2 .taken) in
-    (h .0, h .1, h .2, omega (arith, h .3), h .4)
+    ready _ _ _ (stretched _ _ _ _ _ _ _ (sym (at .before .for-run .ensures) ∙ at .if1 .left)) (size-64 _ (test .if2 .taken))
 
 returns-2 : tie.Need-returns-2
 returns-2 c =
@@ -39,16 +28,15 @@ returns-2 c =
     let test = laid .before .before .before in
     let at = test .before .before .before .before in
     let a = at .before .before .before .before .before .args in
-    let sizes = asked-64 (served at) (test .if2 .taken) in
-    served-reply _ _ _ _ _ (zero at) (c .served .ensures .0) (c .served .ensures .1 ∙ laid .run64 .kept .1 .1 .1 .1 .1 .0)
-    (laid .run64 .ensures ∙ held-run-64 (a .p) (a .counter .now) (a .offset) (a .input .now) (test .if2 .taken) (sizes .2))
+    let zero = sym (at .before .for-run .ensures) ∙ at .if1 .left in
+    served-reply _ _ _ _ _ zero (c .served .ensures .0) (c .served .ensures .1 ∙ laid .run64 .kept .1 .1 .1 .1 .1 .0)
+    (laid .run64 .ensures ∙ held-run-64 (a .p) (a .counter .now) (a .offset) (a .input .now) (stretched _ _ _ _ _ _ _ zero .counter) (test .if2 .taken))
 
 run128-requires : tie.Need-run128-requires
 run128-requires c κs =
     let test = c .before .before in
     let at = test .before .before .before .before in
-    let h = asked-128 (served at) (test .if2 .left) in
-    (h .0, h .1, h .2, omega (arith, h .3), h .4)
+    ready _ _ _ (stretched _ _ _ _ _ _ _ (sym (at .before .for-run .ensures) ∙ at .if1 .left)) (size-128 _ (test .if2 .left))
 
 returns-3 : tie.Need-returns-3
 returns-3 c =
@@ -56,9 +44,9 @@ returns-3 c =
     let test = laid .before .before .before in
     let at = test .before .before .before .before in
     let a = at .before .before .before .before .before .args in
-    let sizes = asked-128 (served at) (test .if2 .left) in
-    served-reply _ _ _ _ _ (zero at) (c .served2 .ensures .0) (c .served2 .ensures .1 ∙ laid .run128 .kept .1 .1 .1 .1 .1 .0)
-    (laid .run128 .ensures ∙ held-run-128 (a .p) (a .counter .now) (a .offset) (a .input .now) (test .if2 .left) (sizes .2))
+    let zero = sym (at .before .for-run .ensures) ∙ at .if1 .left in
+    served-reply _ _ _ _ _ zero (c .served2 .ensures .0) (c .served2 .ensures .1 ∙ laid .run128 .kept .1 .1 .1 .1 .1 .0)
+    (laid .run128 .ensures ∙ held-run-128 (a .p) (a .counter .now) (a .offset) (a .input .now) (stretched _ _ _ _ _ _ _ zero .counter) (test .if2 .left))
 
 pub run-spec : {M : Type 1} → statement M
 run-spec =

@@ -1,24 +1,27 @@
 -- `four128::four128` meets its contract: the four sealed blocks are those of the stream from the one on that byte n begins.
 -- Assumes nothing.
-use mathlib.Core.Path.{ap, _∙_}
+use mathlib.Core.Path.{_≡_, sym, ap, _∙_}
+use mathlib.Core.Bool.{true}
 use mathlib.Core.List.{List}
 use Prim.Native.Nat.{ℕ}
 use native.Mathlib.Omega.{arith}
-use Rattle.fox_rounds.specs.Skeleton.{numbered, seal128}
+use Rattle.fox_rounds.specs.Skeleton.{numbered, size, turned, seal128}
 use Rattle.fox_rounds.specs.declared.fox128.Fox128.{Fox128}
+use Rattle.fox_rounds.specs.declared.state.State.the-variants.{Of128}
+use Rattle.fox_rounds.proofs.Laws.Skeleton.{sealed-128}
 use Rattle.fox_four.specs.Four.{sealFour128}
 use Rattle.fox_four.specs.declared.four128.Four128.{Four128}
 use Rattle.fox_lent.specs.Held.{held128}
-use Rattle.fox_cipher.specs.Block.{bytes128}
-use Rattle.fox_run.specs.States.{sealed128, stream128}
-use Rattle.fox_run.proofs.Laws.Streams.{length-sealed128}
+use Rattle.fox_cipher.specs.Block.{bytes128, bytes}
+use Rattle.fox_run.specs.States.{counted, sealed, stream}
+use Rattle.fox_run.proofs.Laws.Streams.{length-sealed, size-pos}
 use Rattle.fox_run.proofs.Laws.Four.{four-laid}
 use borrow.Author.Needs.{needs}
 use Rattle.fox_server_run128.proofs.four128.four128.Statement.{statement}
 use Rattle.fox_server_run128.proofs.four128.four128.Tie as tie
 
 returns : tie.Need-returns
-unfolding sealFour128 sealed128 stream128
+unfolding sealFour128 bytes size counted sealed stream
 returns c =
     let added = c .before .before in
     let made = added .before .before in
@@ -28,11 +31,12 @@ returns c =
     let four = made .seal-four128 .result in
     let whole = made .seal-four128 .ensures in
     let blocks = counted .counted-four128 .ensures in
-    let sealed : Fox128 → List ℕ = λ y. bytes128 (seal128 rks y) in
-    four-laid (sealed128 rks (a .x)) 16 (a .n) (bytes128 (four .first)) (bytes128 (four .second)) (bytes128 (four .third)) (bytes128 (four .fourth))
-    (a .input .now) (a .out .now) (omega arith) (length-sealed128 rks (a .x)) (counted .before .before .before .pre .1 .2)
-    (ap (λ (z : Four128). bytes128 (z .first)) whole ∙ ap sealed (blocks .0)) (ap (λ (z : Four128). bytes128 (z .second)) whole ∙ ap sealed (blocks .1))
-    (ap (λ (z : Four128). bytes128 (z .third)) whole ∙ ap sealed (blocks .2)) (ap (λ (z : Four128). bytes128 (z .fourth)) whole ∙ ap sealed (blocks .3))
+    let one : Fox128 → List ℕ = λ y. bytes128 (seal128 rks y) in
+    let is : (y : Fox128) → one y ≡ bytes (turned true rks (Of128 y)) = λ y. ap bytes (sym (sealed-128 rks y)) in
+    four-laid (sealed rks (Of128 (a .x))) 16 (a .n) (bytes128 (four .first)) (bytes128 (four .second)) (bytes128 (four .third)) (bytes128 (four .fourth))
+    (a .input .now) (a .out .now) (size-pos (Of128 (a .x))) (length-sealed rks (Of128 (a .x))) (counted .before .before .before .pre .1 .2)
+    (ap (λ (z : Four128). bytes128 (z .first)) whole ∙ ap one (blocks .0) ∙ is _) (ap (λ (z : Four128). bytes128 (z .second)) whole ∙ ap one (blocks .1) ∙ is _)
+    (ap (λ (z : Four128). bytes128 (z .third)) whole ∙ ap one (blocks .2) ∙ is _) (ap (λ (z : Four128). bytes128 (z .fourth)) whole ∙ ap one (blocks .3) ∙ is _)
     (added .add-four128 .ensures)
 
 pub four128-spec : {M : Type 1} → statement M

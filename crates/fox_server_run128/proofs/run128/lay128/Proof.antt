@@ -1,57 +1,57 @@
--- `run128::lay128` meets its contract: the first step ends with its block, or with the input; so what comes next begins a block, and each part goes on where
--- the one before it ended.
+-- `run128::lay128` meets its contract: whenever the loop's test is reached, the run's bytes stand in the output up to where the loop is, and the rest of it is
+-- as it was. A part of what is left gets on by a byte at least.
 -- Assumes nothing.
-use Prim.Native.Nat.{_+_}
+use mathlib.Core.Path.{_≡_}
+use Prim.Native.Nat.{_-_, _≤_, _<_}
 use native.Mathlib.Omega.{arith}
-use Rattle.fox_rounds.specs.Skeleton.{numbered}
-use Rattle.fox_lent.specs.Held.{held128}
-use Rattle.fox_run.specs.States.{stream128}
-use Rattle.fox_run.proofs.Laws.Steps.{step-boundary}
-use Rattle.fox_run.proofs.Laws.Four.{length-end, laid-three}
+use lib.ListN.{length}
 use borrow.Author.Needs.{needs}
+use Rattle.fox_rounds.specs.Skeleton.{numbered}
+use Rattle.fox_rounds.specs.declared.state.State.the-variants.{Of128}
+use Rattle.fox_lent.specs.Held.{held128}
+use Rattle.fox_run.specs.States.{stream}
+use Rattle.fox_run.specs.Steps.{Laid}
+use Rattle.fox_run.proofs.Laws.Laid.{laid-first, laid-last}
+use Rattle.fox_run.proofs.Laws.Steps.{part-within, part-some, part-laid}
 use Rattle.fox_server_run128.proofs.run128.lay128.Statement.{statement}
 use Rattle.fox_server_run128.proofs.run128.lay128.Tie as tie
 
-step128-requires : tie.Need-step128-requires
-step128-requires c κs =
-    let pre = c .before .before .before .pre in
-    (pre .0, (pre .1 .0, pre .1 .1, omega arith, pre .1 .3))
+abbrev Inv-loop : tie.InvT-loop
+Inv-loop s a b c d e f g h keys rounds x n input out₀ at₀ out at =
+    (at ≤ length input) × (length out ≡ length input) × Laid (stream (numbered (held128 keys) rounds 0) (Of128 x)) n input out₀ at out
 
-fours128-requires : tie.Need-fours128-requires
-fours128-requires c κs =
-    let one = c .before .before .before .before in
-    let pre = one .before .before .before .before .pre in
-    let ds = one .before .before .before .before .args .input .now in
-    let left = length-end (one .step128 .result) ds in (
-      pre .0,
-      (pre .1 .0, pre .1 .1, omega (arith, left), search needs, (λ more. step-boundary (omega arith) (one .step128 .ensures) (omega (arith, left)))),
-    )
+abbrev μ-loop : tie.MeasureT-loop
+μ-loop s a b c d e f g h keys rounds x n input out₀ at₀ out at = length input - at
 
-ones128-requires : tie.Need-ones128-requires
-ones128-requires c κs =
-    let two = c .before .before .before .before in
-    let one = two .before .before .before .before .before in
-    let pre = one .before .before .before .before .pre in
-    let ds = one .before .before .before .before .args .input .now in
-    let head = one .step128 .result in
-    let end = head + two .fours128 .result in (
-      pre .0,
-      (pre .1 .0, pre .1 .1, omega (arith, length-end end ds, length-end head ds, two .fours128 .ensures .0, one .step128 .ensures .count), search needs),
-    )
+loop-holds : tie.Need-loop-holds Inv-loop μ-loop
+loop-holds c =
+    let a = c .before .before .args in
+    (omega arith, search needs, laid-first _ (a .n) (a .input .now) (a .out .now))
 
-returns : tie.Need-returns
+part128-requires : tie.Need-part128-requires Inv-loop μ-loop
+part128-requires c κs =
+    let pre = c .before .before .before .before .before .before .pre in
+    (pre .0, (pre .1 .0, pre .1 .1, search needs, search needs))
+
+add-at : tie.Need-add-at Inv-loop μ-loop
+add-at c = omega (arith, part-within (c .before .before .before .before .before .before .loop .inv .0) (c .before .before .part128 .ensures))
+
+loop-less : tie.Need-loop-less Inv-loop μ-loop
+loop-less c =
+    let inv = c .before .before .before .before .before .before .loop .inv in
+    omega (arith, part-some (inv .0) (c .before .before .part128 .ensures) (search needs))
+
+loop-again : tie.Need-loop-again Inv-loop μ-loop
+loop-again c =
+    let at = c .before .before .before .before .before .before in
+    part-laid (at .loop .inv .0) (c .before .before .part128 .ensures) (at .before .before .before .pre .1 .3) (at .loop .inv .2)
+
+returns : tie.Need-returns Inv-loop μ-loop
 returns c =
-    let three = c .before .before in
-    let two = three .before .before .before .before .before in
-    let one = two .before .before .before .before .before in
-    let a = one .before .before .before .before .args in
-    let f = stream128 (numbered (held128 (a .keys .now)) (a .rounds) 0) (a .x) in
-    laid-three f (a .n) (one .step128 .result) (two .fours128 .result) (a .input .now) (a .out .now) (one .step128 .last .1 .1 .1 .1 .1 .1 .1 .1 .1 .1 .1 .1 .1 .1 .0)
-    (two .fours128 .last .1 .1 .1 .1 .1 .1 .1 .1 .1 .1 .1 .1 .1 .1 .0) (three .ones128 .last .1 .1 .1 .1 .1 .1 .1 .1 .1 .1 .1 .1 .1 .1 .0) (one .before .before .before .before .pre .1 .3)
-    (omega (arith, one .step128 .ensures .count)) (one .step128 .ensures .output) (two .fours128 .ensures) (three .ones128 .ensures)
+    let a = c .before .before .before .before .args in
+    laid-last _ (a .n) (a .input .now) (a .out .now) (c .before .loop .at) (c .before .before .before .before .pre .1 .3) (search needs) (c .before .loop .inv .2)
 
 pub lay128-spec : {M : Type 1} → statement M
 lay128-spec =
-    tie.close (tie.spec step128-requires (λ c. search needs) (λ c. search needs) (λ c. search needs) (λ c. search needs) (λ c. search needs)
-    (λ c. search needs) (λ c. search needs) fours128-requires (λ c. search needs) (λ c. search needs) (λ c. search needs) (λ c. search needs)
-    (λ c. search needs) (λ c. search needs) (λ c. search needs) (λ c. search needs) ones128-requires (λ c. search needs) returns)
+    tie.close (tie.spec Inv-loop μ-loop loop-holds (λ c. search needs) (λ c. search needs) (λ c. search needs) (λ c. search needs) (λ c. search needs)
+    (λ c. search needs) (λ c. search needs) part128-requires add-at loop-less loop-again (λ c. search needs) returns)

@@ -3,9 +3,10 @@
 use mathlib.Core.Path.{ap, _∙_}
 use Rattle.fox_rounds.specs.Skeleton.{numbered}
 use Rattle.fox_rounds.specs.declared.fox128.Fox128.{Fox128}
+use Rattle.fox_rounds.specs.declared.state.State.the-variants.{Of128}
 use Rattle.fox_lent.specs.Held.{held128}
 use Rattle.fox_run.specs.Run.{addedFrom}
-use Rattle.fox_run.specs.States.{stream128}
+use Rattle.fox_run.specs.States.{stream}
 use borrow.Author.Needs.{needs}
 use Rattle.fox_server_run128.proofs.run128.run128.Statement.{statement}
 use Rattle.fox_server_run128.proofs.run128.run128.Tie as tie
@@ -16,7 +17,7 @@ returns c =
     let x = laid .before .before .before .before .before .before .before .before .before .before .before .before in
     let a = x .before .before .before .before .before .before .args in
     laid .lay128 .ensures
-    ∙ ap (λ (y : Fox128). addedFrom (stream128 (numbered (held128 (a .keys .now)) (a .rounds) 0) y) (a .n) (a .input .now)) (x .read128 .ensures)
+    ∙ ap (λ (y : Fox128). addedFrom (stream (numbered (held128 (a .keys .now)) (a .rounds) 0) (Of128 y)) (a .n) (a .input .now)) (x .read128 .ensures)
 
 pub run128-spec : {M : Type 1} → statement M
 run128-spec =

@@ -1,28 +1,28 @@
 -- `run128::step128` meets its contract: the pad is the sealed counter block that the byte is in.
 -- Assumes nothing.
+use mathlib.Core.Bool.{true}
 use mathlib.Core.Path.{ap, _∙_}
-use native.Mathlib.Omega.{arith}
-use Rattle.fox_rounds.specs.Skeleton.{numbered, seal128}
+use Rattle.fox_rounds.specs.Skeleton.{numbered, size, turned}
+use Rattle.fox_rounds.specs.declared.fox128.Fox128.{Fox128}
+use Rattle.fox_rounds.specs.declared.state.State.the-variants.{Of128}
 use Rattle.fox_lent.specs.Held.{held128}
-use Rattle.fox_cipher.specs.Block.{bytes128}
-use Rattle.fox_run.specs.States.{sealed128, stream128}
-use Rattle.fox_run.proofs.Laws.Streams.{length-sealed128}
-use Rattle.fox_run.proofs.Laws.Steps.{step-made}
+use Rattle.fox_cipher.specs.Block.{bytes}
+use Rattle.fox_run.specs.States.{counted, sealed, stream}
+use Rattle.fox_run.proofs.Laws.Streams.{length-sealed, size-pos}
+use Rattle.fox_run.proofs.Laws.Steps.{part-made}
 use borrow.Author.Needs.{needs}
 use Rattle.fox_server_run128.proofs.run128.step128.Statement.{statement}
 use Rattle.fox_server_run128.proofs.run128.step128.Tie as tie
 
 returns : tie.Need-returns
-unfolding sealed128 stream128
+unfolding size counted sealed stream
 returns c =
     let call = c .before .before in
     let made = call .before .before in
     let a = made .before .before .before .before .args in
     let rks = numbered (held128 (a .keys .now)) (a .rounds) 0 in
-    step-made 16 (sealed128 rks (a .x)) (omega arith) (length-sealed128 rks (a .x)) (a .n) (call .add-part128 .result) (bytes128 (made .seal128 .result))
-    (a .input .now) (a .out .now) _
-    (ap bytes128 (made .seal128 .ensures ∙ ap (seal128 rks) (made .before .counted128 .ensures)))
-    (call .add-part128 .ensures .0) (call .add-part128 .ensures .1)
+    part-made 16 (sealed rks (Of128 (a .x))) (size-pos (Of128 (a .x))) (length-sealed rks (Of128 (a .x))) (a .n)
+    (ap bytes (made .turn128 .ensures ∙ ap (λ (y : Fox128). turned true rks (Of128 y)) (made .before .counted128 .ensures))) (call .add-part .ensures)
 
 pub step128-spec : {M : Type 1} → statement M
 step128-spec =

@@ -1,57 +1,57 @@
--- `run64::lay64` meets its contract: the first step ends with its block, or with the input; so what comes next begins a block, and each part goes on where
--- the one before it ended.
+-- `run64::lay64` meets its contract: whenever the loop's test is reached, the run's bytes stand in the output up to where the loop is, and the rest of it is
+-- as it was. A part of what is left gets on by a byte at least.
 -- Assumes nothing.
-use Prim.Native.Nat.{_+_}
+use mathlib.Core.Path.{_≡_}
+use Prim.Native.Nat.{_-_, _≤_, _<_}
 use native.Mathlib.Omega.{arith}
-use Rattle.fox_rounds.specs.Skeleton.{numbered}
-use Rattle.fox_lent.specs.Held.{held64}
-use Rattle.fox_run.specs.States.{stream64}
-use Rattle.fox_run.proofs.Laws.Steps.{step-boundary}
-use Rattle.fox_run.proofs.Laws.Four.{length-end, laid-three}
+use lib.ListN.{length}
 use borrow.Author.Needs.{needs}
+use Rattle.fox_rounds.specs.Skeleton.{numbered}
+use Rattle.fox_rounds.specs.declared.state.State.the-variants.{Of64}
+use Rattle.fox_lent.specs.Held.{held64}
+use Rattle.fox_run.specs.States.{stream}
+use Rattle.fox_run.specs.Steps.{Laid}
+use Rattle.fox_run.proofs.Laws.Laid.{laid-first, laid-last}
+use Rattle.fox_run.proofs.Laws.Steps.{part-within, part-some, part-laid}
 use Rattle.fox_server_run64.proofs.run64.lay64.Statement.{statement}
 use Rattle.fox_server_run64.proofs.run64.lay64.Tie as tie
 
-step64-requires : tie.Need-step64-requires
-step64-requires c κs =
-    let pre = c .before .before .before .pre in
-    (pre .0, (pre .1 .0, pre .1 .1, omega arith, pre .1 .3))
+abbrev Inv-loop : tie.InvT-loop
+Inv-loop s a b c d keys rounds x n input out₀ at₀ out at =
+    (at ≤ length input) × (length out ≡ length input) × Laid (stream (numbered (held64 keys) rounds 0) (Of64 x)) n input out₀ at out
 
-fours64-requires : tie.Need-fours64-requires
-fours64-requires c κs =
-    let one = c .before .before .before .before in
-    let pre = one .before .before .before .before .pre in
-    let ds = one .before .before .before .before .args .input .now in
-    let left = length-end (one .step64 .result) ds in (
-      pre .0,
-      (pre .1 .0, pre .1 .1, omega (arith, left), search needs, (λ more. step-boundary (omega arith) (one .step64 .ensures) (omega (arith, left)))),
-    )
+abbrev μ-loop : tie.MeasureT-loop
+μ-loop s a b c d keys rounds x n input out₀ at₀ out at = length input - at
 
-ones64-requires : tie.Need-ones64-requires
-ones64-requires c κs =
-    let two = c .before .before .before .before in
-    let one = two .before .before .before .before .before in
-    let pre = one .before .before .before .before .pre in
-    let ds = one .before .before .before .before .args .input .now in
-    let head = one .step64 .result in
-    let end = head + two .fours64 .result in (
-      pre .0,
-      (pre .1 .0, pre .1 .1, omega (arith, length-end end ds, length-end head ds, two .fours64 .ensures .0, one .step64 .ensures .count), search needs),
-    )
+loop-holds : tie.Need-loop-holds Inv-loop μ-loop
+loop-holds c =
+    let a = c .before .before .args in
+    (omega arith, search needs, laid-first _ (a .n) (a .input .now) (a .out .now))
 
-returns : tie.Need-returns
+part64-requires : tie.Need-part64-requires Inv-loop μ-loop
+part64-requires c κs =
+    let pre = c .before .before .before .before .before .before .pre in
+    (pre .0, (pre .1 .0, pre .1 .1, search needs, search needs))
+
+add-at : tie.Need-add-at Inv-loop μ-loop
+add-at c = omega (arith, part-within (c .before .before .before .before .before .before .loop .inv .0) (c .before .before .part64 .ensures))
+
+loop-less : tie.Need-loop-less Inv-loop μ-loop
+loop-less c =
+    let inv = c .before .before .before .before .before .before .loop .inv in
+    omega (arith, part-some (inv .0) (c .before .before .part64 .ensures) (search needs))
+
+loop-again : tie.Need-loop-again Inv-loop μ-loop
+loop-again c =
+    let at = c .before .before .before .before .before .before in
+    part-laid (at .loop .inv .0) (c .before .before .part64 .ensures) (at .before .before .before .pre .1 .3) (at .loop .inv .2)
+
+returns : tie.Need-returns Inv-loop μ-loop
 returns c =
-    let three = c .before .before in
-    let two = three .before .before .before .before .before in
-    let one = two .before .before .before .before .before in
-    let a = one .before .before .before .before .args in
-    let f = stream64 (numbered (held64 (a .keys .now)) (a .rounds) 0) (a .x) in
-    laid-three f (a .n) (one .step64 .result) (two .fours64 .result) (a .input .now) (a .out .now) (one .step64 .last .1 .1 .1 .1 .1 .1 .1 .1 .1 .1 .0)
-    (two .fours64 .last .1 .1 .1 .1 .1 .1 .1 .1 .1 .1 .0) (three .ones64 .last .1 .1 .1 .1 .1 .1 .1 .1 .1 .1 .0) (one .before .before .before .before .pre .1 .3)
-    (omega (arith, one .step64 .ensures .count)) (one .step64 .ensures .output) (two .fours64 .ensures) (three .ones64 .ensures)
+    let a = c .before .before .before .before .args in
+    laid-last _ (a .n) (a .input .now) (a .out .now) (c .before .loop .at) (c .before .before .before .before .pre .1 .3) (search needs) (c .before .loop .inv .2)
 
 pub lay64-spec : {M : Type 1} → statement M
 lay64-spec =
-    tie.close (tie.spec step64-requires (λ c. search needs) (λ c. search needs) (λ c. search needs) (λ c. search needs) (λ c. search needs)
-    (λ c. search needs) (λ c. search needs) fours64-requires (λ c. search needs) (λ c. search needs) (λ c. search needs) (λ c. search needs)
-    (λ c. search needs) (λ c. search needs) (λ c. search needs) (λ c. search needs) ones64-requires (λ c. search needs) returns)
+    tie.close (tie.spec Inv-loop μ-loop loop-holds (λ c. search needs) (λ c. search needs) (λ c. search needs) (λ c. search needs) (λ c. search needs)
+    (λ c. search needs) (λ c. search needs) part64-requires add-at loop-less loop-again (λ c. search needs) returns)

@@ -3,9 +3,10 @@
 use mathlib.Core.Path.{ap, _∙_}
 use Rattle.fox_rounds.specs.Skeleton.{numbered}
 use Rattle.fox_rounds.specs.declared.fox64.Fox64.{Fox64}
+use Rattle.fox_rounds.specs.declared.state.State.the-variants.{Of64}
 use Rattle.fox_lent.specs.Held.{held64}
 use Rattle.fox_run.specs.Run.{addedFrom}
-use Rattle.fox_run.specs.States.{stream64}
+use Rattle.fox_run.specs.States.{stream}
 use borrow.Author.Needs.{needs}
 use Rattle.fox_server_run64.proofs.run64.run64.Statement.{statement}
 use Rattle.fox_server_run64.proofs.run64.run64.Tie as tie
@@ -16,7 +17,7 @@ returns c =
     let x = laid .before .before .before .before .before .before .before .before in
     let a = x .before .before .before .before .before .before .args in
     laid .lay64 .ensures
-    ∙ ap (λ (y : Fox64). addedFrom (stream64 (numbered (held64 (a .keys .now)) (a .rounds) 0) y) (a .n) (a .input .now)) (x .read64 .ensures)
+    ∙ ap (λ (y : Fox64). addedFrom (stream (numbered (held64 (a .keys .now)) (a .rounds) 0) (Of64 y)) (a .n) (a .input .now)) (x .read64 .ensures)
 
 pub run64-spec : {M : Type 1} → statement M
 run64-spec =

@@ -1,28 +1,28 @@
 -- `run64::step64` meets its contract: the pad is the sealed counter block that the byte is in.
 -- Assumes nothing.
+use mathlib.Core.Bool.{true}
 use mathlib.Core.Path.{ap, _∙_}
-use native.Mathlib.Omega.{arith}
-use Rattle.fox_rounds.specs.Skeleton.{numbered, seal64}
+use Rattle.fox_rounds.specs.Skeleton.{numbered, size, turned}
+use Rattle.fox_rounds.specs.declared.fox64.Fox64.{Fox64}
+use Rattle.fox_rounds.specs.declared.state.State.the-variants.{Of64}
 use Rattle.fox_lent.specs.Held.{held64}
-use Rattle.fox_cipher.specs.Block.{bytes64}
-use Rattle.fox_run.specs.States.{sealed64, stream64}
-use Rattle.fox_run.proofs.Laws.Streams.{length-sealed64}
-use Rattle.fox_run.proofs.Laws.Steps.{step-made}
+use Rattle.fox_cipher.specs.Block.{bytes}
+use Rattle.fox_run.specs.States.{counted, sealed, stream}
+use Rattle.fox_run.proofs.Laws.Streams.{length-sealed, size-pos}
+use Rattle.fox_run.proofs.Laws.Steps.{part-made}
 use borrow.Author.Needs.{needs}
 use Rattle.fox_server_run64.proofs.run64.step64.Statement.{statement}
 use Rattle.fox_server_run64.proofs.run64.step64.Tie as tie
 
 returns : tie.Need-returns
-unfolding sealed64 stream64
+unfolding size counted sealed stream
 returns c =
     let call = c .before .before in
     let made = call .before .before in
     let a = made .before .before .before .before .args in
     let rks = numbered (held64 (a .keys .now)) (a .rounds) 0 in
-    step-made 8 (sealed64 rks (a .x)) (omega arith) (length-sealed64 rks (a .x)) (a .n) (call .add-part64 .result) (bytes64 (made .seal64 .result))
-    (a .input .now) (a .out .now) _
-    (ap bytes64 (made .seal64 .ensures ∙ ap (seal64 rks) (made .before .counted64 .ensures)))
-    (call .add-part64 .ensures .0) (call .add-part64 .ensures .1)
+    part-made 8 (sealed rks (Of64 (a .x))) (size-pos (Of64 (a .x))) (length-sealed rks (Of64 (a .x))) (a .n)
+    (ap bytes (made .turn64 .ensures ∙ ap (λ (y : Fox64). turned true rks (Of64 y)) (made .before .counted64 .ensures))) (call .add-part .ensures)
 
 pub step64-spec : {M : Type 1} → statement M
 step64-spec =

@@ -1,0 +1,87 @@
+-- What the demands say of the calls that C programs make, by either way: what an export hands back is a call's reply, so every theorem on calls speaks of exports.
+-- Assumes nothing.
+use mathlib.Core.Path.{_≡_, refl, sym, ap, _∙_}
+use mathlib.Core.Bool.{Bool, not, cond}
+use mathlib.Core.List.{List}
+use Prim.Native.Nat.{ℕ, _+_, _≤_}
+use lib.Dec.{eqb}
+use lib.ListN.{length, take, drop}
+use Rattle.fox_calls.specs.Refusals.{Refusal, blockSize, Keyed}
+use Rattle.fox_calls.specs.Reply.{Refused}
+use Rattle.fox_calls.specs.Handed.{Handed, answer}
+use Rattle.fox_calls.specs.declared.answer.Answer.{Answer}
+use Rattle.fox_calls.proofs.Laws.Reply.{refused, handed-reply}
+use Rattle.fox_schedule.specs.Schedule.{roundKeys}
+use Rattle.fox_cipher.specs.Block.{BlockOf}
+use Rattle.fox_cipher.specs.Calls.{TurnedBack}
+use Rattle.fox_cipher.proofs.Undoing.{turned-back-calls}
+use Rattle.fox_run.specs.Run.{run}
+use Rattle.fox_run.specs.Calls.{Runs}
+use Rattle.fox_run.specs.Cuts.{CallsOf, CutOf}
+use Rattle.fox_run.proofs.Undoing.{opened-sealed}
+use Rattle.fox_run.proofs.Stretches.{stretch-opened-alone, cuts-joined, cuts-agree, cuts-undone, cuts-served, calls-are, cut-is}
+use Rattle.fox_station.specs.Exports.{TurnHanded, RunHanded, RunExport}
+
+-- a refused export leaves the output as it was, and its count is 0
+pub export-refused : {rs : List Refusal} {value before after : List ℕ} {n : ℕ} → Handed rs value before after n → (n ≡ 0 → ⊥)
+    → Refused rs before after (answer n (length before))
+unfolding answer
+export-refused h isnt = refused (handed-reply h) isnt
+
+-- two exports that are lent the same answer the same
+pub exports-agree : {rs : List Refusal} {value before after₁ after₂ : List ℕ} {m n : ℕ} → Handed rs value before after₁ m → Handed rs value before after₂ n
+    → (m ≡ n) × (after₁ ≡ after₂)
+exports-agree g h = (g .refusal ∙ sym (h .refusal), g .output ∙ sym (h .output))
+
+-- a block sealed or opened by one export and turned back by another: both are served, and the block is handed back
+module _ (d : Bool) (c rounds : ℕ) (key block : List ℕ) (k : Keyed c rounds (length key)) (b : BlockOf c block) where
+  pub block-turned-back : {before mid before-back after : List ℕ} {m n : ℕ} → length before ≡ blockSize c → length before-back ≡ blockSize c
+      → TurnHanded d c rounds key block before mid m → TurnHanded (not d) c rounds key mid before-back after n
+      → TurnedBack c block after (answer m (length before)) (answer n (length before-back))
+  block-turned-back room room-back first second =
+      turned-back-calls d c rounds (length key) (roundKeys c rounds key) block k b room room-back (handed-reply first) (handed-reply second)
+
+module _ (c rounds : ℕ) (key counter : List ℕ) where
+  export-runs : (offset : ℕ) (ds : List ℕ) {before after : List ℕ} {r : Answer} → RunExport c rounds key counter offset ds before after r
+      → Runs c rounds key counter offset ds before after r
+  export-runs offset ds {before} e =
+      record {
+        refusal = e .number .refusal;
+        count = e .count ∙ ap (λ (n : ℕ). cond (eqb n 0) (length before) 0) (e .number .refusal);
+        output = e .number .output;
+      }
+
+  -- what a served export wrote, handed to another with an output of its length, is served and gives the bytes again
+  pub run-opened-sealed : (offset : ℕ) (ds : List ℕ) {before after before₂ after₂ : List ℕ} {n : ℕ} → RunHanded c rounds key counter offset ds before after 0
+      → RunHanded c rounds key counter offset after before₂ after₂ n → length before₂ ≡ length after → (n ≡ 0) × (after₂ ≡ ds)
+  unfolding answer
+  run-opened-sealed offset ds seal «open» size =
+      let s = opened-sealed c rounds (length key) (roundKeys c rounds key) counter offset ds (handed-reply seal) refl (handed-reply «open») size in
+      (s .refusal, s .output)
+
+  -- any m bytes of a run, at any byte k of it, opened alone by any export
+  pub stretch-opened : (whole : List ℕ) (k m : ℕ) {before after : List ℕ} {n : ℕ} → Keyed c rounds (length key) → length counter ≡ blockSize c
+      → length whole ≤ 1073741824 → k + m ≤ length whole → m ≤ 65536 → length before ≡ m
+      → RunHanded c rounds key counter k (take m (drop k whole)) before after n → (n ≡ 0) × (after ≡ take m (drop k (run c rounds key counter 0 whole)))
+  unfolding answer
+  stretch-opened whole k m keyed size long fits short room call =
+      let s = stretch-opened-alone c rounds (length key) (roundKeys c rounds key) counter whole k m keyed size long fits short room (handed-reply call) in
+      (s .refusal, s .output)
+
+  -- a run cut anywhere, each stretch by some export: all are served, and the outputs, joined, are the run
+  pub exports-served : {n : ℕ} {inputs outputs : List ℕ} → Keyed c rounds (length key) → length counter ≡ blockSize c → n + length inputs ≤ 1073741824
+      → CutOf (RunExport c rounds key counter) n inputs outputs → CallsOf (Runs c rounds key counter) n inputs outputs
+  exports-served k size fits cut = cuts-served c rounds (length key) (roundKeys c rounds key) counter k size fits (cut-is export-runs cut)
+
+  pub exports-joined : {n : ℕ} {inputs outputs : List ℕ} → CallsOf (RunExport c rounds key counter) n inputs outputs → outputs ≡ run c rounds key counter n inputs
+  exports-joined calls = cuts-joined c rounds (length key) (roundKeys c rounds key) counter (calls-are export-runs calls)
+
+  -- whatever the cuts and whatever the exports
+  pub exports-cut-agree : {n : ℕ} {inputs one other : List ℕ} → CallsOf (RunExport c rounds key counter) n inputs one
+      → CallsOf (RunExport c rounds key counter) n inputs other → one ≡ other
+  exports-cut-agree a b = cuts-agree c rounds (length key) (roundKeys c rounds key) counter (calls-are export-runs a) (calls-are export-runs b)
+
+  -- sealed in some stretches and opened in others
+  pub exports-cut-undone : {n : ℕ} {inputs sealed opened : List ℕ} → CallsOf (RunExport c rounds key counter) n inputs sealed
+      → CallsOf (RunExport c rounds key counter) n sealed opened → opened ≡ inputs
+  exports-cut-undone a b = cuts-undone c rounds (length key) (roundKeys c rounds key) counter (calls-are export-runs a) (calls-are export-runs b)
