@@ -14,7 +14,7 @@ use Rattle.fox_calls.specs.Reply.{Served}
 use Rattle.fox_calls.specs.declared.answer.Answer.{Answer}
 use Rattle.fox_run.specs.Run.{addedFrom, runWith}
 use Rattle.fox_run.specs.Calls.{RunsWith}
-use Rattle.fox_run.specs.Cuts.{Call, CallsOf, CutOf, eachAlone}
+use Rattle.fox_run.specs.Cuts.{Call, CallsOf, CutOf, none, next, eachAlone}
 use Rattle.fox_run.proofs.Laws.Added.{addedFrom-from, addedFrom-append, addedFrom-part}
 use Rattle.fox_run.proofs.Laws.Calls.{call-served, call-did}
 use Rattle.fox_run.proofs.Undoing.{run-twice}
@@ -79,15 +79,15 @@ module _ (c rounds keyLen : ℕ) (rks counter : List ℕ) where
   cuts-opened h size fits cut = cuts-joined (cuts-served h size fits cut)
 
 -- calls of one kind are calls of another, where each is
-pub calls-are : {P Q : Call} → ((n : ℕ) (ds : List ℕ) {before after : List ℕ} {r : Answer} → P n ds before after r → Q n ds before after r)
+pub calls-are : {P Q : Call} → ((n : ℕ) (ds before after : List ℕ) (r : Answer) → P n ds before after r → Q n ds before after r)
     → {n : ℕ} {inputs outputs : List ℕ} → CallsOf P n inputs outputs → CallsOf Q n inputs outputs
 calls-are f none = none
-calls-are f {n} (next ds call e rest) = next ds (f n ds call) e (calls-are f rest)
+calls-are f {n} (next ds call e rest) = next ds (f n ds _ _ _ call) e (calls-are f rest)
 
-pub cut-is : {P Q : Call} → ((n : ℕ) (ds : List ℕ) {before after : List ℕ} {r : Answer} → P n ds before after r → Q n ds before after r)
+pub cut-is : {P Q : Call} → ((n : ℕ) (ds before after : List ℕ) (r : Answer) → P n ds before after r → Q n ds before after r)
     → {n : ℕ} {inputs outputs : List ℕ} → CutOf P n inputs outputs → CutOf Q n inputs outputs
 cut-is f none = none
-cut-is f {n} (next ds short room call rest) = next ds short room (f n ds call) (cut-is f rest)
+cut-is f {n} (next ds short room call rest) = next ds short room (f n ds _ _ _ call) (cut-is f rest)
 
 -- the pieces of a run opened one by one, on the definitions
 pub cut-run : (c : ℕ) (rks counter : List ℕ) (n : ℕ) (pieces : List (List ℕ))

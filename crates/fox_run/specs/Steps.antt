@@ -26,6 +26,6 @@ pub record Part (stream : ℕ → ℕ) (n : ℕ) (input before after : List ℕ)
 pub record Ready (B rounds : ℕ) (counter : List ℕ) (n : ℕ) (input out : List ℕ) : Type 0 where
   pub some : 1 ≤ rounds
   pub few : rounds ≤ 255
-  pub counter : length counter ≡ B
+  pub block : length counter ≡ B
   pub end : n + length input ≤ 1073741824
   pub output : length out ≡ length input

@@ -11,7 +11,8 @@ ghost use Rattle.fox_cipher.specs.Block.{bytes64, bytes128, bytes};
 ghost use Rattle.fox_run.specs.Steps.{Added};
 use fox_calls::bytes::load4;
 use fox_calls::bytes::store4;
-use fox_cipher::blocks::write;
+use fox_cipher::blocks::write64;
+use fox_cipher::blocks::write128;
 use fox_rounds::fox64::Fox64;
 use fox_rounds::fox128::Fox128;
 use fox_rounds::state::State;
@@ -34,15 +35,33 @@ fn add(pad: &[u8], input: &[u8], out: &mut [u8]) -> usize
     end
 }
 
-// The bytes of a block from its byte number skip on.
+// The bytes of a block from its byte number skip on: for each cipher, and for whichever it is.
+pub fn add_part64(x: Fox64, skip: usize, input: &[u8], out: &mut [u8]) -> usize
+    requires { ⌜ (skip < 8) × (length (now out) ≡ length (now input)) ⌝ }
+    ensures { λ r. ⌜ Added (drop skip (bytes64 x)) (now (input .entry)) (now (out .entry)) (now (out .exit)) r ⌝ }
+{
+    let mut pad = [0; 8];
+    write64(&mut pad, x);
+    add(&pad[skip..], input, out)
+}
+
+pub fn add_part128(x: Fox128, skip: usize, input: &[u8], out: &mut [u8]) -> usize
+    requires { ⌜ (skip < 16) × (length (now out) ≡ length (now input)) ⌝ }
+    ensures { λ r. ⌜ Added (drop skip (bytes128 x)) (now (input .entry)) (now (out .entry)) (now (out .exit)) r ⌝ }
+{
+    let mut pad = [0; 16];
+    write128(&mut pad, x);
+    add(&pad[skip..], input, out)
+}
+
 pub fn add_part(x: State, skip: usize, input: &[u8], out: &mut [u8]) -> usize
     requires { ⌜ (skip < size x) × (length (now out) ≡ length (now input)) ⌝ }
     ensures { λ r. ⌜ Added (drop skip (bytes x)) (now (input .entry)) (now (out .entry)) (now (out .exit)) r ⌝ }
 {
-    let end = x.size();
-    let mut pad = [0; 16];
-    write(&mut pad[0..end], x);
-    add(&pad[skip..end], input, out)
+    match x {
+        State::Of64(y) => add_part64(y, skip, input, out),
+        State::Of128(y) => add_part128(y, skip, input, out),
+    }
 }
 
 // Two words added to the first eight bytes.

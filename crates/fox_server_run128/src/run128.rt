@@ -14,9 +14,8 @@ use crate::four128::four128;
 use fox_cipher::blocks::read128;
 use fox_lent::lent128::turn128;
 use fox_rounds::fox128::Fox128;
-use fox_rounds::state::State;
 use fox_run::counter::counted128;
-use fox_run::pads::add_part;
+use fox_run::pads::add_part128;
 use fox_tables::joined8;
 use fox_tables::moved;
 
@@ -44,7 +43,7 @@ fn step128<'a>(
 {
     let block = counted128(x, (n / 16) as u32);
     let sealed = turn128(true, s, a, b, c, d, e, f, g, h, keys, rounds, block);
-    add_part(State::Of128(sealed), n % 16, input, out)
+    add_part128(sealed, n % 16, input, out)
 }
 
 // Four whole blocks where byte n begins one and there are so many; else as far as its block goes.

@@ -14,9 +14,8 @@ use crate::four64::four64;
 use fox_cipher::blocks::read64;
 use fox_lent::lent64::turn64;
 use fox_rounds::fox64::Fox64;
-use fox_rounds::state::State;
 use fox_run::counter::counted64;
-use fox_run::pads::add_part;
+use fox_run::pads::add_part64;
 use fox_tables::joined4;
 use fox_tables::moved;
 
@@ -40,7 +39,7 @@ fn step64<'a>(
 {
     let block = counted64(x, (n / 8) as u32);
     let sealed = turn64(true, s, a, b, c, d, keys, rounds, block);
-    add_part(State::Of64(sealed), n % 8, input, out)
+    add_part64(sealed, n % 8, input, out)
 }
 
 // Four whole blocks where byte n begins one and there are so many; else as far as its block goes.

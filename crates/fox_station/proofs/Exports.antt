@@ -42,9 +42,9 @@ module _ (d : Bool) (c rounds : ℕ) (key block : List ℕ) (k : Keyed c rounds 
       turned-back-calls d c rounds (length key) (roundKeys c rounds key) block k b room room-back (handed-reply first) (handed-reply second)
 
 module _ (c rounds : ℕ) (key counter : List ℕ) where
-  export-runs : (offset : ℕ) (ds : List ℕ) {before after : List ℕ} {r : Answer} → RunExport c rounds key counter offset ds before after r
+  export-runs : (offset : ℕ) (ds before after : List ℕ) (r : Answer) → RunExport c rounds key counter offset ds before after r
       → Runs c rounds key counter offset ds before after r
-  export-runs offset ds {before} e =
+  export-runs offset ds before after r e =
       record {
         refusal = e .number .refusal;
         count = e .count ∙ ap (λ (n : ℕ). cond (eqb n 0) (length before) 0) (e .number .refusal);

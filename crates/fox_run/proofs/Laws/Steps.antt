@@ -30,7 +30,7 @@ part-made B block pos size n {pad} {ds} {os} {after} {r} made added =
     }
 
 -- a part in a loop that lays the stretch ds down from byte n on: at bytes of it are laid, and the part is of what is left
-module _ {f : ℕ → ℕ} {n at r : ℕ} {ds os now part : List ℕ} (h : at ≤ length ds)
+module _ (n at : ℕ) (ds now : List ℕ) {f : ℕ → ℕ} {part : List ℕ} {r : ℕ} (h : at ≤ length ds)
     (p : Part f (n + at) (midOf at (length ds - at) ds) (midOf at (length now - at) now) part r) where
   pub part-within : at + r ≤ length ds
   part-within = omega (arith, p .within, length-end at ds)
@@ -39,8 +39,8 @@ module _ {f : ℕ → ℕ} {n at r : ℕ} {ds os now part : List ℕ} (h : at �
   pub part-some : at < length ds → 1 ≤ r
   part-some more = p .some (omega (arith, length-end at ds))
 
-  pub part-laid : length os ≡ length ds → Laid f n ds os at now
+  pub part-laid : (os : List ℕ) → length os ≡ length ds → Laid f n ds os at now
       → (at + r ≤ length ds) × (length (putMid at (length now - at) now part) ≡ length ds) × Laid f n ds os (at + r) (putMid at (length now - at) now part)
-  part-laid l laid =
+  part-laid os l laid =
       let next = laid-next f n ds os at r now part part-within l laid (p .output) in
       (part-within, laid-length f n ds os (at + r) part-within l next, next)

@@ -24,7 +24,7 @@ use Rattle.fox_run.proofs.Laws.Streams.{run-streamed}
 pub ready : {c r k n B : ℕ} (counter input out : List ℕ) → Stretched c r k (length counter) n (length input) (length out) → blockSize c ≡ B
     → Ready B r counter n input out
 ready counter input out s size =
-    record { some = omega (arith, s .keyed .low); few = s .keyed .high; counter = s .counter ∙ size; end = s .end; output = s .output }
+    record { some = omega (arith, s .keyed .low); few = s .keyed .high; block = s .counter ∙ size; end = s .end; output = s .output }
 
 module _ (p : Prepared) (counter : List ℕ) (n : ℕ) (ds : List ℕ) (e : length counter ≡ blockSize (p .cipher)) where
   pub held-run-64 : p .cipher ≡ 64

@@ -12,7 +12,7 @@ returns c = (rw (c .if1 .taken), search needs)
 
 returns-2 : tie.Need-returns-2
 unfolding place
-returns-2 c = (rw (c .before .before .if1 .left), search needs)
+returns-2 c = (rw (c .if1 .left), search needs)
 
 pub place-spec : {M : Type 1} → statement M
-place-spec = tie.close (tie.spec returns (λ c. search needs) (λ c. search needs) returns-2)
+place-spec = tie.close (tie.spec (λ c. search needs) (λ c. search needs) returns returns-2)

@@ -15,14 +15,14 @@ use Rattle.fox_server_run128.proofs.run128.step128.Statement.{statement
 use Rattle.fox_server_run128.proofs.run128.step128.Tie as tie
 
 returns : tie.Need-returns
-unfolding size counted sealed stream
+unfolding bytes size counted sealed stream
 returns c =
     let call = c .before .before in
     let made = call .before .before in
     let a = made .before .before .before .before .args in
     let rks = numbered (held128 (a .keys .now)) (a .rounds) 0 in
     part-made 16 (sealed rks (Of128 (a .x))) (size-pos (Of128 (a .x))) (length-sealed rks (Of128 (a .x))) (a .n)
-    (ap bytes (made .turn128 .ensures ∙ ap (λ (y : Fox128). turned true rks (Of128 y)) (made .before .counted128 .ensures))) (call .add-part .ensures)
+    (ap bytes (made .turn128 .ensures ∙ ap (λ (y : Fox128). turned true rks (Of128 y)) (made .before .counted128 .ensures))) (call .add-part128 .ensures)
 
 pub step128-spec : {M : Type 1} → statement M
 step128-spec =

@@ -34,17 +34,19 @@ part64-requires c κs =
     (pre .0, (pre .1 .0, pre .1 .1, search needs, search needs))
 
 add-at : tie.Need-add-at Inv-loop μ-loop
-add-at c = omega (arith, part-within (c .before .before .before .before .before .before .loop .inv .0) (c .before .before .part64 .ensures))
+add-at c =
+    let at = c .before .before .before .before .before .before in
+    omega (arith, part-within _ _ _ (at .loop .out) (at .loop .inv .0) (c .before .before .part64 .ensures))
 
 loop-less : tie.Need-loop-less Inv-loop μ-loop
 loop-less c =
-    let inv = c .before .before .before .before .before .before .loop .inv in
-    omega (arith, part-some (inv .0) (c .before .before .part64 .ensures) (search needs))
+    let at = c .before .before .before .before .before .before in
+    omega (arith, part-some _ _ _ (at .loop .out) (at .loop .inv .0) (c .before .before .part64 .ensures) (search needs))
 
 loop-again : tie.Need-loop-again Inv-loop μ-loop
 loop-again c =
     let at = c .before .before .before .before .before .before in
-    part-laid (at .loop .inv .0) (c .before .before .part64 .ensures) (at .before .before .before .pre .1 .3) (at .loop .inv .2)
+    part-laid _ _ _ (at .loop .out) (at .loop .inv .0) (c .before .before .part64 .ensures) _ (at .before .before .before .pre .1 .3) (at .loop .inv .2)
 
 returns : tie.Need-returns Inv-loop μ-loop
 returns c =

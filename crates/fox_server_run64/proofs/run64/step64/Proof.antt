@@ -15,14 +15,14 @@ use Rattle.fox_server_run64.proofs.run64.step64.Statement.{statement}
 use Rattle.fox_server_run64.proofs.run64.step64.Tie as tie
 
 returns : tie.Need-returns
-unfolding size counted sealed stream
+unfolding bytes size counted sealed stream
 returns c =
     let call = c .before .before in
     let made = call .before .before in
     let a = made .before .before .before .before .args in
     let rks = numbered (held64 (a .keys .now)) (a .rounds) 0 in
     part-made 8 (sealed rks (Of64 (a .x))) (size-pos (Of64 (a .x))) (length-sealed rks (Of64 (a .x))) (a .n)
-    (ap bytes (made .turn64 .ensures ∙ ap (λ (y : Fox64). turned true rks (Of64 y)) (made .before .counted64 .ensures))) (call .add-part .ensures)
+    (ap bytes (made .turn64 .ensures ∙ ap (λ (y : Fox64). turned true rks (Of64 y)) (made .before .counted64 .ensures))) (call .add-part64 .ensures)
 
 pub step64-spec : {M : Type 1} → statement M
 step64-spec =
