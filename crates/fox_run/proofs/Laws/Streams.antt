@@ -103,7 +103,7 @@ module _ (B : ℕ) (block : ℕ → List ℕ) (pos : 0 < B) (size : (i : ℕ) �
 
 -- the sealed counter blocks as a stream of blocks
 
-counted-size : (x : State) (i : ℕ) → size (counted x i) ≡ size x
+pub counted-size : (x : State) (i : ℕ) → size (counted x i) ≡ size x
 unfolding size counted
 counted-size (Of64 x) i = refl
 counted-size (Of128 x) i = refl

@@ -8,7 +8,8 @@ use native.Mathlib.Nat.{mul-le-mul-right}
 use native.Mathlib.Omega.{arith}
 use lib.Dec.{eqb, lit≤}
 use lib.ListN.{length}
-use Rattle.fox_calls.specs.Refusals.{refusalOf, blockSize, forKey}
+use Rattle.fox_calls.specs.Refusals.{refusalOf, blockSize, forKey, Keyed}
+use Rattle.fox_calls.proofs.Laws.Refusals.{keyed-served}
 use Rattle.fox_calls.proofs.Laws.Reply.{chosen, passed-over}
 use Rattle.fox_schedule.specs.Schedule.{roundKeys}
 use Rattle.fox_server.specs.Prepared.{preparedKey, noKey, Prepares, heldKeys}
@@ -42,11 +43,11 @@ in-use c n {b} e few =
     omega arith
 
 -- what holds of a call with a key prepared within it, and the round keys that it holds, holds with the key's own length and round keys
-pub from-prepared : (P : ℕ → ℕ → ℕ → List ℕ → Type 0) (c n : ℕ) (key : List ℕ) (made : Preparation) → refusalOf (forKey c n (length key)) ≡ 0 → Prepares c n key made
+pub from-prepared : (P : ℕ → ℕ → ℕ → List ℕ → Type 0) (c n : ℕ) (key : List ℕ) (made : Preparation) → Keyed c n (length key) → Prepares c n key made
     → P (made .key .cipher) (made .key .rounds) (made .key .«key_len») (heldKeys (made .key)) → P c n (length key) (roundKeys c n key)
 unfolding preparedKey
-from-prepared P c n key made served is held =
-    let e : made .key ≡ preparedKey c n key = is .key ∙ sym (chosen _ _ _ served) in
+from-prepared P c n key made keyed is held =
+    let e : made .key ≡ preparedKey c n key = is .key ∙ sym (chosen _ _ _ (keyed-served keyed)) in
     let at-key : P c n (length key) (heldKeys (preparedKey c n key)) =
     subst (λ (p : Prepared). P (p .cipher) (p .rounds) (p .«key_len») (heldKeys p)) e held in
     subst (P c n (length key)) (held-prepared (preparedKey c n key) key refl) at-key

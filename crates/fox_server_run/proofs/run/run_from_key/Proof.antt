@@ -2,7 +2,7 @@
 -- definition.
 -- Assumes nothing.
 use mathlib.Core.Path.{refl, sym, _∙_}
-use Rattle.fox_calls.proofs.Laws.Refusals.{forRun-key}
+use Rattle.fox_calls.proofs.Laws.Refusals.{stretched}
 use Rattle.fox_calls.proofs.Laws.Reply.{refused-reply}
 use Rattle.fox_server_run.proofs.Prepared.{run-prepared}
 use borrow.Author.Needs.{needs}
@@ -23,7 +23,7 @@ returns-2 c =
     let a = test .before .before .before .before .before .before .args in
     let zero = sym (test .before .for-run .ensures) ∙ test .if1 .left in
     run-prepared (a .cipher) (a .rounds) (a .key .now) (a .counter .now) (a .offset) (a .input .now) (made .prepare .result)
-    (forRun-key _ _ _ _ _ _ _ zero) (made .prepare .ensures) (call .run .ensures)
+    (stretched _ _ _ _ _ _ _ zero .keyed) (made .prepare .ensures) (call .run .ensures)
 
 pub run-from-key-spec : {M : Type 1} → statement M
 run-from-key-spec =

@@ -36,12 +36,14 @@ part64-requires c κs =
 add-at : tie.Need-add-at Inv-loop μ-loop
 add-at c =
     let at = c .before .before .before .before .before .before in
-    omega (arith, part-within _ _ _ (at .loop .out) (at .loop .inv .0) (c .before .before .part64 .ensures))
+    let a = at .before .before .before .args in
+    omega (arith, part-within (a .n) (at .loop .at) (a .input .now) (at .loop .out) (at .loop .inv .0) (c .before .before .part64 .ensures))
 
 loop-less : tie.Need-loop-less Inv-loop μ-loop
 loop-less c =
     let at = c .before .before .before .before .before .before in
-    omega (arith, part-some _ _ _ (at .loop .out) (at .loop .inv .0) (c .before .before .part64 .ensures) (search needs))
+    let a = at .before .before .before .args in
+    omega (arith, part-some (a .n) (at .loop .at) (a .input .now) (at .loop .out) (at .loop .inv .0) (c .before .before .part64 .ensures) (search needs))
 
 loop-again : tie.Need-loop-again Inv-loop μ-loop
 loop-again c =
