@@ -1,4 +1,4 @@
 -- The laws of the definitions in specs/, and the theorem on the entries of a prepared key.
 pub mod Laws
 pub mod Entries
-pub mod Prepared
+pub mod ByPrepared

@@ -53,5 +53,5 @@ heldKeys p =
 pub record Ready (B rounds : ℕ) (block out : List ℕ) : Type 0 where
   pub some : 1 ≤ rounds
   pub few : rounds ≤ 255
-  pub block : length block ≡ B
-  pub output : length out ≡ B
+  pub size : length block ≡ B
+  pub room : length out ≡ B

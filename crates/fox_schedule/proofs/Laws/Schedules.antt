@@ -1,9 +1,10 @@
 -- Which key schedule serves (001 Fig. 8), and the round keys of a key as a schedule of it makes them, one after the other.
 -- Assumes nothing.
-use mathlib.Core.Path.{_≡_, sym, ap, ap₂, _∙_}
+use mathlib.Core.Path.{_≡_, refl, sym, ap, ap₂, _∙_}
 use mathlib.Core.List.{List}
-use mathlib.Core.Bool.{Bool}
-use Prim.Native.Nat.{ℕ, suc, _-_, _*_, _^_, _<_, _≤_}
+use mathlib.Core.Bool.{Bool, true}
+use Prim.Native.Nat.{ℕ, suc, _+_, _-_, _*_, _^_, _<_, _≤_}
+use native.Mathlib.Nat.{zero-add}
 use native.Mathlib.Omega.{arith}
 use lib.Dec.{eqb}
 use lib.ListN.{length}
@@ -14,8 +15,9 @@ use Rattle.fox_keying.specs.Padding.{mkey}
 use Rattle.fox_keying.specs.Register.{LFSR, groups, dkey}
 use Rattle.fox_nonlinear.specs.Nonlinear.{NL64, NL64h, NL128}
 use Rattle.fox_nonlinear.proofs.Laws.Wide.{NL128-lt}
+use Rattle.fox_nonlinear.specs.declared.nl128.Key128.{Key128}
 use Rattle.fox_schedule.specs.Schedule.{ek64, ek128, key64, key128, roundKey64, roundKey128, roundKey, roundKeys}
-use Rattle.fox_schedule.specs.Step.{made, steps, Scheduled, keyAt}
+use Rattle.fox_schedule.specs.Step.{made, steps, Scheduled, keyAt, narrow, Made}
 use Rattle.fox_schedule.specs.declared.step.Schedule.{Schedule}
 use Rattle.fox_schedule.specs.declared.step.Schedule.the-variants.{Ks64, Ks64h, Ks128}
 
@@ -79,3 +81,14 @@ unfolding roundKeys
 roundKeys-made c r key s is =
     numbered-next (roundKey c r key) r 0
     ∙ numbered-same (λ (i : ℕ). roundKey c r key (suc i)) (keyAt s r) r 0 (λ i h. scheduled-key c r key s is i)
+
+-- a round key of 64 bits is its right word, and one of 128 bits has these halves
+pub right-made : {s : Schedule} {reg : ℕ} {k : Key128} → Made s reg k → narrow s ≡ true → k .right ≡ made s reg
+right-made {k = k} m e = sym (zero-add (k .right)) ∙ ap (λ (l : ℕ). l * 2 ^ 64 + k .right) (sym (m .short e)) ∙ m .whole
+
+-- where a schedule of a key is of FOX64
+pub scheduled-narrow : (c : ℕ) (key : List ℕ) (s : Schedule) → Scheduled c key s → c ≡ 64 → narrow s ≡ true
+unfolding Scheduled narrow
+scheduled-narrow c key (Ks64 m flip) is e = refl
+scheduled-narrow c key (Ks64h m flip) is e = refl
+scheduled-narrow c key (Ks128 m flip) is e = absurd (is .0 e)

@@ -1,6 +1,7 @@
 -- The round keys that a prepared key holds are those that it was filled with; so a key prepared from key bytes holds the round keys of the definition.
 -- Assumes nothing.
 use mathlib.Core.Path.{_≡_, refl, sym, ap, ap₂, _∙_}
+use mathlib.Core.Bool.{Bool}
 use mathlib.Core.List.{List, [], _∷_, _++_}
 use Prim.Native.Nat.{ℕ, zero, suc, _+_, _-_, _*_, _^_, _<_, _≤_}
 use native.Mathlib.Nat.{le-of-suc-le-suc, not-suc-le-zero}
@@ -9,14 +10,18 @@ use lib.ListN.{length, getD, replicate, List·getD-append}
 use lib.Seq.{getD-append-add}
 use borrow.Author.Tests.{eq-eqb, ne-eqb}
 use Rattle.fox_rounds.specs.Rounds.{left, right}
-use Rattle.fox_rounds.specs.Skeleton.{numbered}
+use Rattle.fox_rounds.specs.Skeleton.{numbered, turned}
+use Rattle.fox_rounds.specs.declared.state.State.{State}
+use Rattle.fox_rounds.specs.declared.state.State.the-variants.{Of64, Of128}
 use Rattle.fox_lent.specs.Held.{held64, held128}
 use Rattle.fox_rounds.proofs.Laws.Halves.{pair}
 use Rattle.fox_rounds.proofs.Laws.Skeleton.{length-numbered, numbered-next, numbered-same, numbered-at}
 use Rattle.fox_schedule.specs.Schedule.{roundKey, roundKeys}
 use Rattle.fox_schedule.proofs.Laws.Schedules.{roundKey-128, roundKey128-lt}
-use Rattle.fox_cipher.proofs.Laws.Block.{by-cipher}
-use Rattle.fox_server.specs.Prepared.{inHalves, filled, preparedWords, heldKeys}
+use Rattle.fox_calls.specs.Refusals.{blockSize, Blocked}
+use Rattle.fox_cipher.specs.Block.{state64, state128, bytes, turnWith}
+use Rattle.fox_cipher.proofs.Laws.Block.{by-cipher, state-64, state-128}
+use Rattle.fox_server.specs.Prepared.{inHalves, filled, preparedWords, heldKeys, Ready}
 use Rattle.fox_server.specs.declared.prepared.Prepared.{Prepared}
 use Rattle.fox_server.proofs.Laws.Filled.{length-inHalves}
 
@@ -35,7 +40,7 @@ filled-rest ws i h =
     ∙ getD-append-add ws (replicate (510 - length ws) 0) (i - length ws) 0
     ∙ zeros (510 - length ws) (i - length ws)
   where
-    zeros : (n j : ℕ) → getD (replicate n 0) j 0 ≡ 0
+    zeros : (n j : ℕ) → _≡_ {A = ℕ} (getD (replicate n 0) j 0) 0
     zeros zero j = refl
     zeros (suc n) zero = refl
     zeros (suc n) (suc j) = zeros n j
@@ -119,3 +124,23 @@ held-prepared p key e =
     heldKeys-128 p isnt
     ∙ ap (λ (ws : List ℕ). numbered (held128 ws) r 0) (e ∙ preparedWords-128 c r key isnt)
     ∙ held128-filled (numbered k r 1) r (λ i h. rw (numbered-at k r 1 i 0 h) (wide c r key (1 + i) isnt)) (length-numbered k r 1))
+
+-- what the step for the cipher asks, where no refusal applies
+pub ready : {c r k B : ℕ} (block out : List ℕ) → Blocked c r k (length block) (length out) → blockSize c ≡ B → Ready B r block out
+ready block out s size =
+    let whole = s .block ∙ size in
+    record { some = omega (arith, s .keyed .low); few = s .keyed .high; size = whole; room = s .output ∙ whole }
+
+-- a block turned by the round keys that a prepared key holds, by cases of the cipher
+module _ (d : Bool) (p : Prepared) (bs : List ℕ) where
+  pub held-turned-64 : p .cipher ≡ 64
+      → bytes (turned d (numbered (held64 (p .keys)) (p .rounds) 0) (Of64 (state64 bs))) ≡ turnWith d (p .cipher) (heldKeys p) bs
+  unfolding turnWith
+  held-turned-64 is =
+      ap₂ (λ (ks : List ℕ) (x : State). bytes (turned d ks x)) (sym (heldKeys-64 p is)) (sym (state-64 (p .cipher) bs is))
+
+  pub held-turned-128 : (p .cipher ≡ 64 → ⊥)
+      → bytes (turned d (numbered (held128 (p .keys)) (p .rounds) 0) (Of128 (state128 bs))) ≡ turnWith d (p .cipher) (heldKeys p) bs
+  unfolding turnWith
+  held-turned-128 isnt =
+      ap₂ (λ (ks : List ℕ) (x : State). bytes (turned d ks x)) (sym (heldKeys-128 p isnt)) (sym (state-128 (p .cipher) bs isnt))

@@ -5,7 +5,7 @@ use borrow.Author.Needs.{needs}
 use mathlib.Core.Path.{refl, sym, _∙_}
 use Rattle.fox_calls.proofs.Laws.Refusals.{blocked}
 use Rattle.fox_calls.proofs.Laws.Reply.{refused-reply}
-use Rattle.fox_server.proofs.Prepared.{turn-prepared}
+use Rattle.fox_server.proofs.ByPrepared.{turn-prepared}
 use Rattle.fox_server.proofs.block.turn_from_key.Statement.{statement}
 use Rattle.fox_server.proofs.block.turn_from_key.Tie as tie
 

@@ -1,24 +1,16 @@
 -- `prepared::prepare` meets its contract: a refused key is all zeros; past the refusals the rounds fit a byte, and the words are those of the key.
 -- Assumes nothing.
 use borrow.Author.Needs.{needs}
-use mathlib.Core.Path.{_≡_, sym, ap, _∙_}
-use Prim.Native.Nat.{ℕ, _*_, _%_}
+use mathlib.Core.Path.{sym, ap, _∙_}
+use Prim.Native.Nat.{ℕ, _*_}
 use native.Mathlib.Omega.{arith}
 use lib.ListN.{length}
-use Rattle.fox_calls.specs.Refusals.{refusalOf, forKey, Keyed}
 use Rattle.fox_calls.proofs.Laws.Refusals.{keyed}
+use Rattle.fox_cipher.proofs.Laws.Block.{rounds-whole}
 use Rattle.fox_server.specs.Prepared.{preparedWords, preparedKey}
 use Rattle.fox_server.proofs.Laws.Prepares.{served-key, refused-key, in-use}
 use Rattle.fox_server.proofs.prepared.prepare.Statement.{statement}
 use Rattle.fox_server.proofs.prepared.prepare.Tie as tie
-
--- past the refusals
-module _ (c : tie.Else1) where
-  zero : refusalOf (forKey (c .before .before .before .args .cipher) (c .before .before .before .args .rounds) (length (c .before .before .before .args .key .now))) ≡ 0
-  zero = sym (c .before .for-key .ensures) ∙ c .if1 .left
-
-  served : Keyed (c .before .before .before .args .cipher) (c .before .before .before .args .rounds) (length (c .before .before .before .args .key .now))
-  served = keyed _ _ _ zero
 
 returns : tie.Need-returns
 returns c =
@@ -28,12 +20,15 @@ returns c =
     refused-key _ _ _ _ (λ n. test .if1 .taken (e ∙ n)) (refused .refused .ensures .0 ∙ e) (refused .refused .ensures .1) (c .zeros .ensures)
 
 words-requires : tie.Need-words-requires
-words-requires c κs = served c .key
+words-requires c κs =
+    let known = keyed _ _ _ (sym (c .before .for-key .ensures) ∙ c .if1 .left) in
+    (omega (arith, known .low, known .high), known .key)
 
 mul-served : tie.Need-mul-served
 mul-served c =
     let test = c .before .before in
-    record { fits = in-use _ _ (c .block-size .ensures) (served test .high) }
+    let known = keyed _ _ _ (sym (test .before .for-key .ensures) ∙ test .if1 .left) in
+    record { fits = in-use _ _ (c .block-size .ensures) (known .high) }
 
 returns-2 : tie.Need-returns-2
 unfolding preparedKey
@@ -41,9 +36,10 @@ returns-2 c =
     let words = c .before .before in
     let test = words .before in
     let a = test .before .before .before .args in
-    let whole : a .rounds % 256 ≡ a .rounds = omega (arith, served test .low, served test .high) in
+    let zero = sym (test .before .for-key .ensures) ∙ test .if1 .left in
+    let whole = rounds-whole (keyed _ _ _ zero) in
     let keys = words .words .ensures ∙ ap (λ (n : ℕ). preparedWords (a .cipher) n (a .key .now)) whole in
-    served-key _ _ _ _ (zero test) (c .served .ensures .0)
+    served-key _ _ _ _ zero (c .served .ensures .0)
     (c .served .ensures .1 ∙ ap (λ (b : ℕ). b * a .rounds) (c .before .block-size .ensures))
     (λ i. record { cipher = a .cipher; rounds = a .rounds; «key_len» = length (a .key .now); keys = keys i })
 
