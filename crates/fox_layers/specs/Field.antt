@@ -6,12 +6,12 @@ use mathlib.Core.Bool.{cond}
 use lib.Dec.{ltb, eqb}
 use Rattle.fox_layers.specs.Words.{_⊕_}
 
--- §3.2, times α: a byte moved left once; a bit that leaves at the top stands for α⁸, which is F9. The law product-02 says that this is the
+-- §3.2, times α: a byte moved left once; a bit that leaves at the top stands for α⁸, which is F9. The law `products` says that this is the
 -- product by 02
 unfoldable pub double : ℕ → ℕ
 double x = let over = (x * 2 - 256) ⊕ 0xF9 in cond (ltb x 128) (x * 2) over
 
--- §3.2, divided by α: a byte moved right once; a bit that leaves at the bottom stands for 1, and 1/α is FC. The law product-FC says that this
+-- §3.2, divided by α: a byte moved right once; a bit that leaves at the bottom stands for 1, and 1/α is FC. The law `products` says that this
 -- is the product by FC
 unfoldable pub halve : ℕ → ℕ
 halve x = let under = x / 2 ⊕ 0xFC in cond (eqb (x % 2) 0) (x / 2) under

@@ -2,11 +2,12 @@
 // (tests/fuzz.sh). No product uses this crate.
 ghost use mathlib.Core.Path.{_≡_};
 ghost use mathlib.Core.List.{[], _∷_};
-ghost use Prim.Native.Nat.{_≤_};
 ghost use Rattle.fox_layers.specs.Words.{split};
 ghost use Rattle.fox_layers.specs.Tables.{gathered};
+ghost use Rattle.fox_rounds.specs.Skeleton.{numbered, seal64, seal128};
+ghost use Rattle.fox_lent.specs.Held.{held64, held128};
+ghost use Rattle.fox_keying.specs.Register.{iterate};
 ghost use Rattle.fox_sheet.specs.Answer.{Answers};
-ghost use Rattle.fox_probe.specs.Again.{again64, again128};
 use fox_lent::lent64;
 use fox_lent::lent128;
 use fox_rounds::fox64::Fox64;
@@ -46,51 +47,17 @@ pub extern "C" fn fox_probe_sigma_mu8<'a>(
     fox_tables::sigma_mu8(a, b, c, d, e, f, g, h, w)
 }
 
-fn again64(keys: &[u64; 510], rounds: usize, blocks: u32, x: Fox64) -> Fox64
-    requires { ⌜ (1 ≤ rounds) × (rounds ≤ 255) ⌝ }
-    ensures { λ r. ⌜ r ≡ again64 (now (keys .entry)) rounds blocks x ⌝ }
-{
-    let s = moved::tbs();
-    let t = joined4::tbsm();
-    let mut y = x;
-    for i in 0..blocks {
-        y = lent64::seal64(&s, &t.a, &t.b, &t.c, &t.d, keys, rounds, y);
-    }
-    y
-}
-
-fn again128(keys: &[u64; 510], rounds: usize, blocks: u32, x: Fox128) -> Fox128
-    requires { ⌜ (1 ≤ rounds) × (rounds ≤ 255) ⌝ }
-    ensures { λ r. ⌜ r ≡ again128 (now (keys .entry)) rounds blocks x ⌝ }
-{
-    let s = moved::tbs();
-    let t = joined8::tbsm();
-    let mut y = x;
-    for i in 0..blocks {
-        y = lent128::seal128(
-            &s,
-            &t.a,
-            &t.b,
-            &t.c,
-            &t.d,
-            &t.e,
-            &t.f,
-            &t.g,
-            &t.h,
-            keys,
-            rounds,
-            y,
-        );
-    }
-    y
-}
-
 // One block sealed so many times by the first 16 round keys of those lent: the left word.
 #[no_mangle]
 pub extern "C" fn fox_probe_again64(keys: &[u64; 510], blocks: u32, l: u32, r: u32) -> u32
-    ensures { λ w. ⌜ w ≡ again64 (now (keys .entry)) 16 blocks (record { l = l; r = r }) .l ⌝ }
+    ensures { λ w. ⌜ w ≡ iterate blocks (seal64 (numbered (held64 (now (keys .entry))) 16 0)) (record { l = l; r = r }) .l ⌝ }
 {
-    let y = again64(keys, 16, blocks, Fox64::new(l, r));
+    let s = moved::tbs();
+    let t = joined4::tbsm();
+    let mut y = Fox64::new(l, r);
+    for i in 0..blocks {
+        y = lent64::seal64(&s, &t.a, &t.b, &t.c, &t.d, keys, 16, y);
+    }
     y.l
 }
 
@@ -103,9 +70,27 @@ pub extern "C" fn fox_probe_again128(
     c: u32,
     d: u32,
 ) -> u32
-    ensures { λ w. ⌜ w ≡ again128 (now (keys .entry)) 16 blocks (record { ll = a; lr = b; rl = c; rr = d }) .ll ⌝ }
+    ensures { λ w. ⌜ w ≡ iterate blocks (seal128 (numbered (held128 (now (keys .entry))) 16 0)) (record { ll = a; lr = b; rl = c; rr = d }) .ll ⌝ }
 {
-    let y = again128(keys, 16, blocks, Fox128::new(a, b, c, d));
+    let s = moved::tbs();
+    let t = joined8::tbsm();
+    let mut y = Fox128::new(a, b, c, d);
+    for i in 0..blocks {
+        y = lent128::seal128(
+            &s,
+            &t.a,
+            &t.b,
+            &t.c,
+            &t.d,
+            &t.e,
+            &t.f,
+            &t.g,
+            &t.h,
+            keys,
+            16,
+            y,
+        );
+    }
     y.ll
 }
 

@@ -16,26 +16,21 @@ module _ (ek : ℕ) (key : List ℕ) (fits : length key ≤ ek) where
   unfolding padded
   padded-take =
       let all : length key + (ek - length key) ≡ ek = omega arith in
-      sym (take-append-add key pad (ek - length key)) ∙ ap (λ (n : ℕ). take n (key ++ pad)) all
+      rw all at (sym (take-append-add key pad (ek - length key)))
 
   pub padded-at : (i : ℕ) → i < ek → getD (padded ek key) i 0 ≡ getD (key ++ pad) i 0
-  padded-at i h = ap (λ (l : List ℕ). getD l i 0) padded-take ∙ getD-take ek (key ++ pad) i 0 h
+  padded-at i h = rw (padded-take, getD-take ek (key ++ pad) i 0 h)
 
   pub length-padded : ek ≤ 32 → length (padded ek key) ≡ ek
   unfolding pad
-  length-padded h =
-      ap length padded-take ∙ length-take-le ek (key ++ pad) (rw length-append (omega arith))
+  length-padded h = rw padded-take (length-take-le ek (key ++ pad) (rw length-append (omega arith)))
 
 -- a byte stored, which the two before it and the next byte of p make, takes the place of the first byte that is still to be mixed
 pub mixed-step : (p out all : List ℕ) (i x y m : ℕ) → i < length p → i < length out → m ≡ getD p i 0 ⊕ (y + x) % 256
     → take i out ++ mixed x y (drop i p) ≡ all → take (i + 1) (set out i m) ++ mixed y m (drop (i + 1) p) ≡ all
 unfolding mixed
 mixed-step p out all i x y m hp ho e before =
-    rw (add-one, take-suc-set out i m ho)
-    (append-snoc (take i out) m (mixed y m (drop (suc i) p))
-    ∙ ap (λ (b : ℕ). take i out ++ b ∷ mixed y b (drop (suc i) p)) e
-    ∙ ap (λ (l : List ℕ). take i out ++ mixed x y l) (sym (drop-cons p i 0 hp))
-    ∙ before)
+    rw (add-one, take-suc-set out i m ho, append-snoc, e) (rw (drop-cons p i 0 hp) at before)
 
 pub mkey-short : (ek : ℕ) (key : List ℕ) → length key < ek → mkey ek key ≡ mixed 0x6A 0x76 (padded ek key)
 unfolding mkey

@@ -1,16 +1,16 @@
 -- The register stays within 24 bits, and a step back undoes a step. So the register stepped back is the register stepped forward fewer times.
 -- Assumes nothing.
 use mathlib.Core.Path.{_≡_, refl, sym, ap, _∙_}
-use mathlib.Core.Bool.{true, false, Bool}
 use Prim.Native.Nat.{ℕ, zero, suc, _+_, _-_, _*_, _/_, _%_, _^_, _≤_, _<_}
 use native.Mathlib.Nat.{zero-add, suc-add, add-comm, one-mul}
 use native.Mathlib.Numerals.{add-one}
 use native.Mathlib.Omega.{arith}
-use lib.Dec.{ltb, eqb}
+use lib.Dec.{ltb}
 use lib.Bits.{xor-shr, xor-mod, xor-comm, xor-lt, xor-shifted}
-use borrow.Author.Tests.{ltb-true, ltb-false, eqb-true, eqb-false, lt-ltb, le-ltb, eq-eqb, ne-eqb}
+use borrow.Author.Tests.{ltb-true, ltb-false, lt-ltb, le-ltb, eq-eqb, ne-eqb}
 use Rattle.fox_layers.specs.Words.{_⊕_, joined}
 use Rattle.fox_layers.proofs.Laws.Xor.{xor-assoc}
+use Rattle.fox_layers.proofs.Laws.Bytewise.{by-test}
 use Rattle.fox_keying.specs.Register.{seed, clocked, clockedBack, iterate, LFSR}
 
 -- the four branches of the two steps
@@ -36,21 +36,10 @@ moved-lt x h = xor-lt 24 (x * 2 - 2 ^ 24) 0x1B (omega arith) (omega arith)
 pub halved-lt : (x : ℕ) → x < 2 ^ 24 → (x / 2 ⊕ 0x80000D) < 2 ^ 24
 halved-lt x h = xor-lt 24 (x / 2) 0x80000D (omega arith) (omega arith)
 
-lt-cases : (x : ℕ) → x < 2 ^ 24 → (t : Bool) → ltb x (2 ^ 23) ≡ t → clocked x < 2 ^ 24
-lt-cases x h true e =
-    let below = ltb-true x (2 ^ 23) e in
-    rw (clocked-below x below) (omega arith)
-lt-cases x h false e = rw (clocked-above x (ltb-false x (2 ^ 23) e)) (moved-lt x h)
-
 pub clocked-lt : (x : ℕ) → x < 2 ^ 24 → clocked x < 2 ^ 24
-clocked-lt x h = lt-cases x h (ltb x (2 ^ 23)) refl
-
-back-lt-cases : (x : ℕ) → x < 2 ^ 24 → (t : Bool) → eqb (x % 2) 0 ≡ t → clockedBack x < 2 ^ 24
-back-lt-cases x h true e = rw (clockedBack-even x (eqb-true (x % 2) 0 e)) (omega arith)
-back-lt-cases x h false e = rw (clockedBack-odd x (eqb-false (x % 2) 0 e)) (halved-lt x h)
-
-pub clockedBack-lt : (x : ℕ) → x < 2 ^ 24 → clockedBack x < 2 ^ 24
-clockedBack-lt x h = back-lt-cases x h (eqb (x % 2) 0) refl
+unfolding clocked
+clocked-lt x h =
+    by-test (ltb x (2 ^ 23)) (λ t. rw t (omega (arith, ltb-true x (2 ^ 23) t))) (λ t. rw t (moved-lt x h))
 
 -- adding a top bit that is not there. The powers stand as variables, since ⊕ of two numerals would be computed bit by bit
 with-top : (k p b : ℕ) → p ≡ 2 ^ k → b < 2 ^ k → b ⊕ p ≡ p + b
@@ -63,34 +52,28 @@ with-top k p b e h =
 odd-after : (z : ℕ) → (z * 2 ⊕ 0x1B) % 2 ≡ 1
 odd-after z =
     let even : z * 2 % 2 ≡ 0 = omega arith in
-    xor-mod (z * 2) 0x1B 1 ∙ ap (λ (n : ℕ). n ⊕ 1) even
+    rw (xor-mod (z * 2) 0x1B 1, even)
 
 half-after : (z : ℕ) → (z * 2 ⊕ 0x1B) / 2 ≡ z ⊕ 0xD
 half-after z =
     let half : z * 2 / 2 ≡ z = omega arith in
-    xor-shr (z * 2) 0x1B 1 ∙ ap (λ (n : ℕ). n ⊕ 0xD) half
+    rw (xor-shr (z * 2) 0x1B 1, half)
 
 back-above : (x z : ℕ) → x ≡ 0x800000 + z → z < 2 ^ 23 → clockedBack (z * 2 ⊕ 0x1B) ≡ x
 back-above x z e h =
     let odd = odd-after z in
-    clockedBack-odd (z * 2 ⊕ 0x1B) (λ p. omega arith)
-    ∙ ap (λ (n : ℕ). n ⊕ 0x80000D) (half-after z)
-    ∙ xor-assoc z 0xD 0x80000D
-    ∙ with-top 23 0x800000 z refl h
-    ∙ sym e
+    rw (clockedBack-odd (z * 2 ⊕ 0x1B) (λ p. omega arith), half-after z) (xor-assoc z 0xD 0x80000D ∙ with-top 23 0x800000 z refl h ∙ sym e)
 
-back-cases : (x : ℕ) → x < 2 ^ 24 → (t : Bool) → ltb x (2 ^ 23) ≡ t → clockedBack (clocked x) ≡ x
-back-cases x h true e =
-    let below = ltb-true x (2 ^ 23) e in
-    rw (clocked-below x below) (clockedBack-even (x * 2) (omega arith) ∙ omega arith)
-back-cases x h false e =
-    let above = ltb-false x (2 ^ 23) e in
-    let moved : x * 2 - 2 ^ 24 ≡ (x - 2 ^ 23) * 2 = omega arith in
-    ap clockedBack (clocked-above x above ∙ ap (λ (n : ℕ). n ⊕ 0x1B) moved)
-    ∙ back-above x (x - 2 ^ 23) (omega arith) (omega arith)
+back-below : (x : ℕ) → x < 2 ^ 23 → clockedBack (clocked x) ≡ x
+back-below x below = rw (clocked-below x below, clockedBack-even (x * 2) (omega arith)) (omega arith)
 
 pub back-clocked : (x : ℕ) → x < 2 ^ 24 → clockedBack (clocked x) ≡ x
-back-clocked x h = back-cases x h (ltb x (2 ^ 23)) refl
+back-clocked x h =
+    by-test (ltb x (2 ^ 23)) (λ t. back-below x (ltb-true x (2 ^ 23) t))
+    (λ t.
+    let above = ltb-false x (2 ^ 23) t in
+    let moved : x * 2 - 2 ^ 24 ≡ (x - 2 ^ 23) * 2 = omega arith in
+    rw (clocked-above x above, moved) (back-above x (x - 2 ^ 23) (omega arith) (omega arith)))
 
 -- one step more, taken last or first
 pub iterate-suc : {A : Type 0} (n : ℕ) (f : A → A) (x : A) → iterate (n + 1) f x ≡ f (iterate n f x)
@@ -112,18 +95,12 @@ unfolding iterate
 iterate-lt zero x h = h
 iterate-lt (suc n) x h = clocked-lt (iterate n clocked x) (iterate-lt n x h)
 
-pub iterate-back-lt : (n x : ℕ) → x < 2 ^ 24 → iterate n clockedBack x < 2 ^ 24
-unfolding iterate
-iterate-back-lt zero x h = h
-iterate-back-lt (suc n) x h = clockedBack-lt (iterate n clockedBack x) (iterate-back-lt n x h)
-
 pub back-iterate : (n x : ℕ) → x < 2 ^ 24 → iterate n clockedBack (iterate n clocked x) ≡ x
 unfolding iterate
 back-iterate zero x h = refl
 back-iterate (suc n) x h =
-    sym (iterate-first n clockedBack (clocked (iterate n clocked x)))
-    ∙ ap (iterate n clockedBack) (back-clocked (iterate n clocked x) (iterate-lt n x h))
-    ∙ back-iterate n x h
+    let y = iterate n clocked x in
+    cc (iterate-first n clockedBack (clocked y), back-clocked y (iterate-lt n x h), back-iterate n x h)
 
 pub seed-lt : (r : ℕ) → r < 256 → seed r < 2 ^ 24
 unfolding seed joined
@@ -135,9 +112,7 @@ LFSR-lt c r h = iterate-lt c (seed r) (seed-lt r h)
 
 pub LFSR-forward : (m n r : ℕ) → iterate n clocked (LFSR m r) ≡ LFSR (m + n) r
 unfolding LFSR
-LFSR-forward m n r =
-    sym (iterate-add n m clocked (seed r)) ∙ ap (λ (k : ℕ). iterate k clocked (seed r)) (add-comm n m)
+LFSR-forward m n r = cc (iterate-add n m clocked (seed r), add-comm n m)
 
 pub LFSR-back : (m n r : ℕ) → r < 256 → iterate n clockedBack (LFSR (m + n) r) ≡ LFSR m r
-LFSR-back m n r h =
-    ap (iterate n clockedBack) (sym (LFSR-forward m n r)) ∙ back-iterate n (LFSR m r) (LFSR-lt m r h)
+LFSR-back m n r h = rw (← (LFSR-forward m n r)) (back-iterate n (LFSR m r) (LFSR-lt m r h))

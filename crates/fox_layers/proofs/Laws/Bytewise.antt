@@ -2,11 +2,17 @@
 -- every byte, and that the lists are the same is one test, which antt computes.
 -- Assumes nothing.
 use mathlib.Core.Path.{_≡_, refl, sym, ap, _∙_, subst}
+use mathlib.Core.Bool.{Bool, true, false}
 use mathlib.Core.List.{List}
 use Prim.Native.Nat.{ℕ, zero, suc, _+_, _%_, _<_}
 use native.Mathlib.Nat.{add-zero, zero-add, add-suc, suc-add, le-of-suc-le-suc, not-suc-le-zero, mod-lt}
 use lib.ListN.{length, getD}
 use Rattle.fox_layers.specs.Tables.{listed, table}
+
+-- by cases of a test
+pub by-test : {P : Type 0} (t : Bool) → (t ≡ true → P) → (t ≡ false → P) → P
+by-test true f g = f refl
+by-test false f g = g refl
 
 pub listed-at : (f : ℕ → ℕ) (n i k : ℕ) → k < n → getD (listed f n i) k 0 ≡ f (i + k)
 unfolding listed

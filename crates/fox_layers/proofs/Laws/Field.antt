@@ -1,19 +1,21 @@
--- The products that the diffusion needs, by doubling and halving, and that these two undo each other: each is one test over all bytes.
+-- That doubling and halving undo each other, and the products that the diffusion needs, by these two: each is one test over all bytes.
 -- Assumes nothing.
-use mathlib.Core.Path.{_≡_, refl, ap, ap₂, _∙_, subst⁻¹}
+use mathlib.Core.Path.{_≡_, refl, sym, ap₂, _∙_}
+use mathlib.Core.List.{List}
+use lib.ListN.{getD}
 use mathlib.Core.Bool.{Bool, true, false, cond}
 use Prim.Native.Nat.{ℕ, zero, suc, _+_, _-_, _*_, _/_, _%_, _^_, _≤_, _<_}
-use native.Mathlib.Nat.{add-zero, zero-add, zero-mul, add-suc, suc-add, pow-suc, zero-lt-suc, lt-of-lt-of-le, mul-lt-mul-of-pos-right}
+use native.Mathlib.Nat.{add-zero, add-suc, suc-add, pow-suc, lt-of-lt-of-le}
 use native.Mathlib.Omega.{arith}
 use lib.Dec.{eqb, ltb}
 use lib.Pow.{pow-add, pow-pos, pow-mono}
 use lib.Bits.{xor-block}
 use borrow.Author.Tests.{ltb-true, ltb-false}
-use Rattle.fox_layers.specs.Words.{_⊕_}
+use Rattle.fox_layers.specs.Words.{_⊕_, Bytes}
 use Rattle.fox_layers.specs.Field.{double, halve, product, polynomial, rest}
 use Rattle.fox_layers.specs.Tables.{table}
 use Rattle.fox_layers.proofs.Laws.Xor.{xor-zero, xor-lt}
-use Rattle.fox_layers.proofs.Laws.Bytewise.{agree}
+use Rattle.fox_layers.proofs.Laws.Bytewise.{by-test, agree}
 
 pub halve-double : (x : ℕ) → x < 256 → halve (double x) ≡ x
 unfolding double halve table
@@ -23,37 +25,37 @@ pub double-halve : (x : ℕ) → x < 256 → double (halve x) ≡ x
 unfolding double halve table
 double-halve = agree (λ (x : ℕ). double (halve x)) (λ (x : ℕ). x) refl
 
-pub product-01 : (x : ℕ) → x < 256 → product 0x01 x ≡ x
-unfolding product polynomial rest table
-product-01 = agree (product 0x01) (λ (x : ℕ). x) refl
+pub record Products (x : ℕ) : Type 0 where
+  pub by01 : product 0x01 x ≡ x
+  pub by02 : product 0x02 x ≡ double x
+  pub by03 : product 0x03 x ≡ double x ⊕ x
+  pub by04 : product 0x04 x ≡ double (double x)
+  pub by7E : product 0x7E x ≡ halve (halve x)
+  pub by82 : product 0x82 x ≡ halve x ⊕ halve (halve x)
+  pub byFC : product 0xFC x ≡ halve x
+  pub byFD : product 0xFD x ≡ halve x ⊕ x
 
-pub product-02 : (x : ℕ) → x < 256 → product 0x02 x ≡ double x
-unfolding product polynomial rest double table
-product-02 = agree (product 0x02) double refl
+pub products : (x : ℕ) → x < 256 → Products x
+unfolding product polynomial rest double halve table
+products x h =
+    record {
+      by01 = agree (product 0x01) (λ (x : ℕ). x) refl x h;
+      by02 = agree (product 0x02) double refl x h;
+      by03 = agree (product 0x03) (λ (x : ℕ). double x ⊕ x) refl x h;
+      by04 = agree (product 0x04) (λ (x : ℕ). double (double x)) refl x h;
+      by7E = agree (product 0x7E) (λ (x : ℕ). halve (halve x)) refl x h;
+      by82 = agree (product 0x82) (λ (x : ℕ). halve x ⊕ halve (halve x)) refl x h;
+      byFC = agree (product 0xFC) halve refl x h;
+      byFD = agree (product 0xFD) (λ (x : ℕ). halve x ⊕ x) refl x h;
+    }
 
-pub product-FC : (x : ℕ) → x < 256 → product 0xFC x ≡ halve x
-unfolding product polynomial rest halve table
-product-FC = agree (product 0xFC) halve refl
+-- of the bytes of a list by their numbers: a byte is its product by 01, and doubled its product by 02
+module _ (xs : List ℕ) (bytes : Bytes xs) (i : ℕ) where
+  pub ones : getD xs i 0 ≡ product 0x01 (getD xs i 0)
+  ones = sym (products (getD xs i 0) (bytes i) .by01)
 
-pub product-03 : (x : ℕ) → x < 256 → product 0x03 x ≡ double x ⊕ x
-unfolding product polynomial rest double table
-product-03 = agree (product 0x03) (λ (x : ℕ). double x ⊕ x) refl
-
-pub product-04 : (x : ℕ) → x < 256 → product 0x04 x ≡ double (double x)
-unfolding product polynomial rest double table
-product-04 = agree (product 0x04) (λ (x : ℕ). double (double x)) refl
-
-pub product-7E : (x : ℕ) → x < 256 → product 0x7E x ≡ halve (halve x)
-unfolding product polynomial rest halve table
-product-7E = agree (product 0x7E) (λ (x : ℕ). halve (halve x)) refl
-
-pub product-82 : (x : ℕ) → x < 256 → product 0x82 x ≡ halve x ⊕ halve (halve x)
-unfolding product polynomial rest halve table
-product-82 = agree (product 0x82) (λ (x : ℕ). halve x ⊕ halve (halve x)) refl
-
-pub product-FD : (x : ℕ) → x < 256 → product 0xFD x ≡ halve x ⊕ x
-unfolding product polynomial rest halve table
-product-FD = agree (product 0xFD) (λ (x : ℕ). halve x ⊕ x) refl
+  pub twos : double (getD xs i 0) ≡ product 0x02 (getD xs i 0)
+  twos = sym (products (getD xs i 0) (bytes i) .by02)
 
 -- The product of two bytes is a byte: a product of polynomials of degree 7 has degree 14, and each step of the division takes away the
 -- highest coefficient that is left.
@@ -69,7 +71,7 @@ polynomial-lt (suc n) k x y h =
     let wide : 2 ^ k ≤ 2 ^ (k + suc n) = pow-mono (omega arith) in
     xor-lt (k + suc n) (cond (eqb (x % 2) 0) 0 y) (polynomial (suc n) (x / 2) (y * 2))
     (choose-lt (eqb (x % 2) 0) (2 ^ (k + suc n)) 0 y (pow-pos (k + suc n)) (lt-of-lt-of-le h wide))
-    (rw (add-suc, ← suc-add) (polynomial-lt n (suc k) (x / 2) (y * 2) (rw pow-suc (mul-lt-mul-of-pos-right h (zero-lt-suc 1)))))
+    (rw (add-suc, ← suc-add) (polynomial-lt n (suc k) (x / 2) (y * 2) (rw pow-suc (omega arith))))
 
 taken-away : (n x : ℕ) → x < 2 ^ suc (8 + n) → 2 ^ (8 + n) ≤ x → (x ⊕ 0x1F9 * 2 ^ n) < 2 ^ (8 + n)
 taken-away n x h above =
@@ -80,23 +82,15 @@ taken-away n x h above =
     let there : 0x1F9 * 2 ^ n ≡ 1 * 2 ^ k + 0xF9 * 2 ^ n = omega arith in
     let low-here : x - 2 ^ k < 2 ^ k = omega arith in
     let low-there : 0xF9 * 2 ^ n < 2 ^ k = omega (arith, pow-pos n) in
-    let gone : (x ⊕ 0x1F9 * 2 ^ n) ≡ (x - 2 ^ k) ⊕ 0xF9 * 2 ^ n =
-    ap₂ (λ (a b : ℕ). a ⊕ b) here there
-    ∙ xor-block k 1 1 (x - 2 ^ k) (0xF9 * 2 ^ n) low-here low-there
-    ∙ ap (λ (m : ℕ). m + ((x - 2 ^ k) ⊕ 0xF9 * 2 ^ n)) (zero-mul (2 ^ k))
-    ∙ zero-add ((x - 2 ^ k) ⊕ 0xF9 * 2 ^ n) in
-    subst⁻¹ (λ (m : ℕ). m < 2 ^ k) gone (xor-lt k (x - 2 ^ k) (0xF9 * 2 ^ n) low-here low-there)
-
-step-lt : (n x : ℕ) → x < 2 ^ suc (8 + n) → (t : Bool) → ltb x (2 ^ (8 + n)) ≡ t → cond t x (x ⊕ 0x1F9 * 2 ^ n) < 2 ^ (8 + n)
-step-lt n x h true e = ltb-true x (2 ^ (8 + n)) e
-step-lt n x h false e = taken-away n x h (ltb-false x (2 ^ (8 + n)) e)
+    let gone = ap₂ (λ (a b : ℕ). a ⊕ b) here there ∙ xor-block k 1 1 (x - 2 ^ k) (0xF9 * 2 ^ n) low-here low-there in
+    omega (arith, gone, xor-lt k (x - 2 ^ k) (0xF9 * 2 ^ n) low-here low-there)
 
 rest-lt : (n x : ℕ) → x < 2 ^ (8 + n) → rest n x < 256
 unfolding rest
 rest-lt zero x h = h
 rest-lt (suc n) x h =
-    rest-lt n (cond (ltb x (2 ^ (8 + n))) x (x ⊕ 0x1F9 * 2 ^ n))
-    (step-lt n x (rw add-suc at h) (ltb x (2 ^ (8 + n))) refl)
+    by-test (ltb x (2 ^ (8 + n))) (λ t. rw t (rest-lt n x (ltb-true x (2 ^ (8 + n)) t)))
+    (λ t. rw t (rest-lt n (x ⊕ 0x1F9 * 2 ^ n) (taken-away n x (rw add-suc at h) (ltb-false x (2 ^ (8 + n)) t))))
 
 pub product-lt : (x y : ℕ) → y < 256 → product x y < 256
 unfolding product

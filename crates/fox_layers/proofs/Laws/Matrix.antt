@@ -1,6 +1,6 @@
 -- A matrix product is the sum of the matrix's columns, each times its byte: row by row, the first byte's products come off as a column.
 -- Assumes nothing.
-use mathlib.Core.Path.{_≡_, refl, sym, ap, ap₂, _∙_}
+use mathlib.Core.Path.{_≡_, refl, sym, _∙_}
 use mathlib.Core.List.{List, [], _∷_, map}
 use Prim.Native.Nat.{ℕ, zero, suc, _+_, _≤_, _<_}
 use native.Mathlib.Nat.{zero-lt-suc}
@@ -40,24 +40,19 @@ dot-nil (m ∷ ms) = refl
 from-nil : (rows : List (List ℕ)) (j : ℕ) → from rows j [] ≡ map (λ (row : List ℕ). 0) rows
 unfolding from
 from-nil [] j = refl
-from-nil (row ∷ rows) j = ap₂ (λ (x : ℕ) (xs : List ℕ). x ∷ xs) (dot-nil (drop j row)) (from-nil rows j)
+from-nil (row ∷ rows) j = cc (dot-nil (drop j row), from-nil rows j)
 
 from-cons : (rows : List (List ℕ)) (n j x : ℕ) (xs : List ℕ) → Wide n rows → j < n
     → from rows j (x ∷ xs) ≡ sum (multiple (column j rows) x) (from rows (suc j) xs)
 unfolding from dot summed sum column
 from-cons [] n j x xs w h = refl
 from-cons (row ∷ rows) n j x xs w h =
-    let inside : j < length row = omega (arith, w .0) in
-    ap₂ (λ (y : ℕ) (ys : List ℕ). y ∷ ys)
-    (ap (λ (ms : List ℕ). dot ms (x ∷ xs)) (drop-cons row j 0 inside))
-    (from-cons rows n j x xs (w .1) h)
+    rw (drop-cons row j 0 (omega (arith, w .0)), from-cons rows n j x xs (w .1) h)
 
 from-columns : (rows : List (List ℕ)) (n j : ℕ) (xs : List ℕ) → Wide n rows → j + length xs ≤ n → from rows j xs ≡ columns rows j xs
 unfolding columns
 from-columns rows n j [] w h = from-nil rows j
-from-columns rows n j (x ∷ xs) w h =
-    from-cons rows n j x xs w (omega arith)
-    ∙ ap (sum (multiple (column j rows) x)) (from-columns rows n (suc j) xs w (omega arith))
+from-columns rows n j (x ∷ xs) w h = rw (from-cons rows n j x xs w (omega arith), from-columns rows n (suc j) xs w (omega arith))
 
 pub times-columns : (rows : List (List ℕ)) (n : ℕ) (xs : List ℕ) → Wide n rows → length xs ≡ n → times rows xs ≡ columns rows 0 xs
 unfolding times from

@@ -3,7 +3,7 @@
 use mathlib.Core.Path.{_≡_, refl, sym, ap, ap₂, _∙_}
 use mathlib.Core.List.{List, [], _∷_, _++_, map}
 use Prim.Native.Nat.{ℕ, zero, suc, _+_, _*_, _/_, _%_, _^_, _<_}
-use native.Mathlib.Nat.{add-comm, add-assoc, zero-add, zero-mul, mul-assoc, add-mul, mul-suc, mul-add, mod-lt, mod-one, div-one, mod-eq-of-lt, zero-lt-suc, suc-inj, add-mul-div-right, mul-add-mod-self-right}
+use native.Mathlib.Nat.{add-comm, mul-suc, mul-add, mod-lt, mod-one, div-one, mod-eq-of-lt, zero-lt-suc, suc-inj, mul-add-div-right, mul-add-mod-self-right}
 use native.Mathlib.Omega.{arith}
 use lib.Arith.{digits-lt}
 use lib.Pow.{pow-add, pow-pos, mod-pow-add, high}
@@ -36,24 +36,16 @@ pub split-above : (n h w : ℕ) → split n (h * 2 ^ (8 * n) + w) ≡ split n w
 unfolding split
 split-above zero h w = refl
 split-above (suc n) h w =
-    let above : h * 2 ^ (8 * suc n) ≡ h * 256 * 2 ^ (8 * n) =
-    ap (λ (m : ℕ). h * m) (pow-byte n) ∙ sym (mul-assoc h 256 (2 ^ (8 * n))) in
-    let byte : (h * 256 * 2 ^ (8 * n) + w) / 2 ^ (8 * n) % 256 ≡ w / 2 ^ (8 * n) % 256 =
-    ap (λ (m : ℕ). m / 2 ^ (8 * n) % 256) (add-comm (h * 256 * 2 ^ (8 * n)) w)
-    ∙ ap (λ (m : ℕ). m % 256)
-    (add-mul-div-right w (h * 256) (pow-pos (8 * n)) ∙ add-comm (w / 2 ^ (8 * n)) (h * 256))
-    ∙ mul-add-mod-self-right h 256 (w / 2 ^ (8 * n)) in
-    ap (λ (m : ℕ). (m + w) / 2 ^ (8 * n) % 256 ∷ split n (m + w)) above
-    ∙ ap₂ (λ (x : ℕ) (xs : List ℕ). x ∷ xs) byte (split-above n (h * 256) w)
+    let above : h * 2 ^ (8 * suc n) ≡ h * 256 * 2 ^ (8 * n) = rw (pow-byte n) (omega arith) in
+    let byte = mul-add-mod-self-right h 256 (w / 2 ^ (8 * n)) in
+    rw (above, mul-add-div-right (pow-pos (8 * n)) (h * 256) w, byte, split-above n (h * 256) w)
 
 -- the bytes of a word, joined again, are its lowest n bytes
 pub joined-split-low : (n w : ℕ) → joined (split n w) ≡ w % 2 ^ (8 * n)
 unfolding joined split
 joined-split-low zero w = sym (mod-one w)
 joined-split-low (suc n) w =
-    ap₂ (λ (k m : ℕ). w / 2 ^ (8 * n) % 256 * 2 ^ (8 * k) + m) (length-split n w) (joined-split-low n w)
-    ∙ sym (mod-pow-add w 8 (8 * n))
-    ∙ ap (λ (k : ℕ). w % 2 ^ k) (add-comm 8 (8 * n) ∙ sym (mul-suc 8 n))
+    rw (length-split n w, joined-split-low n w, ← (mod-pow-add w 8 (8 * n)), mul-suc, add-comm 8 (8 * n))
 
 pub joined-split : (n w : ℕ) → w < 2 ^ (8 * n) → joined (split n w) ≡ w
 joined-split n w h = joined-split-low n w ∙ mod-eq-of-lt h
@@ -62,23 +54,14 @@ pub split-joined : (xs : List ℕ) → Bytes xs → split (length xs) (joined xs
 unfolding joined split
 split-joined [] h = refl
 split-joined (x ∷ xs) h =
-    ap₂ (λ (y : ℕ) (ys : List ℕ). y ∷ ys)
-    (ap (λ (m : ℕ). m % 256) (high x (8 * length xs) (joined-lt xs (λ i. h (suc i)))) ∙ mod-eq-of-lt (h 0))
-    (split-above (length xs) x (joined xs) ∙ split-joined xs (λ i. h (suc i)))
+    let below = joined-lt xs (λ i. h (suc i)) in
+    rw (high x (8 * length xs) below, mod-eq-of-lt (h 0), split-above (length xs) x (joined xs), split-joined xs (λ i. h (suc i)))
 
 pub joined-append : (xs ys : List ℕ) → joined (xs ++ ys) ≡ joined xs * 2 ^ (8 * length ys) + joined ys
 unfolding joined
-joined-append [] ys = sym (ap (λ (m : ℕ). m + joined ys) (zero-mul (2 ^ (8 * length ys))) ∙ zero-add (joined ys))
+joined-append [] ys = omega arith
 joined-append (x ∷ xs) ys =
-    let k = 8 * length xs in
-    let l = 8 * length ys in
-    let place : x * 2 ^ (8 * length (xs ++ ys)) ≡ x * 2 ^ k * 2 ^ l =
-    ap (λ (n : ℕ). x * 2 ^ (8 * n)) (length-append xs ys)
-    ∙ ap (λ (n : ℕ). x * 2 ^ n) (mul-add 8 (length xs) (length ys))
-    ∙ ap (λ (n : ℕ). x * n) (pow-add 2 k l) ∙ sym (mul-assoc x (2 ^ k) (2 ^ l)) in
-    ap₂ (λ (m n : ℕ). m + n) place (joined-append xs ys)
-    ∙ sym (add-assoc (x * 2 ^ k * 2 ^ l) (joined xs * 2 ^ l) (joined ys))
-    ∙ ap (λ (n : ℕ). n + joined ys) (sym (add-mul (x * 2 ^ k) (joined xs) (2 ^ l)))
+    rw (length-append xs ys, mul-add 8 (length xs) (length ys), pow-add 2 (8 * length xs) (8 * length ys), joined-append xs ys) (omega arith)
 
 pub length-sum : (xs ys : List ℕ) → length xs ≡ length ys → length (sum xs ys) ≡ length xs
 unfolding sum
@@ -94,10 +77,8 @@ joined-sum (x ∷ xs) [] hx hy e = absurd (omega arith)
 joined-sum (x ∷ xs) (y ∷ ys) hx hy e =
     let n : length xs ≡ length ys = suc-inj e in
     let bound : joined ys < 2 ^ (8 * length xs) = rw n (joined-lt ys (λ i. hy (suc i))) in
-    ap₂ (λ (k m : ℕ). (x ⊕ y) * 2 ^ (8 * k) + m) (length-sum xs ys n)
-    (joined-sum xs ys (λ i. hx (suc i)) (λ i. hy (suc i)) n)
-    ∙ sym (xor-block (8 * length xs) x y (joined xs) (joined ys) (joined-lt xs (λ i. hx (suc i))) bound)
-    ∙ ap (λ (k : ℕ). (x * 2 ^ (8 * length xs) + joined xs) ⊕ (y * 2 ^ (8 * k) + joined ys)) n
+    rw (length-sum xs ys n, joined-sum xs ys (λ i. hx (suc i)) (λ i. hy (suc i)) n, ← n)
+    (sym (xor-block (8 * length xs) x y (joined xs) (joined ys) (joined-lt xs (λ i. hx (suc i))) bound))
 
 pub map-bytes : {A : Type 0} (f : A → ℕ) → ((a : A) → f a < 256) → (xs : List A) → Bytes (map f xs)
 map-bytes f h [] i = zero-lt-suc 255
@@ -131,15 +112,14 @@ pub split-xor : (n v w : ℕ) → split n (v ⊕ w) ≡ sum (split n v) (split n
 unfolding split sum
 split-xor zero v w = refl
 split-xor (suc n) v w =
-    ap₂ (λ (x : ℕ) (xs : List ℕ). x ∷ xs)
-    (ap (λ (m : ℕ). m % 256) (xor-shr v w (8 * n)) ∙ xor-mod (v / 2 ^ (8 * n)) (w / 2 ^ (8 * n)) 8)
-    (split-xor n v w)
+    rw (xor-shr v w (8 * n), split-xor n v w) (ap (λ (b : ℕ). b ∷ sum (split n v) (split n w)) (xor-mod (v / 2 ^ (8 * n)) (w / 2 ^ (8 * n)) 8))
 
 -- the bytes of a word of four and of eight, as code writes them: the last is not divided
 pub split-4 : (w : ℕ) → split 4 w ≡ w / 0x1000000 % 256 ∷ w / 0x10000 % 256 ∷ w / 0x100 % 256 ∷ w % 256 ∷ []
 unfolding split
 split-4 w = rw div-one
 
-pub split-8 : (w : ℕ) → split 8 w ≡ w / 0x100000000000000 % 256 ∷ w / 0x1000000000000 % 256 ∷ w / 0x10000000000 % 256 ∷ w / 0x100000000 % 256 ∷ w / 0x1000000 % 256 ∷ w / 0x10000 % 256 ∷ w / 0x100 % 256 ∷ w % 256 ∷ []
+pub split-8 : (w : ℕ) → split 8 w ≡ w / 0x100000000000000 % 256 ∷ w / 0x1000000000000 % 256 ∷ w / 0x10000000000 % 256 ∷ w / 0x100000000 % 256
+    ∷ w / 0x1000000 % 256 ∷ w / 0x10000 % 256 ∷ w / 0x100 % 256 ∷ w % 256 ∷ []
 unfolding split
 split-8 w = rw div-one

@@ -3,52 +3,34 @@
 use mathlib.Core.Path.{_≡_, refl, sym, ap, ap₂, _∙_}
 use mathlib.Core.List.{List, [], _∷_}
 use Prim.Native.Nat.{ℕ, zero, suc, _+_, _*_, _/_, _%_, _<_}
-use native.Mathlib.Nat.{mod-lt, zero-lt-suc, not-suc-le-zero, le-of-suc-le-suc}
-use lib.Arith.{bin-ind, digits-mod}
-use lib.Bits.{differ, xor-step, xor-shr, xor-zero-l, xor-zero-r, xor-self}
+use native.Mathlib.Omega.{arith}
+use lib.Arith.{bin-ind}
+use lib.Bits.{xor-shr, xor-mod, xor-zero-l, xor-zero-r, xor-self}
 use Rattle.fox_layers.specs.Words.{_⊕_, total, summed}
 pub use lib.Bits.{xor-comm, xor-zero-l as zero-xor, xor-zero-r as xor-zero, xor-self as xor-same, xor-lt}
 
 -- a number below two is 0 or 1, so the law of one digit has eight cases, which compute
-digit-assoc : (x y z : ℕ) → x < 2 → y < 2 → z < 2 → differ (differ x y) z ≡ differ x (differ y z)
+digit-assoc : (x y z : ℕ) → x < 2 → y < 2 → z < 2 → (x ⊕ y) ⊕ z ≡ x ⊕ y ⊕ z
 digit-assoc zero y z hx hy hz = refl
 digit-assoc (suc zero) zero z hx hy hz = refl
 digit-assoc (suc zero) (suc zero) zero hx hy hz = refl
 digit-assoc (suc zero) (suc zero) (suc zero) hx hy hz = refl
-digit-assoc (suc zero) (suc zero) (suc (suc z)) hx hy hz = absurd (not-suc-le-zero (le-of-suc-le-suc (le-of-suc-le-suc hz)))
-digit-assoc (suc zero) (suc (suc y)) z hx hy hz = absurd (not-suc-le-zero (le-of-suc-le-suc (le-of-suc-le-suc hy)))
-digit-assoc (suc (suc x)) y z hx hy hz = absurd (not-suc-le-zero (le-of-suc-le-suc (le-of-suc-le-suc hx)))
+digit-assoc (suc zero) (suc zero) (suc (suc z)) hx hy hz = absurd (omega arith)
+digit-assoc (suc zero) (suc (suc y)) z hx hy hz = absurd (omega arith)
+digit-assoc (suc (suc x)) y z hx hy hz = absurd (omega arith)
 
-digit-lt : (x y : ℕ) → x < 2 → y < 2 → differ x y < 2
-digit-lt zero y hx hy = hy
-digit-lt (suc zero) zero hx hy = hx
-digit-lt (suc zero) (suc zero) hx hy = zero-lt-suc 1
-digit-lt (suc zero) (suc (suc y)) hx hy = absurd (not-suc-le-zero (le-of-suc-le-suc (le-of-suc-le-suc hy)))
-digit-lt (suc (suc x)) y hx hy = absurd (not-suc-le-zero (le-of-suc-le-suc (le-of-suc-le-suc hx)))
+-- both brackets have the same lowest digit, and the same half, by the law for the halves
+low-assoc : (a b c : ℕ) → ((a ⊕ b) ⊕ c) % 2 ≡ (a ⊕ b ⊕ c) % 2
+low-assoc a b c =
+    cc (xor-mod (a ⊕ b) c 1, xor-mod a b 1, xor-mod a (b ⊕ c) 1, xor-mod b c 1, digit-assoc (a % 2) (b % 2) (c % 2) (omega arith) (omega arith) (omega arith))
 
-digit : (a : ℕ) → a % 2 < 2
-digit a = mod-lt a (zero-lt-suc 1)
-
-low : (a b : ℕ) → (a ⊕ b) % 2 ≡ differ (a % 2) (b % 2)
-low a b = ap (λ (n : ℕ). n % 2) (xor-step a b) ∙ digits-mod (a / 2 ⊕ b / 2) (digit-lt (a % 2) (b % 2) (digit a) (digit b))
-
--- the digits of a sum of three, bracketed either way
-left-step : (a b c : ℕ) → (a ⊕ b) ⊕ c ≡ ((a / 2 ⊕ b / 2) ⊕ c / 2) * 2 + differ (differ (a % 2) (b % 2)) (c % 2)
-left-step a b c =
-    xor-step (a ⊕ b) c ∙ ap₂ (λ (x y : ℕ). (x ⊕ c / 2) * 2 + differ y (c % 2)) (xor-shr a b 1) (low a b)
-
-right-step : (a b c : ℕ) → a ⊕ b ⊕ c ≡ (a / 2 ⊕ b / 2 ⊕ c / 2) * 2 + differ (a % 2) (differ (b % 2) (c % 2))
-right-step a b c =
-    xor-step a (b ⊕ c) ∙ ap₂ (λ (x y : ℕ). (a / 2 ⊕ x) * 2 + differ (a % 2) y) (xor-shr b c 1) (low b c)
+half-assoc : (a b c : ℕ) → (a / 2 ⊕ b / 2) ⊕ c / 2 ≡ a / 2 ⊕ b / 2 ⊕ c / 2 → ((a ⊕ b) ⊕ c) / 2 ≡ (a ⊕ b ⊕ c) / 2
+half-assoc a b c ih = cc (xor-shr (a ⊕ b) c 1, xor-shr a b 1, xor-shr a (b ⊕ c) 1, xor-shr b c 1)
 
 pub xor-assoc : (a b c : ℕ) → (a ⊕ b) ⊕ c ≡ a ⊕ b ⊕ c
 xor-assoc =
     bin-ind (λ (a : ℕ). (b c : ℕ) → (a ⊕ b) ⊕ c ≡ a ⊕ b ⊕ c) (λ b c. refl)
-    (λ a ih b c.
-    left-step a b c
-    ∙ ap₂ (λ (x y : ℕ). x * 2 + y) (ih (b / 2) (c / 2))
-    (digit-assoc (a % 2) (b % 2) (c % 2) (digit a) (digit b) (digit c))
-    ∙ sym (right-step a b c))
+    (λ a ih b c. omega (arith, half-assoc a b c (ih (b / 2) (c / 2)), low-assoc a b c))
 
 -- what is added twice is gone
 pub xor-cancel : (a b : ℕ) → a ⊕ a ⊕ b ≡ b
@@ -89,3 +71,8 @@ terms-summed (e ▸ es) = ap₂ (λ (a b : ℕ). a ⊕ b) e (terms-summed es)
 -- a number that was promised to be the sum of such a list
 pub sum-of-terms : {A : Type 0} {f : A → ℕ → ℕ} {ms : List A} {xs ys : List ℕ} {r : ℕ} → r ≡ total ys → Terms f ms xs ys → r ≡ summed f ms xs
 sum-of-terms e es = e ∙ terms-summed es
+
+-- a sum of such a list that was built up from the left
+pub running-terms : {A : Type 0} {f : A → ℕ → ℕ} {ms : List A} {xs ys : List ℕ} {y : ℕ} → Terms f ms xs (y ∷ ys) → running y ys ≡ summed f ms xs
+unfolding total
+running-terms {ys} {y} es = running-total y ys ∙ terms-summed es

@@ -1,6 +1,6 @@
 -- The layers, word by word: to flip a list of words or not is to flip each of them or not. The pad's words compute.
 -- Assumes nothing.
-use mathlib.Core.Path.{_≡_, refl, sym, ap, ap₂, _∙_}
+use mathlib.Core.Path.{_≡_, refl, sym}
 use mathlib.Core.List.{List, [], _∷_, map}
 use mathlib.Core.Bool.{Bool, true, false, cond}
 use Prim.Native.Nat.{ℕ}
@@ -28,13 +28,11 @@ turned n flip w = sigma n (cond flip (flipped n w) w)
 
 map-turned : (n : ℕ) (flip : Bool) (ws : List ℕ) → map (sigma n) (cond flip (map (flipped n) ws) ws) ≡ map (turned n flip) ws
 map-turned n true [] = refl
-map-turned n true (w ∷ ws) = ap (λ (xs : List ℕ). sigma n (flipped n w) ∷ xs) (map-turned n true ws)
+map-turned n true (w ∷ ws) = rw (map-turned n true ws)
 map-turned n false ws = refl
 
 -- from the words after the diffusion, and the pad's words
 pub layers-made : (n k : ℕ) (mu : ℕ → ℕ) (mix : List ℕ → List ℕ) (flip : Bool) (ts : List ℕ) {xs ps : List ℕ}
     → xs ≡ map mu (map (sigma n) ts) → words n k pad ≡ ps → map (turned n flip) (sum (mix xs) ps) ≡ layers n k mu mix flip ts
 unfolding layers
-layers-made n k mu mix flip ts {xs} {ps} made pads =
-    ap₂ (λ (ys qs : List ℕ). map (turned n flip) (sum (mix ys) qs)) made (sym pads)
-    ∙ sym (map-turned n flip (sum (mix (map mu (map (sigma n) ts))) (words n k pad)))
+layers-made n k mu mix flip ts made pads = rw (made, ← pads) (sym (map-turned n flip (sum (mix (map mu (map (sigma n) ts))) (words n k pad))))

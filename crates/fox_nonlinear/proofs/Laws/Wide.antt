@@ -4,15 +4,11 @@ use mathlib.Core.List.{List}
 use mathlib.Core.Bool.{Bool}
 use Prim.Native.Nat.{ℕ, _^_, _<_}
 use lib.Arith.{digits-lt}
-use lib.ListN.{getD}
-use Rattle.fox_layers.specs.Words.{_⊕_}
-use Rattle.fox_layers.specs.Diffusion.{mu8}
-use Rattle.fox_rounds.specs.Skeleton.{seal128}
 use Rattle.fox_rounds.specs.declared.fox128.Fox128.{Fox128}
 use Rattle.fox_rounds.proofs.Laws.Halves.{left-lt, right-lt}
 use Rattle.fox_rounds.proofs.Laws.Rounds.{Words128}
 use Rattle.fox_rounds.proofs.Laws.Undoing.{seal128-words}
-use Rattle.fox_nonlinear.specs.Nonlinear.{words, mix128, layers, number128, parts128, NL128}
+use Rattle.fox_nonlinear.specs.Nonlinear.{number128, parts128, NL128}
 
 number128-lt : (x : Fox128) → Words128 x → number128 x < 2 ^ 128
 unfolding number128
@@ -20,13 +16,8 @@ number128-lt x w = digits-lt {m = 2 ^ 64} {c = 2 ^ 64} (digits-lt (w .first) (w 
 
 parts128-words : (a b : ℕ) → Words128 (parts128 a b)
 unfolding parts128
-parts128-words a b =
-    record { first = left-lt 32 a; second = right-lt 32 a; third = left-lt 32 b; fourth = right-lt 32 b }
+parts128-words a b = record { first = left-lt 32 a; second = right-lt 32 a; third = left-lt 32 b; fourth = right-lt 32 b }
 
 pub NL128-lt : (flip : Bool) (dkey : List ℕ) → NL128 flip dkey < 2 ^ 128
 unfolding NL128
-NL128-lt flip dkey =
-    let t = layers 8 4 mu8 mix128 flip (words 8 4 dkey) in
-    let x = parts128 (getD t 0 0 ⊕ getD t 2 0) (getD t 1 0 ⊕ getD t 3 0) in
-    number128-lt (seal128 (words 16 2 dkey) x)
-    (seal128-words (words 16 2 dkey) x (parts128-words (getD t 0 0 ⊕ getD t 2 0) (getD t 1 0 ⊕ getD t 3 0)))
+NL128-lt flip dkey = number128-lt _ (seal128-words _ _ (parts128-words _ _))

@@ -1,17 +1,49 @@
--- `fox_probe_again128` meets its contract: it hands on a word of what the loop makes.
+-- `fox_probe_again128` meets its contract: each turn seals once more what the turns before have made.
 -- Assumes nothing.
 use borrow.Author.Needs.{needs}
-use mathlib.Core.Path.{ap, _∙_}
-use Rattle.fox_rounds.specs.declared.fox128.Fox128.{Fox128}
-use Rattle.fox_probe.specs.Again.{again128}
+use mathlib.Core.Path.{_≡_, refl, sym, ap, _∙_}
+use Prim.Native.Nat.{_-_, _≤_}
+use native.Mathlib.Omega.{arith}
+use Rattle.fox_rounds.specs.Skeleton.{numbered, seal128}
+use Rattle.fox_lent.specs.Held.{held128}
+use Rattle.fox_keying.specs.Register.{iterate}
+use Rattle.fox_keying.proofs.Laws.Register.{iterate-suc}
 use Rattle.fox_probe.proofs.fox_probe_again128.Statement.{statement}
 use Rattle.fox_probe.proofs.fox_probe_again128.Tie as tie
 
-returns : tie.Need-returns
+abbrev Inv-loop : tie.InvT-loop
+Inv-loop keys blocks a b c d s t y₀ i₀ y i = (i ≤ blocks) × (y ≡ iterate i (seal128 (numbered (held128 keys) 16 0)) y₀)
+
+abbrev μ-loop : tie.MeasureT-loop
+μ-loop keys blocks a b c d s t y₀ i₀ y i = blocks - i
+
+loop-holds : tie.Need-loop-holds Inv-loop μ-loop
+unfolding iterate
+loop-holds c = (search needs, refl)
+
+seal128-requires : tie.Need-seal128-requires Inv-loop μ-loop
+seal128-requires c κs =
+    let tables = c .before .before .before .before .before .before .before .before .before .before .before .before .before in
+    let t = tables .tbsm .ensures in
+    (record { s = tables .before .tbs .ensures; a = t .a; b = t .b; c = t .c; d = t .d; e = t .e; f = t .f; g = t .g; h = t .h }, (search needs, search needs))
+
+loop-again : tie.Need-loop-again Inv-loop μ-loop
+loop-again c =
+    let at = c .before .before .before .before .before .before .before .before .before .before .before .before in
+    let start = at .before .before .before .before in
+    let one = seal128 (numbered (held128 (start .args .keys .now)) 16 0) in
+    (omega (arith, c .before .before .before .before .before .before .before .before .before .before .before .loop-test .taken), c .seal128 .ensures ∙ ap one (at .loop .inv .1) ∙ sym (iterate-suc (at .loop .i) one (at .before .new .result)))
+
+returns : tie.Need-returns Inv-loop μ-loop
 returns c =
-    let a = c .before .before .args in
-    ap (λ (x : Fox128). x .ll)
-    (c .again128 .ensures ∙ ap (again128 (a .keys .now) 16 (a .blocks)) (λ i. record { ll = c .before .new .ensures .0 i; lr = c .before .new .ensures .1 i; rl = c .before .new .ensures .2 i; rr = c .before .new .ensures .3 i }))
+    let at = c .before in
+    let new = at .before .new .ensures in
+    let a = at .before .before .before .before .args in
+    let all : at .loop .i ≡ a .blocks = omega arith in
+    let start : at .before .new .result ≡ record { ll = a .a; lr = a .b; rl = a .c; rr = a .d } = λ i. record { ll = new .0 i; lr = new .1 i; rl = new .2 i; rr = new .3 i } in
+    rw (at .loop .inv .1, all, start)
 
 pub fox-probe-again128-spec : {M : Type 1} → statement M
-fox-probe-again128-spec = tie.close (tie.spec (λ c κs. search needs) (λ c κs. search needs) returns)
+fox-probe-again128-spec =
+    tie.close (tie.spec Inv-loop μ-loop (λ c κs. search needs) (λ c κs. search needs) (λ c κs. search needs) loop-holds seal128-requires
+    (λ c. search needs) (λ c. search needs) loop-again returns)

@@ -1,17 +1,49 @@
--- `fox_probe_again64` meets its contract: it hands on a word of what the loop makes.
+-- `fox_probe_again64` meets its contract: each turn seals once more what the turns before have made.
 -- Assumes nothing.
 use borrow.Author.Needs.{needs}
-use mathlib.Core.Path.{ap, _∙_}
-use Rattle.fox_rounds.specs.declared.fox64.Fox64.{Fox64}
-use Rattle.fox_probe.specs.Again.{again64}
+use mathlib.Core.Path.{_≡_, refl, sym, ap, _∙_}
+use Prim.Native.Nat.{_-_, _≤_}
+use native.Mathlib.Omega.{arith}
+use Rattle.fox_rounds.specs.Skeleton.{numbered, seal64}
+use Rattle.fox_lent.specs.Held.{held64}
+use Rattle.fox_keying.specs.Register.{iterate}
+use Rattle.fox_keying.proofs.Laws.Register.{iterate-suc}
 use Rattle.fox_probe.proofs.fox_probe_again64.Statement.{statement}
 use Rattle.fox_probe.proofs.fox_probe_again64.Tie as tie
 
-returns : tie.Need-returns
+abbrev Inv-loop : tie.InvT-loop
+Inv-loop keys blocks l r s t y₀ i₀ y i = (i ≤ blocks) × (y ≡ iterate i (seal64 (numbered (held64 keys) 16 0)) y₀)
+
+abbrev μ-loop : tie.MeasureT-loop
+μ-loop keys blocks l r s t y₀ i₀ y i = blocks - i
+
+loop-holds : tie.Need-loop-holds Inv-loop μ-loop
+unfolding iterate
+loop-holds c = (search needs, refl)
+
+seal64-requires : tie.Need-seal64-requires Inv-loop μ-loop
+seal64-requires c κs =
+    let tables = c .before .before .before .before .before .before .before .before .before in
+    let t = tables .tbsm .ensures in
+    (record { s = tables .before .tbs .ensures; a = t .a; b = t .b; c = t .c; d = t .d }, (search needs, search needs))
+
+loop-again : tie.Need-loop-again Inv-loop μ-loop
+loop-again c =
+    let at = c .before .before .before .before .before .before .before .before in
+    let start = at .before .before .before .before in
+    let one = seal64 (numbered (held64 (start .args .keys .now)) 16 0) in
+    (omega (arith, c .before .before .before .before .before .before .before .loop-test .taken), c .seal64 .ensures ∙ ap one (at .loop .inv .1) ∙ sym (iterate-suc (at .loop .i) one (at .before .new .result)))
+
+returns : tie.Need-returns Inv-loop μ-loop
 returns c =
-    let a = c .before .before .args in
-    ap (λ (x : Fox64). x .l)
-    (c .again64 .ensures ∙ ap (again64 (a .keys .now) 16 (a .blocks)) (λ i. record { l = c .before .new .ensures .0 i; r = c .before .new .ensures .1 i }))
+    let at = c .before in
+    let new = at .before .new .ensures in
+    let a = at .before .before .before .before .args in
+    let all : at .loop .i ≡ a .blocks = omega arith in
+    let start : at .before .new .result ≡ record { l = a .l; r = a .r } = λ i. record { l = new .0 i; r = new .1 i } in
+    rw (at .loop .inv .1, all, start)
 
 pub fox-probe-again64-spec : {M : Type 1} → statement M
-fox-probe-again64-spec = tie.close (tie.spec (λ c κs. search needs) (λ c κs. search needs) returns)
+fox-probe-again64-spec =
+    tie.close (tie.spec Inv-loop μ-loop (λ c κs. search needs) (λ c κs. search needs) (λ c κs. search needs) loop-holds seal64-requires
+    (λ c. search needs) (λ c. search needs) loop-again returns)

@@ -1,9 +1,9 @@
 -- The joined tables by doubling and halving. A product worked out as the field defines it takes antt a hundred steps where a doubling takes a
 -- few, and twelve tables want twenty thousand products; so a table is computed in this form, which is the same list.
 -- Assumes nothing.
-use mathlib.Core.Path.{_≡_, refl, sym, ap, ap₂, _∙_, fun-ext}
-use mathlib.Core.Bool.{Bool, true, false, cond}
-use mathlib.Core.List.{List, _∷_, map}
+use mathlib.Core.Path.{_≡_, refl, sym, ap, fun-ext}
+use mathlib.Core.Bool.{cond}
+use mathlib.Core.List.{List, map}
 use Prim.Native.Nat.{ℕ, zero, suc, _+_, _≤_, _<_}
 use native.Mathlib.Omega.{arith}
 use lib.Dec.{eqb}
@@ -12,7 +12,8 @@ use Rattle.fox_layers.specs.Words.{_⊕_, joined}
 use Rattle.fox_layers.specs.Field.{double, halve, product}
 use Rattle.fox_layers.specs.Substitution.{sbox}
 use Rattle.fox_layers.specs.Tables.{listed, table, column, scaled, TBSM}
-use Rattle.fox_layers.proofs.Laws.Field.{product-01, product-02, product-03, product-04, product-7E, product-82, product-FC, product-FD}
+use Rattle.fox_layers.proofs.Laws.Bytewise.{by-test}
+use Rattle.fox_layers.proofs.Laws.Field.{products}
 use Rattle.fox_layers.proofs.Laws.Tables.{sbox-lt}
 
 -- the product by m: a case for each coefficient of mu4 and mu8, and the definition for any other number. What a `let` names is worked out
@@ -38,21 +39,15 @@ quick m x =
     cond (eqb m 0x01) p01 upto02
 
 -- one case: where m is k, the product by k will do
-one-case : (m k x y rest : ℕ) → y ≡ product k x → rest ≡ product m x → (t : Bool) → eqb m k ≡ t → cond t y rest ≡ product m x
-one-case m k x y rest here else true e = here ∙ ap (λ (n : ℕ). product n x) (sym (eqb-true m k e))
-one-case m k x y rest here else false e = else
+one-case : (m k x y rest : ℕ) → product k x ≡ y → rest ≡ product m x → cond (eqb m k) y rest ≡ product m x
+one-case m k x y rest here else = by-test (eqb m k) (λ t. rw (t, eqb-true m k t) (sym here)) (λ t. rw t else)
 
 quick-product : (m x : ℕ) → x < 256 → quick m x ≡ product m x
 unfolding quick
 quick-product m x h =
-    one-case m 0x01 x _ _ (sym (product-01 x h))
-    (one-case m 0x02 x _ _ (sym (product-02 x h))
-    (one-case m 0x03 x _ _ (sym (product-03 x h))
-    (one-case m 0x04 x _ _ (sym (product-04 x h))
-    (one-case m 0x7E x _ _ (sym (product-7E x h))
-    (one-case m 0x82 x _ _ (sym (product-82 x h))
-    (one-case m 0xFC x _ _ (sym (product-FC x h))
-    (one-case m 0xFD x _ _ (sym (product-FD x h)) refl (eqb m 0xFD) refl) (eqb m 0xFC) refl) (eqb m 0x82) refl) (eqb m 0x7E) refl) (eqb m 0x04) refl) (eqb m 0x03) refl) (eqb m 0x02) refl) (eqb m 0x01) refl
+    let p = products x h in
+    one-case m 0x01 x _ _ (p .by01) (one-case m 0x02 x _ _ (p .by02) (one-case m 0x03 x _ _ (p .by03) (one-case m 0x04 x _ _ (p .by04)
+    (one-case m 0x7E x _ _ (p .by7E) (one-case m 0x82 x _ _ (p .by82) (one-case m 0xFC x _ _ (p .byFC) (one-case m 0xFD x _ _ (p .byFD) refl)))))))
 
 unfoldable pub quickScaled : List ℕ → ℕ → ℕ
 quickScaled ms x = joined (map (λ (m : ℕ). quick m x) ms)
@@ -65,8 +60,7 @@ quick-scaled ms x h = ap (λ (f : ℕ → ℕ). joined (map f ms)) (fun-ext (λ 
 listed-same : (f g : ℕ → ℕ) → ((x : ℕ) → x < 256 → f x ≡ g x) → (n i : ℕ) → i + n ≤ 256 → listed f n i ≡ listed g n i
 unfolding listed
 listed-same f g same zero i h = refl
-listed-same f g same (suc n) i h =
-    ap₂ (λ (y : ℕ) (ys : List ℕ). y ∷ ys) (same i (omega arith)) (listed-same f g same n (suc i) (omega arith))
+listed-same f g same (suc n) i h = cc (same i (omega arith), listed-same f g same n (suc i) (omega arith))
 
 pub joined-quick : (rows : List (List ℕ)) (j : ℕ) → TBSM rows j ≡ table (λ (x : ℕ). quickScaled (column j rows) (sbox x))
 unfolding TBSM table

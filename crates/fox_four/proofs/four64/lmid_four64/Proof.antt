@@ -8,10 +8,8 @@ use Rattle.fox_four.proofs.four64.lmid_four64.Tie as tie
 returns : tie.Need-returns
 unfolding lmidFour64
 returns c =
-    let c1 = c .before in
-    let c2 = c1 .before in
-    let c3 = c2 .before in
-    λ i. record { first = c3 .lmid64 .ensures i; second = c2 .lmid642 .ensures i; third = c1 .lmid643 .ensures i; fourth = c .lmid644 .ensures i }
+    let c2 = c .before .before in
+    λ i. record { first = c2 .before .lmid64 .ensures i; second = c2 .lmid642 .ensures i; third = c .before .lmid643 .ensures i; fourth = c .lmid644 .ensures i }
 
 pub lmid-four64-spec : {M : Type 1} → statement M
 lmid-four64-spec = tie.close (tie.spec (λ c κs. search needs) (λ c κs. search needs) (λ c κs. search needs) (λ c κs. search needs) returns)

@@ -10,21 +10,17 @@ use Rattle.fox_four.proofs.four64.lmor_four64.Tie as tie
 returns : tie.Need-returns
 unfolding lmidFour64 orFour64
 returns c =
-    let c1 = c .before in
-    let c2 = c1 .before in
-    let c3 = c2 .before in
-    let c4 = c3 .before in
-    let c5 = c4 .before in
-    let c6 = c5 .before in
-    let c7 = c6 .before in
+    let c2 = c .before .before in
+    let c4 = c2 .before .before in
+    let c6 = c4 .before .before in
     λ i. record {
-      first = (c6 .or .ensures ∙ ap or64 (c7 .lmid64 .ensures)) i;
-      second = (c4 .or2 .ensures ∙ ap or64 (c5 .lmid642 .ensures)) i;
-      third = (c2 .or3 .ensures ∙ ap or64 (c3 .lmid643 .ensures)) i;
-      fourth = (c .or4 .ensures ∙ ap or64 (c1 .lmid644 .ensures)) i;
+      first = (c6 .or .ensures ∙ ap or64 (c6 .before .lmid64 .ensures)) i;
+      second = (c4 .or2 .ensures ∙ ap or64 (c4 .before .lmid642 .ensures)) i;
+      third = (c2 .or3 .ensures ∙ ap or64 (c2 .before .lmid643 .ensures)) i;
+      fourth = (c .or4 .ensures ∙ ap or64 (c .before .lmid644 .ensures)) i;
     }
 
 pub lmor-four64-spec : {M : Type 1} → statement M
 lmor-four64-spec =
-    tie.close (tie.spec (λ c κs. search needs) (λ c κs. search needs) (λ c κs. search needs) (λ c κs. search needs) (λ c κs. search needs)
-    (λ c κs. search needs) (λ c κs. search needs) (λ c κs. search needs) returns)
+    tie.close (tie.spec (λ c κs. search needs) (λ c κs. tt) (λ c κs. search needs) (λ c κs. tt) (λ c κs. search needs) (λ c κs. tt)
+    (λ c κs. search needs) (λ c κs. tt) returns)

@@ -19,27 +19,9 @@ Inv-loop s a b c d keys rounds last y₀ i₀ y i =
 abbrev μ-loop : tie.MeasureT-loop
 μ-loop s a b c d keys rounds last y₀ i₀ y i = last - i
 
-sub-last : tie.Need-sub-last Inv-loop μ-loop
-sub-last c = search needs
-
 loop-holds : tie.Need-loop-holds Inv-loop μ-loop
 loop-holds c =
     (search needs, going-first lmidFour64 orFour64 (held64 (c .args .keys .now)) (c .args .rounds - 1) (c .args .x))
-
-mul-lmor-four64 : tie.Need-mul-lmor-four64 Inv-loop μ-loop
-mul-lmor-four64 c = search needs
-
-element-copy-out-lmor-four64 : tie.Need-element-copy-out-lmor-four64 Inv-loop μ-loop
-element-copy-out-lmor-four64 c = search needs
-
-lmor-four64-requires : tie.Need-lmor-four64-requires Inv-loop μ-loop
-lmor-four64-requires c κs = c .before .before .before .pre .0
-
-add-i : tie.Need-add-i Inv-loop μ-loop
-add-i c = search needs
-
-loop-less : tie.Need-loop-less Inv-loop μ-loop
-loop-less c = search needs
 
 loop-again : tie.Need-loop-again Inv-loop μ-loop
 unfolding held64
@@ -50,15 +32,6 @@ loop-again c =
       going-on lmidFour64 orFour64 (held64 (a .keys .now)) (a .rounds - 1) (at .loop .i) (a .x) (at .loop .y) (c .lmor-four64 .result) (search needs)
           (at .loop .inv .1) (c .lmor-four64 .ensures),
     )
-
-mul-lmid-four64 : tie.Need-mul-lmid-four64 Inv-loop μ-loop
-mul-lmid-four64 c = search needs
-
-element-copy-out-lmid-four64 : tie.Need-element-copy-out-lmid-four64 Inv-loop μ-loop
-element-copy-out-lmid-four64 c = search needs
-
-lmid-four64-requires : tie.Need-lmid-four64-requires Inv-loop μ-loop
-lmid-four64-requires c κs = c .before .before .before .pre .0
 
 returns : tie.Need-returns Inv-loop μ-loop
 unfolding held64
@@ -71,5 +44,6 @@ returns c =
 
 pub seal-four64-spec : {M : Type 1} → statement M
 seal-four64-spec =
-    tie.close (tie.spec Inv-loop μ-loop sub-last loop-holds mul-lmor-four64 element-copy-out-lmor-four64 lmor-four64-requires add-i loop-less
-    loop-again mul-lmid-four64 element-copy-out-lmid-four64 lmid-four64-requires returns)
+    tie.close (tie.spec Inv-loop μ-loop (λ c. search needs) loop-holds (λ c. search needs) (λ c. search needs)
+    (λ c κs. c .before .before .before .pre .0) (λ c. search needs) (λ c. search needs) loop-again (λ c. search needs) (λ c. search needs)
+    (λ c κs. c .before .before .before .pre .0) returns)

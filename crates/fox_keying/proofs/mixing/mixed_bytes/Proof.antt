@@ -1,13 +1,12 @@
 -- `mixing::mixed_bytes` meets its contract. The loop's invariant: the first i bytes, and after them what the mixing makes of the padded key from i on
 -- after the two bytes at hand, are the mixed key.
 -- Assumes nothing.
-use Prim.Native.Nat.{ℕ, _+_, _-_, _%_, _≤_, _<_, zero-le}
+use Prim.Native.Nat.{_-_, _≤_, _<_, zero-le}
 use native.Mathlib.Omega.{arith}
 use borrow.Author.Needs.{needs}
-use mathlib.Core.Path.{_≡_, refl, sym, ap, _∙_}
-use mathlib.Core.List.{List, [], _++_, append-nil}
+use mathlib.Core.Path.{_≡_, refl, _∙_}
+use mathlib.Core.List.{[], _++_, append-nil}
 use lib.ListN.{length, take, drop, length-set, drop-of-length-le}
-use Rattle.fox_layers.specs.Words.{_⊕_}
 use Rattle.fox_keying.specs.Padding.{pad, padded, mixed}
 use Rattle.fox_keying.proofs.Laws.Mixing.{padded-at, length-padded, mixed-step}
 use Rattle.fox_keying.proofs.mixing.mixed_bytes.Statement.{statement}
@@ -23,21 +22,6 @@ abbrev μ-loop : tie.MeasureT-loop
 loop-holds : tie.Need-loop-holds Inv-loop μ-loop
 loop-holds c = (zero-le, refl, refl)
 
-padded-byte-requires : tie.Need-padded-byte-requires Inv-loop μ-loop
-padded-byte-requires c κs = omega arith
-
-mixed-byte-requires : tie.Need-mixed-byte-requires Inv-loop μ-loop
-mixed-byte-requires c κs = search needs
-
-array-write-out : tie.Need-array-write-out Inv-loop μ-loop
-array-write-out c = omega arith
-
-add-i : tie.Need-add-i Inv-loop μ-loop
-add-i c = omega arith
-
-loop-less : tie.Need-loop-less Inv-loop μ-loop
-loop-less c = omega arith
-
 loop-again : tie.Need-loop-again Inv-loop μ-loop
 unfolding pad
 loop-again c =
@@ -50,11 +34,10 @@ loop-again c =
     let p = padded ek key in
     let n : length p ≡ ek = length-padded ek key (c6 .pre .0) (c6 .pre .1) in
     let here : l .i < ek = c1 .before .before .loop-test .taken in
-    let byte = c1 .padded-byte .ensures ∙ sym (padded-at ek key (c6 .pre .0) (l .i) here) in (
+    let byte = padded-at ek key (c6 .pre .0) (l .i) here in (
       omega arith,
       length-set (l .out) (l .i) (c .mixed-byte .result) ∙ l .inv .1,
-      mixed-step p (l .out) (mixed 0x6A 0x76 p) (l .i) (l .x) (l .y) (c .mixed-byte .result) (omega arith) (omega arith)
-          (c .mixed-byte .ensures ∙ ap (λ (b : ℕ). b ⊕ (l .y + l .x) % 256) byte) (l .inv .2),
+      mixed-step p (l .out) (mixed 0x6A 0x76 p) (l .i) (l .x) (l .y) (c .mixed-byte .result) (omega arith) (omega arith) (cc) (l .inv .2),
     )
 
 returns : tie.Need-returns Inv-loop μ-loop
@@ -68,11 +51,9 @@ returns c =
     let n : length p ≡ ek = length-padded ek key (c3 .pre .0) (c3 .pre .1) in
     let end : l .i ≡ ek = omega arith in
     let none : drop (l .i) p ≡ [] = drop-of-length-le p {i = l .i} (omega arith) in
-    ap (λ (k : ℕ). take k (l .out)) (sym end)
-    ∙ sym (append-nil (take (l .i) (l .out)))
-    ∙ ap (λ (q : List ℕ). take (l .i) (l .out) ++ mixed (l .x) (l .y) q) (sym none)
-    ∙ l .inv .2
+    rw (none, append-nil (take (l .i) (l .out)), end) at (l .inv .2)
 
 pub mixed-bytes-spec : {M : Type 1} → statement M
 mixed-bytes-spec =
-    tie.close (tie.spec Inv-loop μ-loop loop-holds padded-byte-requires mixed-byte-requires array-write-out add-i loop-less loop-again returns)
+    tie.close (tie.spec Inv-loop μ-loop loop-holds (λ c κs. omega arith) (λ c κs. search needs) (λ c. omega arith) (λ c. omega arith)
+    (λ c. omega arith) loop-again returns)

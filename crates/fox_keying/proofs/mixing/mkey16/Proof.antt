@@ -10,9 +10,8 @@ use Rattle.fox_keying.proofs.mixing.mkey16.Tie as tie
 
 returns : tie.Need-returns
 returns c =
-    let c2 = c .before .before in
-    let key = c2 .before .before .before .args .key .now in
-    c .load16 .ensures ∙ c2 .mixed-bytes .ensures ∙ sym (mkey-short 16 key (omega arith))
+    let short = mkey-short 16 (c .before .before .before .before .before .args .key .now) (omega arith) in
+    c .load16 .ensures ∙ c .before .before .mixed-bytes .ensures ∙ sym short
 
 returns-2 : tie.Need-returns-2
 returns-2 c =

@@ -1,10 +1,9 @@
 -- `mixing::padded_byte` meets its contract: either branch is the law for an element of two lists in a row.
 -- Assumes nothing.
-use Prim.Native.Nat.{ℕ, _+_, _-_}
+use Prim.Native.Nat.{_+_, _-_}
 use native.Mathlib.Omega.{arith}
-use mathlib.Core.Path.{_≡_, sym, ap, _∙_}
-use mathlib.Core.List.{_++_}
-use lib.ListN.{length, getD, List·getD-append}
+use mathlib.Core.Path.{_≡_, sym}
+use lib.ListN.{length, List·getD-append}
 use lib.Seq.{getD-append-add}
 use borrow.Author.Needs.{needs}
 use Rattle.fox_keying.proofs.mixing.padded_byte.Statement.{statement}
@@ -20,7 +19,7 @@ returns-2 c =
     let a = c .before .before .args in
     let n = length (a .key .now) in
     let there : n + (a .i - n) ≡ a .i = omega arith in
-    sym (getD-append-add (a .key .now) (a .pad .now) (a .i - n) 0) ∙ ap (λ (k : ℕ). getD (a .key .now ++ a .pad .now) k 0) there
+    rw there at (sym (getD-append-add (a .key .now) (a .pad .now) (a .i - n) 0))
 
 pub padded-byte-spec : {M : Type 1} → statement M
 padded-byte-spec = tie.close (tie.spec (λ c. search needs) (λ c. search needs) (λ c. search needs) returns returns-2)

@@ -1,6 +1,6 @@
 -- `register::back` meets its contract. The loop's invariant: after undone steps the register holds what undone steps back make of it, within 24 bits.
 -- Assumes nothing.
-use Prim.Native.Nat.{ℕ, _≤_, _<_, _-_, _^_}
+use Prim.Native.Nat.{_≤_, _<_, _-_, _^_}
 use native.Mathlib.Omega.{arith}
 use mathlib.Core.Path.{_≡_, refl, sym, ap, _∙_}
 use Rattle.fox_keying.specs.Register.{clockedBack, iterate}
@@ -18,28 +18,17 @@ loop-holds : tie.Need-loop-holds Inv-loop μ-loop
 unfolding iterate
 loop-holds c = (refl, c .pre, omega arith)
 
-clocked-back-requires : tie.Need-clocked-back-requires Inv-loop μ-loop
-clocked-back-requires c κs = omega arith
-
-add-undone : tie.Need-add-undone Inv-loop μ-loop
-add-undone c = omega arith
-
-loop-less : tie.Need-loop-less Inv-loop μ-loop
-loop-less c = omega arith
-
 loop-again : tie.Need-loop-again Inv-loop μ-loop
 loop-again c =
-    let l = c .before .before .loop in (
-      c .clocked-back .ensures .0 ∙ ap clockedBack (l .inv .0) ∙ sym (iterate-suc (l .undone) clockedBack (c .before .before .before .args .reg)),
-      c .clocked-back .ensures .1,
-      omega arith,
-    )
+    let l = c .before .before .loop in
+    let one-more = iterate-suc (l .undone) clockedBack (c .before .before .before .args .reg) in
+    (c .clocked-back .ensures .0 ∙ ap clockedBack (l .inv .0) ∙ sym one-more, c .clocked-back .ensures .1, omega arith)
 
 returns : tie.Need-returns Inv-loop μ-loop
 returns c =
-    let l = c .before .loop in
-    let all : l .undone ≡ c .before .before .args .steps = omega arith in
-    (l .inv .0 ∙ ap (λ (n : ℕ). iterate n clockedBack (c .before .before .args .reg)) all, l .inv .1)
+    let all : c .before .loop .undone ≡ c .before .before .args .steps = omega arith in
+    (rw all at (c .before .loop .inv .0), c .before .loop .inv .1)
 
 pub back-spec : {M : Type 1} → statement M
-back-spec = tie.close (tie.spec Inv-loop μ-loop loop-holds clocked-back-requires add-undone loop-less loop-again returns)
+back-spec =
+    tie.close (tie.spec Inv-loop μ-loop loop-holds (λ c κs. omega arith) (λ c. omega arith) (λ c. omega arith) loop-again returns)

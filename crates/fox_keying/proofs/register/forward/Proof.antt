@@ -1,6 +1,6 @@
 -- `register::forward` meets its contract. The loop's invariant: after done steps the register holds what done steps make of it, within 24 bits.
 -- Assumes nothing.
-use Prim.Native.Nat.{ℕ, _≤_, _<_, _-_, _^_}
+use Prim.Native.Nat.{_≤_, _<_, _-_, _^_}
 use native.Mathlib.Omega.{arith}
 use mathlib.Core.Path.{_≡_, refl, sym, ap, _∙_}
 use Rattle.fox_keying.specs.Register.{clocked, iterate}
@@ -18,28 +18,17 @@ loop-holds : tie.Need-loop-holds Inv-loop μ-loop
 unfolding iterate
 loop-holds c = (refl, c .pre, omega arith)
 
-clocked-requires : tie.Need-clocked-requires Inv-loop μ-loop
-clocked-requires c κs = omega arith
-
-add-done : tie.Need-add-done Inv-loop μ-loop
-add-done c = omega arith
-
-loop-less : tie.Need-loop-less Inv-loop μ-loop
-loop-less c = omega arith
-
 loop-again : tie.Need-loop-again Inv-loop μ-loop
 loop-again c =
-    let l = c .before .before .loop in (
-      c .clocked .ensures .0 ∙ ap clocked (l .inv .0) ∙ sym (iterate-suc (l .done) clocked (c .before .before .before .args .reg)),
-      c .clocked .ensures .1,
-      omega arith,
-    )
+    let l = c .before .before .loop in
+    let one-more = iterate-suc (l .done) clocked (c .before .before .before .args .reg) in
+    (c .clocked .ensures .0 ∙ ap clocked (l .inv .0) ∙ sym one-more, c .clocked .ensures .1, omega arith)
 
 returns : tie.Need-returns Inv-loop μ-loop
 returns c =
-    let l = c .before .loop in
-    let all : l .done ≡ c .before .before .args .steps = omega arith in
-    (l .inv .0 ∙ ap (λ (n : ℕ). iterate n clocked (c .before .before .args .reg)) all, l .inv .1)
+    let all : c .before .loop .done ≡ c .before .before .args .steps = omega arith in
+    (rw all at (c .before .loop .inv .0), c .before .loop .inv .1)
 
 pub forward-spec : {M : Type 1} → statement M
-forward-spec = tie.close (tie.spec Inv-loop μ-loop loop-holds clocked-requires add-done loop-less loop-again returns)
+forward-spec =
+    tie.close (tie.spec Inv-loop μ-loop loop-holds (λ c κs. omega arith) (λ c. omega arith) (λ c. omega arith) loop-again returns)

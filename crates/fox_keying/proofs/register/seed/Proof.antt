@@ -2,19 +2,13 @@
 -- Assumes nothing.
 use borrow.Author.Needs.{needs}
 use native.Mathlib.Omega.{arith}
-use mathlib.Core.Path.{_≡_}
 use Rattle.fox_layers.specs.Words.{joined}
 use Rattle.fox_keying.specs.Register.{seed}
 use Rattle.fox_keying.proofs.Laws.Register.{seed-lt}
 use Rattle.fox_keying.proofs.register.seed.Statement.{statement}
 use Rattle.fox_keying.proofs.register.seed.Tie as tie
 
-returns : tie.Need-returns
-unfolding seed joined
-returns c =
-    let r = c .before .args .rounds in
-    let same : c .join4 .result ≡ seed r = omega (arith, c .join4 .ensures) in
-    (same, omega (arith, seed-lt r (c .before .fits .rounds .fits)))
-
 pub seed-spec : {M : Type 1} → statement M
-seed-spec = tie.close (tie.spec (λ c κs. search needs) returns)
+unfolding seed joined
+seed-spec =
+    tie.close (tie.spec (λ c κs. search needs) (λ c. omega (arith, c .join4 .ensures, seed-lt (c .before .args .rounds) (c .before .fits .rounds .fits))))

@@ -8,17 +8,7 @@ use Rattle.fox_layers.proofs.Laws.Xor.{xor-lt}
 use Rattle.fox_layers.proofs.small_boxes.or4.Statement.{statement}
 use Rattle.fox_layers.proofs.small_boxes.or4.Tie as tie
 
-mul-result : tie.Need-mul-result
-mul-result c = omega arith
-
-add-result : tie.Need-add-result
-add-result c =
-    let x = c .args .x in
-    omega (arith, xor-lt 6 (x / 4) (x % 4) (omega arith) (omega arith))
-
-returns : tie.Need-returns
-unfolding or4
-returns c = refl
-
 pub or4-spec : {M : Type 1} → statement M
-or4-spec = tie.close (tie.spec mul-result add-result returns)
+unfolding or4
+or4-spec =
+    tie.close (tie.spec (λ c. omega arith) (λ c. omega (arith, xor-lt 6 (c .args .x / 4) (c .args .x % 4) (omega arith) (omega arith))) (λ c. refl))

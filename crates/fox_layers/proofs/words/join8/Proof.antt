@@ -5,53 +5,9 @@ use Rattle.fox_layers.specs.Words.{joined}
 use Rattle.fox_layers.proofs.words.join8.Statement.{statement}
 use Rattle.fox_layers.proofs.words.join8.Tie as tie
 
-mul-result : tie.Need-mul-result
-mul-result c = omega arith
-
-mul-result-2 : tie.Need-mul-result-2
-mul-result-2 c = omega arith
-
-add-result : tie.Need-add-result
-add-result c = omega arith
-
-mul-result-3 : tie.Need-mul-result-3
-mul-result-3 c = omega arith
-
-add-result-2 : tie.Need-add-result-2
-add-result-2 c = omega arith
-
-mul-result-4 : tie.Need-mul-result-4
-mul-result-4 c = omega arith
-
-add-result-3 : tie.Need-add-result-3
-add-result-3 c = omega arith
-
-mul-result-5 : tie.Need-mul-result-5
-mul-result-5 c = omega arith
-
-add-result-4 : tie.Need-add-result-4
-add-result-4 c = omega arith
-
-mul-result-6 : tie.Need-mul-result-6
-mul-result-6 c = omega arith
-
-add-result-5 : tie.Need-add-result-5
-add-result-5 c = omega arith
-
-mul-result-7 : tie.Need-mul-result-7
-mul-result-7 c = omega arith
-
-add-result-6 : tie.Need-add-result-6
-add-result-6 c = omega arith
-
-add-result-7 : tie.Need-add-result-7
-add-result-7 c = omega arith
-
-returns : tie.Need-returns
-unfolding joined
-returns c = omega arith
-
 pub join8-spec : {M : Type 1} → statement M
+unfolding joined
 join8-spec =
-    tie.close (tie.spec mul-result mul-result-2 add-result mul-result-3 add-result-2 mul-result-4 add-result-3 mul-result-5 add-result-4 mul-result-6
-    add-result-5 mul-result-7 add-result-6 add-result-7 returns)
+    tie.close (tie.spec (λ c. omega arith) (λ c. omega arith) (λ c. omega arith) (λ c. omega arith) (λ c. omega arith) (λ c. omega arith)
+    (λ c. omega arith) (λ c. omega arith) (λ c. omega arith) (λ c. omega arith) (λ c. omega arith) (λ c. omega arith) (λ c. omega arith)
+    (λ c. omega arith) (λ c. omega arith))

@@ -1,48 +1,32 @@
 -- `nl64::nl64` meets its contract: the state is the hashing layer's, and each round takes the next of the key's words.
 -- Assumes nothing.
-use borrow.Author.Needs.{needs}
-use mathlib.Core.Path.{_≡_, sym, ap, ap₂, _∙_}
-use mathlib.Core.List.{List, [], _∷_}
-use Prim.Native.Nat.{ℕ}
-use lib.ListN.{getD}
+use mathlib.Core.Path.{_≡_}
 use Rattle.fox_layers.specs.Words.{_⊕_}
-use Rattle.fox_rounds.specs.declared.fox64.Fox64.{Fox64}
-use Rattle.fox_rounds.specs.Rounds.{lmid64, or64}
 use Rattle.fox_rounds.specs.Skeleton.{through, seal64}
 use Rattle.fox_nonlinear.specs.Nonlinear.{number64, NL64}
 use Rattle.fox_nonlinear.proofs.Laws.Words.{words16}
-use Rattle.fox_rounds.proofs.Laws.Skeleton.{one-more}
 use Rattle.fox_nonlinear.proofs.nl64.nl64.Statement.{statement}
 use Rattle.fox_nonlinear.proofs.nl64.nl64.Tie as tie
-
--- the hashing layer
-abbrev hashed : List ℕ → Fox64
-hashed t = record { l = getD t 0 0 ⊕ getD t 2 0; r = getD t 1 0 ⊕ getD t 3 0 }
 
 returns : tie.Need-returns
 unfolding number64 through seal64 NL64
 returns c =
-    let c1 = c .before in
-    let c2 = c1 .before in
-    let c3 = c2 .before in
-    let c4 = c3 .before in
-    let c5 = c4 .before in
-    let c6 = c5 .before in
-    let c7 = c6 .before in
-    let c8 = c7 .before in
-    let d = c8 .args .d in
+    let c4 = c .before .before .before .before in
+    let c8 = c4 .before .before .before .before in
     let fits = c8 .good .0 .1 .1 in
+    let t = c4 .before .before .before .layers64 in
     let new = c4 .new .ensures in
-    let w = c7 .layers64 .result in
-    let start : c4 .new .result ≡ hashed (w .w0 ∷ w .w1 ∷ w .w2 ∷ w .w3 ∷ []) = (λ i. record { l = new .0 i; r = new .1 i }) in
-    c .number .ensures
-    ∙ ap number64
-    (c1 .lmid2 .ensures
-    ∙ one-more lmid64 or64 (d .a) (d .b) [] (c3 .lmid .ensures) (c2 .or .ensures)
-    ∙ ap (seal64 (d .a ∷ d .b ∷ [])) start)
-    ∙ ap₂ (λ (ks t : List ℕ). number64 (seal64 ks (hashed t))) (sym (words16 d (fits .0 .1) (fits .1 .0 .1))) (c7 .layers64 .ensures)
+    let hashed : c4 .new .result ≡ record { l = t .result .w0 ⊕ t .result .w2; r = t .result .w1 ⊕ t .result .w3 } =
+    λ i. record { l = new .0 i; r = new .1 i } in
+    rw (
+      words16 (c8 .args .d) (fits .0 .1) (fits .1 .0 .1),
+      ← (t .ensures),
+      c .number .ensures,
+      c .before .lmid2 .ensures,
+      c .before .before .or .ensures,
+      c .before .before .before .lmid .ensures,
+      hashed,
+    )
 
 pub nl64-spec : {M : Type 1} → statement M
-nl64-spec =
-    tie.close (tie.spec (λ c κs. search needs) (λ c κs. search needs) (λ c κs. search needs) (λ c κs. search needs) (λ c κs. search needs)
-    (λ c κs. search needs) returns)
+nl64-spec = tie.close (tie.spec (λ c κs. tt) (λ c κs. tt) (λ c κs. tt) (λ c κs. tt) (λ c κs. tt) (λ c κs. tt) returns)

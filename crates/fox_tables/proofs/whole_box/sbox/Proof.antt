@@ -6,9 +6,6 @@ use Rattle.fox_layers.specs.Tables.{table, box}
 use Rattle.fox_tables.proofs.whole_box.sbox.Statement.{statement}
 use Rattle.fox_tables.proofs.whole_box.sbox.Tie as tie
 
-returns : tie.Need-returns
-unfolding S₁ S₂ S₃ halves whole or4 lmid4 lmor4 sbox table box
-returns c = refl
-
 pub sbox-spec : {M : Type 1} → statement M
-sbox-spec = tie.close (tie.spec returns)
+unfolding S₁ S₂ S₃ halves whole or4 lmid4 lmor4 sbox table box
+sbox-spec = tie.close (tie.spec (λ c. refl))

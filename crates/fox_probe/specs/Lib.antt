@@ -1,2 +1,0 @@
--- What the exports cite besides the definitions below them.
-pub mod Again
