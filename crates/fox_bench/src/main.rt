@@ -1,11 +1,12 @@
 // The bench program: one block by the card's way. It reads a sheet from standard input and prints the answer; all that it does beyond that is in
 // `fox_sheet`. The first 240 bytes of a sheet settle its answer, however long it is (`answer-of-prefix`), so no more than a buffer is read.
+use fox_sheet::answer::ROOM;
 use fox_sheet::answer::answer;
 
 fn main() {
     let mut sheet = io::buffer();
     let n = io::read_full(0, &mut sheet);
-    let mut out = [0; 128];
+    let mut out = [0; ROOM];
     let count = answer(&sheet[..n], &mut out);
     io::write_all(1, &out[..count]);
 }

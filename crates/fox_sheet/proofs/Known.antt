@@ -1,17 +1,18 @@
 -- Sheets and what is printed for them, computed by the definitions: sheets whose lines are broken in the ways that 01 names, each line's in turn, and sheets
--- with a block that is refused, where a refusal comes before those of higher numbers. Those with a block that is served are in `fox_bench`.
+-- with a block that is refused, where a refusal comes before those of higher numbers. Those with a block that is served are in `fox_sheet_definitions`.
 -- Assumes nothing.
 use mathlib.Core.Path.{_≡_, refl}
 use mathlib.Core.List.{List, [], _∷_, _++_, map}
 use Prim.Native.Nat.{ℕ, zero, suc}
 use Prim.Native.String.{String}
 use Rattle.fox_calls.specs.Refusals.{refusalOf, blockSize, noCipher, noRounds, longKey, noBlock, noOutput, forKey, forBlock}
-use Rattle.fox_text.specs.Ascii.{codes, ascii, empty, startsWith, same}
-use Rattle.fox_text.specs.Lines.{lineEnd, hasLine, line, afterLine, afterLines}
-use Rattle.fox_text.specs.Decimal.{isDigit, allDigits, onward, decimalOf, leadingZero, inRange, isDecimal, place, decimalText}
-use Rattle.fox_text.specs.Hex.{isHex, allHex, isPairs, nibble, pairsOf}
-use Rattle.fox_text.specs.Fields.{valueText, named, isDecimalLine, isPairsLine, decimalIn, pairsIn, decimalLineText}
-use Rattle.fox_sheet.specs.Sheet.{cipherName, roundsName, keyName, sealWay, openWay, blockName, isWayLine, keeps, settingRules, taskRules, brokenLine, cipherOf, roundsOf, keyOf, opens, blockOf}
+use Rattle.fox_text.specs.Ascii.{codes, ascii, startsWith}
+use Rattle.fox_text.specs.Lines.{lineEnd, afterLine, lines}
+use Rattle.fox_text.specs.Rules.{isLine, brokenFrom}
+use Rattle.fox_text.specs.Decimal.{allDigits, onward, begins, inRange, isDecimal, digitsText}
+use Rattle.fox_text.specs.Hex.{allHex, nibble, pairsOf}
+use Rattle.fox_text.specs.Fields.{isDecimalLine, isPairsLine, decimalIn, pairsIn, decimalLineText}
+use Rattle.fox_sheet.specs.Sheet.{cipherName, roundsName, keyName, sealWay, openWay, blockName, isWayLine, settingTests, taskTests, brokenLine, said, valuesOf}
 use Rattle.fox_sheet.specs.Answer.{refusalName, lineName, brokenText, refusal, blockText, answerOf}
 
 -- sheets, each with what is printed for it
@@ -60,10 +61,6 @@ refused =
     ∷ (ascii "cipher=128\nrounds=255\nkey=\nway=open\nblock=0123456789ABCDEF\n", "refusal=4\n")
     ∷ []
 
-pub broken-printed : Printed broken
-unfolding broken zeros refusalOf blockSize noCipher noRounds longKey noBlock noOutput forKey forBlock codes ascii empty startsWith same lineEnd hasLine line afterLine afterLines isDigit allDigits onward decimalOf leadingZero inRange isDecimal place decimalText isHex allHex isPairs nibble pairsOf valueText named isDecimalLine isPairsLine decimalIn pairsIn decimalLineText cipherName roundsName keyName sealWay openWay blockName isWayLine keeps settingRules taskRules brokenLine cipherOf roundsOf keyOf opens blockOf refusalName lineName brokenText refusal blockText answerOf
-broken-printed = refl
-
-pub refused-printed : Printed refused
-unfolding refused zeros refusalOf blockSize noCipher noRounds longKey noBlock noOutput forKey forBlock codes ascii empty startsWith same lineEnd hasLine line afterLine afterLines isDigit allDigits onward decimalOf leadingZero inRange isDecimal place decimalText isHex allHex isPairs nibble pairsOf valueText named isDecimalLine isPairsLine decimalIn pairsIn decimalLineText cipherName roundsName keyName sealWay openWay blockName isWayLine keeps settingRules taskRules brokenLine cipherOf roundsOf keyOf opens blockOf refusalName lineName brokenText refusal blockText answerOf
-refused-printed = refl
+pub printed : Printed (broken ++ refused)
+unfolding broken refused zeros refusalOf blockSize noCipher noRounds longKey noBlock noOutput forKey forBlock codes ascii startsWith lineEnd afterLine lines isLine brokenFrom allDigits onward begins inRange isDecimal digitsText allHex nibble pairsOf isDecimalLine isPairsLine decimalIn pairsIn decimalLineText cipherName roundsName keyName sealWay openWay blockName isWayLine settingTests taskTests brokenLine said valuesOf refusalName lineName brokenText refusal blockText answerOf
+printed = refl

@@ -1,66 +1,29 @@
--- A sheet that is written from a cipher, rounds, a key, a way and a block is right, and says these five: each line of it is read as it was written,
--- and what follows the line is the rest. And a right sheet is the one that is written from what it says, line by line: no other sheet says the same.
+-- The right sheets are exactly those written from values in range. A sheet written from such values is right and says them, since each line of it is read
+-- as it was written; and a right sheet is the one that is written from what it says, which is in range. So no two sheets say the same.
 -- Assumes nothing.
 use mathlib.Core.Path.{_≡_, refl, sym, ap, _∙_}
-use mathlib.Core.Bool.{Bool, true, false, cond, _||_, true≢false, or-false}
-use mathlib.Core.List.{List, [], _∷_, _++_, append-assoc, append-nil}
-use Prim.Native.Nat.{ℕ, _≤_}
+use mathlib.Core.Bool.{Bool, true, false, _||_, or-false}
+use mathlib.Core.List.{List, _++_}
+use Prim.Native.Nat.{ℕ}
 use native.Mathlib.Omega.{arith}
-use lib.ListN.{length}
-use lib.Seq.{append-snoc}
-use Rattle.fox_layers.specs.Words.{Bytes}
-use Rattle.fox_text.specs.Ascii.{codes, ascii, empty, startsWith, same}
-use Rattle.fox_text.specs.Lines.{hasLine, line, afterLine, afterLines}
-use Rattle.fox_text.specs.Fields.{decimalLineText, pairsLineText}
-use Rattle.fox_text.proofs.Laws.Tests.{both-first, both-second}
-use Rattle.fox_text.proofs.Laws.Written.{
-  Plain,
-  hasLine-written,
-  line-written,
-  afterLine-written,
-  decimal-line-after,
-  decimal-line-read,
+use Rattle.fox_text.specs.Ascii.{codes, ascii, startsWith, same}
+use Rattle.fox_text.specs.Lines.{lines}
+use Rattle.fox_text.proofs.Laws.Written.{Plain, Plains, Kept, written-right, written-lines, right-lines}
+use Rattle.fox_text.proofs.Laws.Values.{
+  same-is,
   decimal-line-right,
-  pairs-line-after,
-  pairs-line-read,
+  decimal-line-read,
+  decimal-line-plain,
+  decimal-line-again,
   pairs-line-right,
+  pairs-line-read,
+  pairs-line-plain,
+  pairs-line-again,
 }
-use Rattle.fox_text.proofs.Laws.Again.{same-is, ended-split, decimal-line-again, pairs-line-again}
-use Rattle.fox_sheet.specs.Sheet.{
-  cipherName,
-  roundsName,
-  keyName,
-  sealWay,
-  openWay,
-  blockName,
-  isWayLine,
-  brokenLine,
-  cipherOf,
-  roundsOf,
-  keyOf,
-  opens,
-  blockOf,
-}
-use Rattle.fox_sheet.proofs.Laws.Kept.{Kept, right-kept, kept-right}
+use Rattle.fox_sheet.specs.Sheet.{cipherName, roundsName, keyName, sealWay, openWay, blockName, isWayLine, settingTests, taskTests, brokenLine, Values, said, valuesOf}
+use Rattle.fox_sheet.specs.Written.{wayText, linesOf, sheetText, InRange, WrittenFrom, Says}
 
--- the way's line
-unfoldable pub wayText : Bool → List ℕ
-wayText opening = cond opening openWay sealWay
-
--- a sheet as it is written
-unfoldable pub sheetText : ℕ → ℕ → List ℕ → Bool → List ℕ → List ℕ
-sheetText cipher rounds key opening block =
-    decimalLineText cipherName cipher ++ decimalLineText roundsName rounds ++ pairsLineText keyName key
-    ++ (wayText opening ++ (10 ∷ [])) ++ pairsLineText blockName block
-
--- a sheet that is right, and what it says
-pub record Says (t : List ℕ) (cipher rounds : ℕ) (key : List ℕ) (opening : Bool) (block : List ℕ) : Type 0 where
-  pub right : brokenLine t ≡ 0
-  pub of-cipher : cipherOf t ≡ cipher
-  pub of-rounds : roundsOf t ≡ rounds
-  pub of-key : keyOf t ≡ key
-  pub of-way : opens t ≡ opening
-  pub of-block : blockOf t ≡ block
+-- names and ways hold no line feed
 
 cipher-plain : Plain cipherName
 unfolding cipherName codes ascii Plain
@@ -83,149 +46,105 @@ unfolding wayText openWay sealWay codes ascii Plain
 way-plain true = (refl, (refl, (refl, (refl, (refl, (refl, (refl, (refl, tt))))))))
 way-plain false = (refl, (refl, (refl, (refl, (refl, (refl, (refl, (refl, tt))))))))
 
-way-same : (opening : Bool) → same openWay (wayText opening) ≡ opening
-unfolding wayText openWay sealWay codes ascii same startsWith
-way-same true = refl
-way-same false = refl
+-- a written sheet is right, and says what it was written from
 
-way-either : (opening : Bool) → (same sealWay (wayText opening) || same openWay (wayText opening)) ≡ true
-unfolding wayText openWay sealWay codes ascii same startsWith
-way-either true = refl
-way-either false = refl
+way-right : (opening : Bool) → isWayLine (wayText opening) ≡ true
+unfolding isWayLine wayText openWay sealWay codes ascii startsWith
+way-right true = refl
+way-right false = refl
 
-module _ (opening : Bool) (r : List ℕ) where
-  way-line-right : isWayLine (wayText opening ++ (10 ∷ []) ++ r) ≡ true
-  unfolding isWayLine
-  way-line-right =
-      let l = wayText opening in
-      let p = way-plain opening in
-      rw (append-snoc l 10 r, hasLine-written r l p, line-written r l p) (way-either opening)
+way-read : (opening : Bool) → same openWay (wayText opening) ≡ opening
+unfolding wayText openWay sealWay codes ascii startsWith
+way-read true = refl
+way-read false = refl
 
-  way-line-read : same openWay (line (wayText opening ++ (10 ∷ []) ++ r)) ≡ opening
-  way-line-read = rw (append-snoc (wayText opening) 10 r, line-written r (wayText opening) (way-plain opening)) (way-same opening)
+module _ {v : Values} (r : InRange v) where
+  lines-kept : Kept (settingTests ++ taskTests) (linesOf v)
+  unfolding Kept settingTests taskTests linesOf
+  lines-kept = (
+    decimal-line-right 65535 (v .cipher) cipherName (r .cipher) (omega (arith, r .cipher)),
+    (
+      decimal-line-right 65535 (v .rounds) roundsName (r .rounds) (omega (arith, r .rounds)),
+      (
+        pairs-line-right 64 keyName (v .key) (r .key) (r .key-bytes),
+        (way-right (v .opening), (pairs-line-right 32 blockName (v .block) (r .block) (r .block-bytes), tt)),
+      ),
+    ),
+  )
 
-  way-line-after : afterLine (wayText opening ++ (10 ∷ []) ++ r) ≡ r
-  way-line-after = rw (append-snoc (wayText opening) 10 r) (afterLine-written r (wayText opening) (way-plain opening))
+  lines-plain : Plains (linesOf v)
+  unfolding Plains linesOf
+  lines-plain = (
+    decimal-line-plain cipherName (v .cipher) cipher-plain,
+    (
+      decimal-line-plain roundsName (v .rounds) rounds-plain,
+      (
+        pairs-line-plain keyName (v .key) key-plain (r .key-bytes),
+        (
+          way-plain (v .opening),
+          (pairs-line-plain blockName (v .block) block-plain (r .block-bytes), tt),
+        ),
+      ),
+    ),
+  )
 
--- what follows each line
+  lines-said : said (linesOf v) ≡ v
+  unfolding said linesOf
+  lines-said =
+      rw (
+        decimal-line-read 65535 (v .cipher) cipherName (r .cipher) (omega (arith, r .cipher)),
+        decimal-line-read 65535 (v .rounds) roundsName (r .rounds) (omega (arith, r .rounds)),
+        pairs-line-read 64 keyName (v .key) (r .key) (r .key-bytes),
+        way-read (v .opening),
+        pairs-line-read 32 blockName (v .block) (r .block) (r .block-bytes),
+      )
 
-module _ (cipher rounds : ℕ) (key : List ℕ) (opening : Bool) (block : List ℕ) where
-  text : List ℕ
-  text = sheetText cipher rounds key opening block
+  read-again : lines 5 (sheetText v) ≡ linesOf v
+  unfolding sheetText linesOf
+  read-again = written-lines (linesOf v) lines-plain
 
-  fifth : List ℕ
-  fifth = pairsLineText blockName block ++ []
+pub written-is-read : {v : Values} {t : List ℕ} → WrittenFrom v t → Says v t
+unfolding brokenLine sheetText valuesOf
+written-is-read {v} w =
+    record {
+      right = rw (w .text) (written-right 1 (settingTests ++ taskTests) (linesOf v) (lines-kept (w .range)) (lines-plain (w .range)));
+      values = rw (w .text, read-again (w .range)) (lines-said (w .range));
+    }
 
-  fourth : List ℕ
-  fourth = wayText opening ++ (10 ∷ []) ++ fifth
+-- a right sheet is one that is written from values in range
 
-  third : List ℕ
-  third = pairsLineText keyName key ++ fourth
-
-  second : List ℕ
-  second = decimalLineText roundsName rounds ++ third
-
-  first : List ℕ
-  first = decimalLineText cipherName cipher ++ second
-
-  grouped : text ≡ first
-  unfolding text sheetText first second third fourth fifth
-  grouped = simp (append-assoc, append-nil)
-
-  module _ (bytes : Bytes key) (block-bytes : Bytes block) where
-    after-first : afterLines 1 text ≡ second
-    unfolding afterLines first
-    after-first = ap afterLine grouped ∙ decimal-line-after cipherName cipher second cipher-plain
-
-    after-second : afterLines 2 text ≡ third
-    unfolding afterLines second
-    after-second = ap afterLine after-first ∙ decimal-line-after roundsName rounds third rounds-plain
-
-    after-third : afterLines 3 text ≡ fourth
-    unfolding afterLines third
-    after-third = ap afterLine after-second ∙ pairs-line-after keyName key fourth key-plain bytes
-
-    after-fourth : afterLines 4 text ≡ fifth
-    unfolding afterLines fourth
-    after-fourth = ap afterLine after-third ∙ way-line-after opening fifth
-
-    after-fifth : afterLines 5 text ≡ []
-    unfolding afterLines fifth
-    after-fifth = ap afterLine after-fourth ∙ pairs-line-after blockName block [] block-plain block-bytes
-
-    module _ (c : cipher ≤ 65535) (r : rounds ≤ 65535) (k : length key ≤ 64) (b : length block ≤ 32) where
-      written-kept : Kept text
-      unfolding first second third fourth fifth empty
-      written-kept =
-          record {
-            cipher = rw grouped (decimal-line-right cipherName cipher second cipher-plain c);
-            rounds = rw after-first (decimal-line-right roundsName rounds third rounds-plain r);
-            key = rw after-second (pairs-line-right keyName key fourth key-plain bytes 64 k);
-            way = rw after-third (way-line-right opening fifth);
-            block = rw after-fourth (pairs-line-right blockName block [] block-plain block-bytes 32 b);
-            end = rw after-fifth;
-          }
-
-      written-says : Says text cipher rounds key opening block
-      unfolding first second third fourth fifth cipherOf roundsOf keyOf opens blockOf
-      written-says =
-          record {
-            right = kept-right text written-kept;
-            of-cipher = rw grouped (decimal-line-read cipherName cipher second cipher-plain (omega arith));
-            of-rounds = rw after-first (decimal-line-read roundsName rounds third rounds-plain (omega arith));
-            of-key = rw after-second (pairs-line-read keyName key fourth key-plain bytes);
-            of-way = rw after-third (way-line-read opening fifth);
-            of-block = rw after-fourth (pairs-line-read blockName block [] block-plain block-bytes);
-          }
-
-pub written-is-read : (cipher rounds : ℕ) (key : List ℕ) (opening : Bool) (block : List ℕ)
-    → cipher ≤ 65535 → rounds ≤ 65535 → length key ≤ 64 → length block ≤ 32 → Bytes key → Bytes block
-    → Says (sheetText cipher rounds key opening block) cipher rounds key opening block
-unfolding text
-written-is-read cipher rounds key opening block c r k b bytes block-bytes =
-    written-says cipher rounds key opening block bytes block-bytes c r k b
-
--- a right sheet is one that is written
-
-way-again : (b : Bool) (l : List ℕ) → same openWay l ≡ b → (same sealWay l || same openWay l) ≡ true → l ≡ wayText b
-unfolding wayText
+way-again : (b : Bool) (l : List ℕ) → same openWay l ≡ b → isWayLine l ≡ true → l ≡ wayText b
+unfolding isWayLine wayText
 way-again true l e h = same-is openWay l e
 way-again false l e h = same-is sealWay l (sym (or-false (same sealWay l)) ∙ (rw e at h))
 
-way-line-again : (t : List ℕ) → isWayLine t ≡ true → t ≡ wayText (same openWay (line t)) ++ (10 ∷ []) ++ afterLine t
-unfolding isWayLine
-way-line-again t e =
-    let either = same sealWay (line t) || same openWay (line t) in
-    ended-split t (both-first (hasLine t) either e)
-    ∙ ap (λ (l : List ℕ). l ++ (10 ∷ []) ++ afterLine t) (way-again (same openWay (line t)) (line t) refl (both-second (hasLine t) either e))
+pub right-is-written : (t : List ℕ) → brokenLine t ≡ 0 → WrittenFrom (valuesOf t) t
+unfolding brokenLine Kept settingTests taskTests lines valuesOf said sheetText linesOf
+right-is-written t right =
+    let r = right-lines 0 (settingTests ++ taskTests) t right in
+    let k = r .kept in
+    let cipher = decimal-line-again 65535 cipherName _ (omega arith) (k .0) in
+    let rounds = decimal-line-again 65535 roundsName _ (omega arith) (k .1 .0) in
+    let key = pairs-line-again 64 keyName _ (k .1 .1 .0) in
+    let way = way-again _ _ refl (k .1 .1 .1 .0) in
+    let block = pairs-line-again 32 blockName _ (k .1 .1 .1 .1 .0) in
+    record {
+      range =
+          record {
+            cipher = cipher .range;
+            rounds = rounds .range;
+            key = key .few;
+            key-bytes = key .bytes;
+            block = block .few;
+            block-bytes = block .bytes;
+          };
+      text = r .text ∙ cc (cipher .text, rounds .text, key .text, way, block .text);
+    }
 
-empty-nil : (t : List ℕ) → empty t ≡ true → t ≡ []
-unfolding empty
-empty-nil [] e = refl
-empty-nil (x ∷ xs) e = absurd (true≢false (sym e))
+-- so what a sheet says settles it
 
-pub right-is-written : (t : List ℕ) → brokenLine t ≡ 0 → t ≡ sheetText (cipherOf t) (roundsOf t) (keyOf t) (opens t) (blockOf t)
-unfolding afterLines cipherOf roundsOf keyOf opens blockOf first second third fourth fifth text
-right-is-written t e =
-    let k = right-kept t e in
-    decimal-line-again cipherName t (k .cipher)
-    ∙ ap (λ (r : List ℕ). decimalLineText cipherName (cipherOf t) ++ r)
-    (decimal-line-again roundsName (afterLines 1 t) (k .rounds)
-    ∙ ap (λ (r : List ℕ). decimalLineText roundsName (roundsOf t) ++ r)
-    (pairs-line-again 64 keyName (afterLines 2 t) (k .key)
-    ∙ ap (λ (r : List ℕ). pairsLineText keyName (keyOf t) ++ r)
-    (way-line-again (afterLines 3 t) (k .way)
-    ∙ ap (λ (r : List ℕ). wayText (opens t) ++ (10 ∷ []) ++ r)
-    (pairs-line-again 32 blockName (afterLines 4 t) (k .block)
-    ∙ ap (λ (r : List ℕ). pairsLineText blockName (blockOf t) ++ r) (empty-nil (afterLines 5 t) (k .end))))))
-    ∙ sym (grouped (cipherOf t) (roundsOf t) (keyOf t) (opens t) (blockOf t))
+pub says-written : {v : Values} {t : List ℕ} → Says v t → WrittenFrom v t
+says-written {v} {t} s = rw (s .values) at (right-is-written t (s .right))
 
--- so no two sheets say the same
-
-says-written : {t : List ℕ} {cipher rounds : ℕ} {key : List ℕ} {opening : Bool} {block : List ℕ}
-    → Says t cipher rounds key opening block → t ≡ sheetText cipher rounds key opening block
-says-written {t} s = rw (s .of-cipher, s .of-rounds, s .of-key, s .of-way, s .of-block) at (right-is-written t (s .right))
-
-pub says-once : {s t : List ℕ} {cipher rounds : ℕ} {key : List ℕ} {opening : Bool} {block : List ℕ}
-    → Says s cipher rounds key opening block → Says t cipher rounds key opening block → s ≡ t
-says-once a b = says-written a ∙ sym (says-written b)
+pub says-once : {v : Values} {s t : List ℕ} → Says v s → Says v t → s ≡ t
+says-once a b = says-written a .text ∙ sym (says-written b .text)

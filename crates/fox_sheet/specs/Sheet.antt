@@ -1,11 +1,12 @@
 -- The sheet of the bench program (01, "The bench program"): the rule of each of its five lines, the first line that breaks its rule, and what the lines say.
 -- Assumes nothing.
 use Prim.Native.Nat.{ℕ}
-use mathlib.Core.Bool.{Bool, not, _&&_, _||_}
+use mathlib.Core.Bool.{Bool, _||_}
 use mathlib.Core.List.{List, [], _∷_, _++_}
-use Rattle.fox_calls.specs.Refusals.{Refusal, refusalOf}
-use Rattle.fox_text.specs.Ascii.{ascii, empty, same}
-use Rattle.fox_text.specs.Lines.{hasLine, line, afterLines}
+use lib.ListN.{getD}
+use Rattle.fox_text.specs.Ascii.{ascii, same}
+use Rattle.fox_text.specs.Lines.{lines}
+use Rattle.fox_text.specs.Rules.{Test, brokenFrom}
 use Rattle.fox_text.specs.Fields.{isDecimalLine, isPairsLine, decimalIn, pairsIn}
 
 unfoldable pub cipherName : List ℕ
@@ -26,39 +27,38 @@ openWay = ascii "way=open"
 unfoldable pub blockName : List ℕ
 blockName = ascii "block="
 
-unfoldable pub isWayLine : List ℕ → Bool
-isWayLine t = hasLine t && (same sealWay (line t) || same openWay (line t))
-
--- a line's number, and whether it breaks its rule or is missing
-unfoldable pub keeps : ℕ → Bool → Refusal
-keeps number right = record { number = number; applies = not right }
+unfoldable pub isWayLine : Test
+isWayLine l = same sealWay l || same openWay l
 
 -- cipher, rounds and key
-unfoldable pub settingRules : List ℕ → List Refusal
-settingRules t =
-    keeps 1 (isDecimalLine cipherName t) ∷ keeps 2 (isDecimalLine roundsName (afterLines 1 t)) ∷ keeps 3 (isPairsLine 64 keyName (afterLines 2 t)) ∷ []
+unfoldable pub settingTests : List Test
+settingTests = isDecimalLine 65535 cipherName ∷ isDecimalLine 65535 roundsName ∷ isPairsLine 64 keyName ∷ []
 
--- way and block, and nothing after them: t is what follows the first three lines
-unfoldable pub taskRules : List ℕ → List Refusal
-taskRules t =
-    keeps 4 (isWayLine t) ∷ keeps 5 (isPairsLine 32 blockName (afterLines 1 t)) ∷ keeps 6 (empty (afterLines 2 t)) ∷ []
+-- way and block
+unfoldable pub taskTests : List Test
+taskTests = isWayLine ∷ isPairsLine 32 blockName ∷ []
 
 -- the number of the first line that breaks a rule or is missing, 6 for text after the fifth, and 0 where the sheet is right
 unfoldable pub brokenLine : List ℕ → ℕ
-brokenLine t = refusalOf (settingRules t ++ taskRules (afterLines 3 t))
+brokenLine t = brokenFrom 1 (settingTests ++ taskTests) t
 
-unfoldable pub cipherOf : List ℕ → ℕ
-cipherOf t = decimalIn cipherName t
+-- what a sheet says; `opening` is whether the way is `open`
+pub record Values : Type 0 where
+  pub cipher : ℕ
+  pub rounds : ℕ
+  pub key : List ℕ
+  pub opening : Bool
+  pub block : List ℕ
 
-unfoldable pub roundsOf : List ℕ → ℕ
-roundsOf t = decimalIn roundsName (afterLines 1 t)
+unfoldable pub said : List (List ℕ) → Values
+said ls =
+    record {
+      cipher = decimalIn 65535 cipherName (getD ls 0 []);
+      rounds = decimalIn 65535 roundsName (getD ls 1 []);
+      key = pairsIn 64 keyName (getD ls 2 []);
+      opening = same openWay (getD ls 3 []);
+      block = pairsIn 32 blockName (getD ls 4 []);
+    }
 
-unfoldable pub keyOf : List ℕ → List ℕ
-keyOf t = pairsIn keyName (afterLines 2 t)
-
--- whether the way is `open`
-unfoldable pub opens : List ℕ → Bool
-opens t = same openWay (line (afterLines 3 t))
-
-unfoldable pub blockOf : List ℕ → List ℕ
-blockOf t = pairsIn blockName (afterLines 4 t)
+unfoldable pub valuesOf : List ℕ → Values
+valuesOf t = said (lines 5 t)

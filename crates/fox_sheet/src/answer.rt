@@ -3,25 +3,31 @@ ghost use mathlib.Core.Path.{_≡_};
 ghost use Prim.Native.Nat.{_≤_};
 ghost use lib.ListN.{length};
 ghost use Rattle.fox_text.specs.Put.{Put};
-ghost use Rattle.fox_sheet.specs.Answer.{Answers, Turns, blockText, brokenText, servedText};
+ghost use Rattle.fox_sheet.specs.Answer.{Answers, Room, Turns, asked, blockText, brokenText, servedText};
+use crate::sheet::first_broken;
 use crate::sheet::read_settings;
 use crate::sheet::read_task;
 use fox_calls::answer::Answer;
 use fox_card::block::open;
 use fox_card::block::seal;
+use fox_text::lines::after_line;
 use fox_text::writing::put_decimal_line;
 use fox_text::writing::put_pairs_line;
 
-fn put_broken(line: u32, out: &mut [u8; 128]) -> usize
-    ensures { λ r. ⌜ (r ≤ 128) × (Put (brokenText line) (now (out .entry)) (now (out .exit)) 0 r) ⌝ }
+// How many bytes an answer's buffer has.
+pub const ROOM: usize = 128;
+
+fn put_broken(line: u32, out: &mut [u8]) -> usize
+    requires { ⌜ 125 ≤ length (now out) ⌝ }
+    ensures { λ r. ⌜ Put 125 (brokenText line) (now (out .entry)) (now (out .exit)) 0 r ⌝ }
 {
     let at = put_decimal_line(out, 0, b"refusal=", 8);
     put_decimal_line(out, at, b"line=", line)
 }
 
-fn put_served(cipher: u32, rounds: u32, key: usize, block: &[u8], out: &mut [u8; 128]) -> usize
-    requires { ⌜ (key ≤ 64) × (length (now block) ≤ 32) ⌝ }
-    ensures { λ r. ⌜ (r ≤ 128) × (Put (servedText cipher rounds key (now (block .entry))) (now (out .entry)) (now (out .exit)) 0 r) ⌝ }
+fn put_served(cipher: u32, rounds: u32, key: usize, block: &[u8], out: &mut [u8]) -> usize
+    requires { ⌜ Room key (now block) (now out) ⌝ }
+    ensures { λ r. ⌜ Put 125 (servedText cipher rounds key (now (block .entry))) (now (out .entry)) (now (out .exit)) 0 r ⌝ }
 {
     let a = put_decimal_line(out, 0, b"refusal=", 0);
     let b = put_decimal_line(out, a, b"cipher=", cipher);
@@ -32,7 +38,7 @@ fn put_served(cipher: u32, rounds: u32, key: usize, block: &[u8], out: &mut [u8;
 
 // The block sealed or opened, as the sheet asks.
 fn turn(opening: bool, cipher: u32, rounds: u32, key: &[u8], block: &[u8], out: &mut [u8]) -> Answer
-    ensures { λ r. ⌜ Turns opening cipher rounds (now (key .entry)) (now (block .entry)) (now (out .entry)) (now (out .exit)) r ⌝ }
+    ensures { λ r. ⌜ Turns (asked opening cipher rounds (now (key .entry)) (now (block .entry))) (now (out .entry)) (now (out .exit)) r ⌝ }
 {
     if opening {
         return open(cipher, rounds, key, block, out);
@@ -48,10 +54,11 @@ fn tell(
     key: &[u8],
     block: &[u8],
     room: &mut [u8],
-    out: &mut [u8; 128],
+    out: &mut [u8],
 ) -> usize
-    requires { ⌜ (length (now key) ≤ 64) × (length (now block) ≤ 32) × (length (now room) ≡ length (now block)) ⌝ }
-    ensures { λ r. ⌜ (r ≤ 128) × (Put (blockText opening cipher rounds (now (key .entry)) (now (block .entry))) (now (out .entry)) (now (out .exit)) 0 r) ⌝ }
+    requires lengths { ⌜ Room (length (now key)) (now block) (now out) ⌝ }
+    requires as_long { ⌜ length (now room) ≡ length (now block) ⌝ }
+    ensures { λ r. ⌜ Put 125 (blockText (asked opening cipher rounds (now (key .entry)) (now (block .entry)))) (now (out .entry)) (now (out .exit)) 0 r ⌝ }
 {
     let a = turn(opening, cipher, rounds, key, block, room);
     if a.refusal != 0 {
@@ -66,10 +73,10 @@ fn answer_block(
     rounds: u32,
     key: &[u8],
     block: &[u8],
-    out: &mut [u8; 128],
+    out: &mut [u8],
 ) -> usize
-    requires { ⌜ (length (now key) ≤ 64) × (length (now block) ≤ 32) ⌝ }
-    ensures { λ r. ⌜ (r ≤ 128) × (Put (blockText opening cipher rounds (now (key .entry)) (now (block .entry))) (now (out .entry)) (now (out .exit)) 0 r) ⌝ }
+    requires { ⌜ Room (length (now key)) (now block) (now out) ⌝ }
+    ensures { λ r. ⌜ Put 125 (blockText (asked opening cipher rounds (now (key .entry)) (now (block .entry)))) (now (out .entry)) (now (out .exit)) 0 r ⌝ }
 {
     let mut room = [0; 32];
     let n = block.len();
@@ -77,18 +84,19 @@ fn answer_block(
 }
 
 // Every byte that the bench program prints for the sheet, at the start of the output; their count is handed back.
-pub fn answer(sheet: &[u8], out: &mut [u8; 128]) -> usize
+pub fn answer(sheet: &[u8], out: &mut [u8; ROOM]) -> usize
     ensures { λ r. ⌜ Answers (now (sheet .entry)) (now (out .entry)) (now (out .exit)) r ⌝ }
 {
     let mut key = [0; 64];
     let s = read_settings(sheet, &mut key);
-    if s.line != 0 {
-        return put_broken(s.line, out);
-    }
-    let mut block = [0; 64];
-    let t = read_task(sheet, s.next, &mut block);
-    if t.line != 0 {
-        return put_broken(t.line, out);
+    let second = after_line(sheet);
+    let third = after_line(second);
+    let fourth = after_line(third);
+    let mut block = [0; 32];
+    let t = read_task(fourth, &mut block);
+    let line = first_broken(s.line, s.line == 0, t.line);
+    if line != 0 {
+        return put_broken(line, out);
     }
     let k = s.size;
     let b = t.size;

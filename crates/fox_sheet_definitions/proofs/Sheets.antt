@@ -17,12 +17,13 @@ use Rattle.fox_nonlinear.specs.Nonlinear.{words, mix64, flipped, layers, number
 use Rattle.fox_schedule.specs.Schedule.{ek64, key64, roundKey64}
 use Rattle.fox_calls.specs.Refusals.{refusalOf, blockSize, noCipher, noRounds, longKey, noBlock, noOutput, forKey, forBlock}
 use Rattle.fox_cipher.specs.Block.{state64, bytes64, sealWith, openWith, roundKey, roundKeys, sealBlock, openBlock}
-use Rattle.fox_text.specs.Ascii.{codes, ascii, empty, startsWith, same}
-use Rattle.fox_text.specs.Lines.{lineEnd, hasLine, line, afterLine, afterLines}
-use Rattle.fox_text.specs.Decimal.{isDigit, allDigits, onward, decimalOf, leadingZero, inRange, isDecimal, place, decimalText}
-use Rattle.fox_text.specs.Hex.{isHex, allHex, isPairs, nibble, pairsOf, digit, hexText}
-use Rattle.fox_text.specs.Fields.{valueText, named, isDecimalLine, isPairsLine, decimalIn, pairsIn, decimalLineText, pairsLineText}
-use Rattle.fox_sheet.specs.Sheet.{cipherName, roundsName, keyName, sealWay, openWay, blockName, isWayLine, keeps, settingRules, taskRules, brokenLine, cipherOf, roundsOf, keyOf, opens, blockOf}
+use Rattle.fox_text.specs.Ascii.{codes, ascii, startsWith}
+use Rattle.fox_text.specs.Lines.{lineEnd, afterLine, lines}
+use Rattle.fox_text.specs.Rules.{isLine, brokenFrom}
+use Rattle.fox_text.specs.Decimal.{allDigits, onward, begins, inRange, isDecimal, digitsText}
+use Rattle.fox_text.specs.Hex.{allHex, nibble, pairsOf, digit, hexText}
+use Rattle.fox_text.specs.Fields.{isDecimalLine, isPairsLine, decimalIn, pairsIn, decimalLineText, pairsLineText}
+use Rattle.fox_sheet.specs.Sheet.{cipherName, roundsName, keyName, sealWay, openWay, blockName, isWayLine, settingTests, taskTests, brokenLine, said, valuesOf}
 use Rattle.fox_sheet.specs.Answer.{refusalName, lineName, keybitsName, brokenText, servedText, turned, refusal, blockText, answerOf}
 
 -- sheets, each with what is printed for it
@@ -34,5 +35,5 @@ served =
     ∷ []
 
 pub served-printed : map (λ x. answerOf (x .0)) served ≡ map (λ x. ascii (x .1)) served
-unfolding served joined split sum summed polynomial rest product S₁ S₂ S₃ halves whole or4 lmid4 lmor4 sbox sigma dot times mu4Rows diffused mu4 left right or io f f32 lmid64 or64 io64 numbered through seal64 open64 pad padded mixed mkey seed clocked iterate LFSR stream groups dkey words mix64 flipped layers number64 NL64 ek64 key64 roundKey64 refusalOf blockSize noCipher noRounds longKey noBlock noOutput forKey forBlock state64 bytes64 sealWith openWith roundKey roundKeys sealBlock openBlock codes ascii empty startsWith same lineEnd hasLine line afterLine afterLines isDigit allDigits onward decimalOf leadingZero inRange isDecimal place decimalText isHex allHex isPairs nibble pairsOf digit hexText valueText named isDecimalLine isPairsLine decimalIn pairsIn decimalLineText pairsLineText cipherName roundsName keyName sealWay openWay blockName isWayLine keeps settingRules taskRules brokenLine cipherOf roundsOf keyOf opens blockOf refusalName lineName keybitsName brokenText servedText turned refusal blockText answerOf
+unfolding served joined split sum summed polynomial rest product S₁ S₂ S₃ halves whole or4 lmid4 lmor4 sbox sigma dot times mu4Rows diffused mu4 left right or io f f32 lmid64 or64 io64 numbered through seal64 open64 pad padded mixed mkey seed clocked iterate LFSR stream groups dkey words mix64 flipped layers number64 NL64 ek64 key64 roundKey64 refusalOf blockSize noCipher noRounds longKey noBlock noOutput forKey forBlock state64 bytes64 sealWith openWith roundKey roundKeys sealBlock openBlock codes ascii startsWith lineEnd afterLine lines isLine brokenFrom allDigits onward begins inRange isDecimal digitsText allHex nibble pairsOf digit hexText isDecimalLine isPairsLine decimalIn pairsIn decimalLineText pairsLineText cipherName roundsName keyName sealWay openWay blockName isWayLine settingTests taskTests brokenLine said valuesOf refusalName lineName keybitsName brokenText servedText turned refusal blockText answerOf
 served-printed = refl

@@ -5,7 +5,6 @@ pub mod Decimals
 pub mod Pairs
 pub mod Stores
 pub mod Fields
-pub mod Read
 pub mod Prefixes
 pub mod Written
-pub mod Again
+pub mod Values

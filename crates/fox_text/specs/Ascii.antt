@@ -17,9 +17,8 @@ codes (suc k) i t = code (charAt t i) ∷ codes k (suc i) t
 unfoldable pub ascii : String → List ℕ
 ascii t = codes (len t) 0 t
 
-unfoldable pub empty : List ℕ → Bool
-empty [] = true
-empty (x ∷ xs) = false
+abbrev pub empty : List ℕ → Bool
+empty t = eqb (length t) 0
 
 -- whether a text begins with the bytes of a name
 unfoldable pub startsWith : List ℕ → List ℕ → Bool
@@ -28,5 +27,5 @@ startsWith (x ∷ xs) [] = false
 startsWith (x ∷ xs) (y ∷ ys) = eqb x y && startsWith xs ys
 
 -- whether two texts are the same
-unfoldable pub same : List ℕ → List ℕ → Bool
+abbrev pub same : List ℕ → List ℕ → Bool
 same a b = eqb (length a) (length b) && startsWith a b

@@ -1,47 +1,49 @@
--- Decimal numbers of 0 to 65535, with no leading zero.
+-- Decimal numbers from 0 to a limit, with no leading zero.
 -- Assumes nothing.
-use Prim.Native.Nat.{ℕ, _+_, _-_, _*_, _/_, _%_}
+use mathlib.Core.Path.{_≡_}
+use Prim.Native.Nat.{ℕ, zero, suc, _+_, _-_, _*_, _/_, _%_}
 use mathlib.Core.Bool.{Bool, true, false, cond, not, _&&_}
 use mathlib.Core.List.{List, [], _∷_, _++_}
 use lib.Dec.{leb, ltb, eqb}
-use Rattle.fox_text.specs.Ascii.{empty}
 use Rattle.fox_text.specs.declared.decimal.Decimal.{Decimal}
 
-unfoldable pub isDigit : ℕ → Bool
+abbrev pub isDigit : ℕ → Bool
 isDigit d = leb 48 d && leb d 57
 
 unfoldable pub allDigits : List ℕ → Bool
 allDigits [] = true
 allDigits (d ∷ ds) = isDigit d && allDigits ds
 
--- the number that digits go on to make from the one that the digits before them made
+-- the value of the digits ds appended to the number v
 unfoldable pub onward : ℕ → List ℕ → ℕ
 onward v [] = v
 onward v (d ∷ ds) = onward (v * 10 + (d - 48)) ds
 
-unfoldable pub decimalOf : List ℕ → ℕ
+abbrev pub decimalOf : List ℕ → ℕ
 decimalOf ds = onward 0 ds
 
--- 0 is the one number that begins with it
-unfoldable pub leadingZero : List ℕ → Bool
-leadingZero [] = false
-leadingZero (d ∷ []) = false
-leadingZero (d ∷ e ∷ ds) = eqb d 48
+-- whether there are digits, and no zero before others
+unfoldable pub begins : List ℕ → Bool
+begins [] = false
+begins (d ∷ []) = true
+begins (d ∷ e ∷ ds) = not (eqb d 48)
 
-unfoldable pub inRange : List ℕ → Bool
-inRange ds = allDigits ds && leb (decimalOf ds) 65535
+unfoldable pub inRange : ℕ → List ℕ → Bool
+inRange most ds = allDigits ds && leb (decimalOf ds) most
 
-unfoldable pub isDecimal : List ℕ → Bool
-isDecimal ds = not (empty ds) && not (leadingZero ds) && inRange ds
+unfoldable pub isDecimal : ℕ → List ℕ → Bool
+isDecimal most ds = begins ds && inRange most ds
 
--- what reading finds: the number where the digits are right, and else 0
-unfoldable pub found : Bool → List ℕ → Decimal
-found right ds = record { right = right; value = cond right (decimalOf ds) 0 }
+-- what reading finds: whether the digits are right, and the number that they make, or 0 where they are not
+pub record Found (ok : Bool) (n : ℕ) (r : Decimal) : Type 0 where
+  pub right : r .right ≡ ok
+  pub value : r .value ≡ cond ok n 0
 
--- the digit at a place above the last, which is left out where the number does not reach it
-unfoldable pub place : ℕ → ℕ → List ℕ
-place p n = cond (ltb n p) [] ((48 + n / p % 10) ∷ [])
+-- the last k digits of a number, with no zero in front
+unfoldable pub digitsText : ℕ → ℕ → List ℕ
+digitsText zero n = []
+digitsText (suc k) n = cond (ltb n 10) ((48 + n) ∷ []) (digitsText k (n / 10) ++ ((48 + n % 10) ∷ []))
 
 -- a number below 100,000 as text
-unfoldable pub decimalText : ℕ → List ℕ
-decimalText n = place 10000 n ++ place 1000 n ++ place 100 n ++ place 10 n ++ ((48 + n % 10) ∷ [])
+abbrev pub decimalText : ℕ → List ℕ
+decimalText n = digitsText 5 n

@@ -1,73 +1,55 @@
--- A line that is a name, with its `=`, and a value: whether a text begins with one, and what reading it from its place in a sheet finds.
+-- A line that is a name, with its `=`, and a value: whether it is right, what it says, and how it is written. Lines stand without their line feed here.
 -- Assumes nothing.
 use mathlib.Core.Path.{_≡_}
-use Prim.Native.Nat.{ℕ, suc, _+_}
+use Prim.Native.Nat.{ℕ}
 use mathlib.Core.Bool.{Bool, cond, _&&_}
 use mathlib.Core.List.{List, [], _∷_, _++_}
 use lib.ListN.{length, drop}
-use lib.Seq.{sets}
 use Rattle.fox_text.specs.Ascii.{startsWith}
-use Rattle.fox_text.specs.Lines.{lineEnd, hasLine, line}
+use Rattle.fox_text.specs.Lines.{line}
+use Rattle.fox_text.specs.Rules.{Test, isLine}
 use Rattle.fox_text.specs.Decimal.{isDecimal, decimalOf, decimalText}
 use Rattle.fox_text.specs.Hex.{isPairs, pairsOf, hexText}
-use Rattle.fox_text.specs.declared.fields.Value.{Value}
-use Rattle.fox_text.specs.declared.fields.DecimalLine.{DecimalLine}
-use Rattle.fox_text.specs.declared.fields.PairsLine.{PairsLine}
+use Rattle.fox_text.specs.Put.{Stored}
+use Rattle.fox_text.specs.declared.decimal.Decimal.{Decimal}
+use Rattle.fox_text.specs.declared.fields.Pairs.{Pairs}
 
--- the value's text
-unfoldable pub valueText : List ℕ → List ℕ → List ℕ
-valueText name t = drop (length name) (line t)
+-- the value's text, after the name
+abbrev pub valueText : List ℕ → List ℕ → List ℕ
+valueText name l = drop (length name) l
 
-unfoldable pub named : List ℕ → List ℕ → Bool
-named name t = hasLine t && startsWith name (line t)
+-- a decimal up to a limit; pairs of digits, at most so many
+unfoldable pub isDecimalLine : ℕ → List ℕ → Test
+isDecimalLine most name l = startsWith name l && isDecimal most (valueText name l)
 
--- where the value stands in a sheet, of which t is the text from place `at` on; where the line breaks the rule, all numbers are 0
-unfoldable pub valueAt : List ℕ → ℕ → List ℕ → Value
-valueAt name at t =
-    record {
-      right = named name t;
-      start = cond (named name t) (at + length name) 0;
-      end = cond (named name t) (at + lineEnd t) 0;
-    }
+unfoldable pub isPairsLine : ℕ → List ℕ → Test
+isPairsLine most name l = startsWith name l && isPairs most (valueText name l)
 
-unfoldable pub isDecimalLine : List ℕ → List ℕ → Bool
-isDecimalLine name t = named name t && isDecimal (valueText name t)
+-- the number that stands after the name, or 0 where none does
+unfoldable pub decimalIn : ℕ → List ℕ → List ℕ → ℕ
+decimalIn most name l = cond (isDecimal most (valueText name l)) (decimalOf (valueText name l)) 0
 
-unfoldable pub isPairsLine : ℕ → List ℕ → List ℕ → Bool
-isPairsLine most name t = named name t && isPairs most (valueText name t)
+-- the bytes of a right line, and none of another
+unfoldable pub pairsIn : ℕ → List ℕ → List ℕ → List ℕ
+pairsIn most name l = cond (isPairsLine most name l) (pairsOf (valueText name l)) []
 
-unfoldable pub decimalIn : List ℕ → List ℕ → ℕ
-decimalIn name t = decimalOf (valueText name t)
+-- a text's first line read; it is right where it is ended, too
+pub record ReadsDecimal (most : ℕ) (name t : List ℕ) (r : Decimal) : Type 0 where
+  pub right : r .right ≡ isLine (isDecimalLine most name) t
+  pub value : r .value ≡ decimalIn most name (line t)
 
-unfoldable pub pairsIn : List ℕ → List ℕ → List ℕ
-pairsIn name t = pairsOf (valueText name t)
+-- its bytes stand at the start of the output
+pub record ReadsPairs (most : ℕ) (name t before after : List ℕ) (r : Pairs) : Type 0 where
+  pub right : r .right ≡ isLine (isPairsLine most name) t
+  pub stored : Stored most (pairsIn most name (line t)) before after (r .count)
 
--- where the next line begins, from the place of this one
-unfoldable pub nextLine : ℕ → List ℕ → ℕ
-nextLine at t = suc (at + lineEnd t)
+-- such lines as they are written, and with their line feed
+unfoldable pub decimalLine : List ℕ → ℕ → List ℕ
+decimalLine name n = name ++ decimalText n
 
-unfoldable pub readDecimalLine : List ℕ → ℕ → List ℕ → DecimalLine
-readDecimalLine name at t =
-    record {
-      right = isDecimalLine name t;
-      value = cond (isDecimalLine name t) (decimalIn name t) 0;
-      next = cond (isDecimalLine name t) (nextLine at t) 0;
-    }
+unfoldable pub pairsLine : List ℕ → List ℕ → List ℕ
+pairsLine name bytes = name ++ hexText bytes
 
-unfoldable pub readPairsLine : ℕ → List ℕ → ℕ → List ℕ → PairsLine
-readPairsLine most name at t =
-    record {
-      right = isPairsLine most name t;
-      count = cond (isPairsLine most name t) (length (pairsIn name t)) 0;
-      next = cond (isPairsLine most name t) (nextLine at t) 0;
-    }
-
--- a line of pairs read from place `at` on, with its bytes at the start of the output where it is right
-abbrev pub ReadsPairs : ℕ → List ℕ → ℕ → List ℕ → List ℕ → List ℕ → PairsLine → Type 0
-ReadsPairs most name at t before after r =
-    (r ≡ readPairsLine most name at t) × (after ≡ cond (isPairsLine most name t) (sets before 0 (pairsIn name t)) before)
-
--- such lines as they are written
 unfoldable pub decimalLineText : List ℕ → ℕ → List ℕ
 decimalLineText name n = name ++ decimalText n ++ (10 ∷ [])
 

@@ -1,13 +1,14 @@
 -- Bytes as pairs of upper-case hex digits.
 -- Assumes nothing.
-use Prim.Native.Nat.{ℕ, _+_, _-_, _*_, _/_, _%_}
+use mathlib.Core.Path.{_≡_}
+use Prim.Native.Nat.{ℕ, _+_, _-_, _*_, _/_, _%_, _≤_}
 use mathlib.Core.Bool.{Bool, true, cond, _&&_, _||_}
 use mathlib.Core.List.{List, [], _∷_}
 use lib.ListN.{length}
 use lib.Dec.{leb, ltb, eqb}
 use Rattle.fox_text.specs.Decimal.{isDigit}
 
-unfoldable pub isHex : ℕ → Bool
+abbrev pub isHex : ℕ → Bool
 isHex d = isDigit d || (leb 65 d && leb d 70)
 
 unfoldable pub allHex : List ℕ → Bool
@@ -15,7 +16,7 @@ allHex [] = true
 allHex (d ∷ ds) = isHex d && allHex ds
 
 -- at most so many pairs, and nothing besides
-unfoldable pub isPairs : ℕ → List ℕ → Bool
+abbrev pub isPairs : ℕ → List ℕ → Bool
 isPairs most ds = eqb (length ds % 2) 0 && leb (length ds / 2) most && allHex ds
 
 unfoldable pub nibble : ℕ → ℕ
@@ -26,6 +27,11 @@ unfoldable pub pairsOf : List ℕ → List ℕ
 pairsOf [] = []
 pairsOf (a ∷ []) = []
 pairsOf (a ∷ b ∷ ds) = (nibble a * 16 + nibble b) ∷ pairsOf ds
+
+-- digits that can be joined into a buffer: hex digits, and room for their bytes
+pub record Joins (ds out : List ℕ) : Type 0 where
+  pub hex : allHex ds ≡ true
+  pub room : length ds ≤ length out * 2
 
 unfoldable pub digit : ℕ → ℕ
 digit n = cond (ltb n 10) (48 + n) (55 + n)

@@ -1,7 +1,8 @@
 -- What the promises on texts cite: lines, decimals, pairs of hex digits, and lines of a name and a value.
 pub mod Ascii
 pub mod Lines
+pub mod Rules
 pub mod Decimal
 pub mod Hex
-pub mod Fields
 pub mod Put
+pub mod Fields

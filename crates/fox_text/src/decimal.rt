@@ -1,56 +1,62 @@
-// Decimals of 0 to 65535, read from a text of any length.
+// Decimals from 0 to a limit, read from a text of any length.
 ghost use mathlib.Core.Path.{_≡_};
-ghost use Rattle.fox_text.specs.Decimal.{found, inRange, isDecimal};
+ghost use Rattle.fox_text.specs.Decimal.{Found, begins, decimalOf, inRange, isDecimal, isDigit};
 
 pub struct Decimal {
     pub right: bool,
     pub value: u32,
 }
 
-// The number that digits make, with or without a leading zero. It only grows, so the first digit that takes it above 65535 settles the matter, however
+pub fn is_digit(d: u8) -> bool
+    ensures { λ r. ⌜ r ≡ isDigit d ⌝ }
+{
+    (48 <= d) & (d <= 57)
+}
+
+// The number that digits make, with or without a leading zero. It only grows, so the first digit that takes it above the limit settles the matter, however
 // many follow.
-fn digits(ds: &[u8]) -> Decimal
-    ensures { λ r. ⌜ r ≡ found (inRange (now (ds .entry))) (now (ds .entry)) ⌝ }
+fn digits(ds: &[u8], most: u32) -> Decimal
+    ensures { λ r. ⌜ Found (inRange most (now (ds .entry))) (decimalOf (now (ds .entry))) r ⌝ }
 {
     let wrong = Decimal {
         right: false,
         value: 0,
     };
-    let mut v: u32 = 0;
+    let mut v: u64 = 0;
     for i in 0..ds.len() {
         let d = ds[i];
-        if d < 48 {
+        if !is_digit(d) {
             return wrong;
         }
-        if d > 57 {
-            return wrong;
-        }
-        v = v * 10 + (d - 48) as u32;
-        if v > 65535 {
+        v = v * 10 + (d - 48) as u64;
+        if v > most as u64 {
             return wrong;
         }
     }
     Decimal {
         right: true,
-        value: v,
+        value: v as u32,
     }
 }
 
-pub fn read_decimal(ds: &[u8]) -> Decimal
-    ensures { λ r. ⌜ r ≡ found (isDecimal (now (ds .entry))) (now (ds .entry)) ⌝ }
+// Whether there are digits, and no zero before others.
+fn begins(ds: &[u8]) -> bool
+    ensures { λ r. ⌜ r ≡ begins (now (ds .entry)) ⌝ }
 {
-    let wrong = Decimal {
+    if ds.len() < 2 {
+        return ds.len() == 1;
+    }
+    ds[0] != 48
+}
+
+pub fn read_decimal(ds: &[u8], most: u32) -> Decimal
+    ensures { λ r. ⌜ Found (isDecimal most (now (ds .entry))) (decimalOf (now (ds .entry))) r ⌝ }
+{
+    if begins(ds) {
+        return digits(ds, most);
+    }
+    Decimal {
         right: false,
         value: 0,
-    };
-    if ds.len() == 0 {
-        return wrong;
     }
-    if ds.len() == 1 {
-        return digits(ds);
-    }
-    if ds[0] == 48 {
-        return wrong;
-    }
-    digits(ds)
 }

@@ -1,19 +1,13 @@
 // Pairs of upper-case hex digits, read from a text of any length.
 ghost use mathlib.Core.Path.{_≡_};
 ghost use mathlib.Core.Bool.{true};
-ghost use Prim.Native.Nat.{_*_, _≤_};
-ghost use lib.ListN.{length};
 ghost use lib.Seq.{sets};
-ghost use Rattle.fox_text.specs.Hex.{allHex, isHex, isPairs, nibble, pairsOf};
+ghost use Rattle.fox_text.specs.Hex.{Joins, allHex, isHex, isPairs, nibble, pairsOf};
 
 pub fn is_hex(d: u8) -> bool
     ensures { λ r. ⌜ r ≡ isHex d ⌝ }
 {
-    match d {
-        48..=57 => true,
-        65..=70 => true,
-        _ => false,
-    }
+    ((48 <= d) & (d <= 57)) | ((65 <= d) & (d <= 70))
 }
 
 fn all_hex(ds: &[u8]) -> bool
@@ -31,13 +25,7 @@ fn all_hex(ds: &[u8]) -> bool
 pub fn is_pairs(ds: &[u8], most: usize) -> bool
     ensures { λ r. ⌜ r ≡ isPairs most (now (ds .entry)) ⌝ }
 {
-    if ds.len() % 2 != 0 {
-        return false;
-    }
-    if ds.len() / 2 > most {
-        return false;
-    }
-    all_hex(ds)
+    (ds.len() % 2 == 0) & (ds.len() / 2 <= most) & all_hex(ds)
 }
 
 fn nibble(d: u8) -> u8
@@ -49,7 +37,7 @@ fn nibble(d: u8) -> u8
 
 // Writes the bytes that the pairs stand for at the start of the output, and nothing past them.
 pub fn join_pairs(ds: &[u8], out: &mut [u8])
-    requires { ⌜ (allHex (now ds) ≡ true) × (length (now ds) ≤ length (now out) * 2) ⌝ }
+    requires { ⌜ Joins (now ds) (now out) ⌝ }
     ensures { λ _. ⌜ now (out .exit) ≡ sets (now (out .entry)) 0 (pairsOf (now (ds .entry))) ⌝ }
 {
     let n = ds.len() / 2;

@@ -1,33 +1,59 @@
-// Where lines end, and whether one begins with a name.
+// A text's first line, what follows it, and how texts are compared.
 ghost use mathlib.Core.Path.{_≡_};
-ghost use Prim.Native.Nat.{_+_, _≤_};
-ghost use lib.ListN.{length, drop};
+ghost use lib.ListN.{drop};
 ghost use Rattle.fox_text.specs.Ascii.{same, startsWith};
-ghost use Rattle.fox_text.specs.Lines.{lineEnd};
+ghost use Rattle.fox_text.specs.Lines.{After, Ends, hasLine, line};
 
-// The place of the first line feed at or after `at`, or the text's length where there is none.
-pub fn line_end(text: &[u8], at: usize) -> usize
-    requires { ⌜ at ≤ length (now text) ⌝ }
-    ensures { λ r. ⌜ r ≡ at + lineEnd (drop at (now (text .entry))) ⌝ }
+// The place of the first line feed, or the text's length where there is none.
+pub fn line_end(t: &[u8]) -> usize
+    ensures { λ r. ⌜ Ends (now (t .entry)) r ⌝ }
 {
-    let mut i = at;
-    while i < text.len() {
-        if text[i] == 10 {
+    for i in 0..t.len() {
+        if t[i] == 10 {
             return i;
         }
-        i += 1;
     }
-    i
+    t.len()
 }
 
-pub fn starts_with(name: &[u8], text: &[u8]) -> bool
-    ensures { λ r. ⌜ r ≡ startsWith (now (name .entry)) (now (text .entry)) ⌝ }
+pub fn has_line(t: &[u8]) -> bool
+    ensures { λ r. ⌜ r ≡ hasLine (now (t .entry)) ⌝ }
 {
-    if text.len() < name.len() {
+    line_end(t) < t.len()
+}
+
+pub fn first_line(t: &[u8]) -> &[u8]
+    ensures { λ r. ⌜ now r ≡ line (now (t .entry)) ⌝ }
+{
+    let end = line_end(t);
+    &t[..end]
+}
+
+// The text from a place on: nothing where the place is past its end.
+pub fn rest(t: &[u8], at: usize) -> &[u8]
+    ensures { λ r. ⌜ now r ≡ drop at (now (t .entry)) ⌝ }
+{
+    if at <= t.len() {
+        return &t[at..];
+    }
+    &t[..0]
+}
+
+pub fn after_line(t: &[u8]) -> &[u8]
+    ensures { λ r. ⌜ After (now (t .entry)) (now r) ⌝ }
+{
+    let end = line_end(t);
+    rest(t, end + 1)
+}
+
+pub fn starts_with(name: &[u8], t: &[u8]) -> bool
+    ensures { λ r. ⌜ r ≡ startsWith (now (name .entry)) (now (t .entry)) ⌝ }
+{
+    if t.len() < name.len() {
         return false;
     }
     for i in 0..name.len() {
-        if name[i] != text[i] {
+        if name[i] != t[i] {
             return false;
         }
     }
@@ -37,8 +63,5 @@ pub fn starts_with(name: &[u8], text: &[u8]) -> bool
 pub fn same(a: &[u8], b: &[u8]) -> bool
     ensures { λ r. ⌜ r ≡ same (now (a .entry)) (now (b .entry)) ⌝ }
 {
-    if a.len() != b.len() {
-        return false;
-    }
-    starts_with(a, b)
+    (a.len() == b.len()) & starts_with(a, b)
 }

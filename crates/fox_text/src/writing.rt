@@ -1,15 +1,15 @@
-// Texts written into a buffer from a place on. Each hands back the place after its last byte.
+// Texts written into a buffer from a place on. Each hands back the place after its last byte, and says how far that can be.
 ghost use mathlib.Core.Path.{_≡_};
 ghost use Prim.Native.Nat.{_+_, _*_, _≤_, _<_};
 ghost use lib.ListN.{length};
-ghost use Rattle.fox_text.specs.Decimal.{decimalText, place};
+ghost use Rattle.fox_text.specs.Decimal.{digitsText};
 ghost use Rattle.fox_text.specs.Hex.{digit, hexText};
 ghost use Rattle.fox_text.specs.Fields.{decimalLineText, pairsLineText};
 ghost use Rattle.fox_text.specs.Put.{Put};
 
-pub fn put(out: &mut [u8; 128], at: usize, text: &[u8]) -> usize
-    requires { ⌜ at + length (now text) ≤ 128 ⌝ }
-    ensures { λ r. ⌜ Put (now (text .entry)) (now (out .entry)) (now (out .exit)) at r ⌝ }
+pub fn put(out: &mut [u8], at: usize, text: &[u8]) -> usize
+    requires { ⌜ at + length (now text) ≤ length (now out) ⌝ }
+    ensures { λ r. ⌜ Put (length (now (text .entry))) (now (text .entry)) (now (out .entry)) (now (out .exit)) at r ⌝ }
 {
     for i in 0..text.len() {
         out[at + i] = text[i];
@@ -17,27 +17,21 @@ pub fn put(out: &mut [u8; 128], at: usize, text: &[u8]) -> usize
     at + text.len()
 }
 
-fn put_place(out: &mut [u8; 128], at: usize, n: u32, p: u32) -> usize
-    requires { ⌜ (at < 128) × (0 < p) ⌝ }
-    ensures { λ r. ⌜ Put (place p n) (now (out .entry)) (now (out .exit)) at r ⌝ }
+// The last `places` digits of a number, with no zero in front.
+pub fn put_digits(out: &mut [u8], at: usize, n: u32, places: usize) -> usize
+    requires { ⌜ at + places ≤ length (now out) ⌝ }
+    ensures { λ r. ⌜ Put places (digitsText places n) (now (out .entry)) (now (out .exit)) at r ⌝ }
 {
-    if n < p {
+    if places == 0 {
         return at;
     }
-    out[at] = 48 + (n / p % 10) as u8;
-    at + 1
-}
-
-pub fn put_decimal(out: &mut [u8; 128], at: usize, n: u32) -> usize
-    requires { ⌜ at + 5 ≤ 128 ⌝ }
-    ensures { λ r. ⌜ Put (decimalText n) (now (out .entry)) (now (out .exit)) at r ⌝ }
-{
-    let a = put_place(out, at, n, 10000);
-    let b = put_place(out, a, n, 1000);
-    let c = put_place(out, b, n, 100);
-    let d = put_place(out, c, n, 10);
-    out[d] = 48 + (n % 10) as u8;
-    d + 1
+    if n < 10 {
+        out[at] = 48 + n as u8;
+        return at + 1;
+    }
+    let last = put_digits(out, at, n / 10, places - 1);
+    out[last] = 48 + (n % 10) as u8;
+    last + 1
 }
 
 fn digit(n: u8) -> u8
@@ -47,9 +41,9 @@ fn digit(n: u8) -> u8
     if n < 10 { 48 + n } else { 55 + n }
 }
 
-pub fn put_hex(out: &mut [u8; 128], at: usize, bytes: &[u8]) -> usize
-    requires { ⌜ at + length (now bytes) * 2 ≤ 128 ⌝ }
-    ensures { λ r. ⌜ Put (hexText (now (bytes .entry))) (now (out .entry)) (now (out .exit)) at r ⌝ }
+pub fn put_hex(out: &mut [u8], at: usize, bytes: &[u8]) -> usize
+    requires { ⌜ at + length (now bytes) * 2 ≤ length (now out) ⌝ }
+    ensures { λ r. ⌜ Put (length (now (bytes .entry)) * 2) (hexText (now (bytes .entry))) (now (out .entry)) (now (out .exit)) at r ⌝ }
 {
     for i in 0..bytes.len() {
         out[at + i * 2] = digit(bytes[i] / 16);
@@ -58,18 +52,19 @@ pub fn put_hex(out: &mut [u8; 128], at: usize, bytes: &[u8]) -> usize
     at + bytes.len() * 2
 }
 
-pub fn put_decimal_line(out: &mut [u8; 128], at: usize, name: &[u8], n: u32) -> usize
-    requires { ⌜ at + length (now name) + 6 ≤ 128 ⌝ }
-    ensures { λ r. ⌜ Put (decimalLineText (now (name .entry)) n) (now (out .entry)) (now (out .exit)) at r ⌝ }
+// A name, a number of five digits at most, and a line feed.
+pub fn put_decimal_line(out: &mut [u8], at: usize, name: &[u8], n: u32) -> usize
+    requires { ⌜ at + (length (now name) + 6) ≤ length (now out) ⌝ }
+    ensures { λ r. ⌜ Put (length (now (name .entry)) + 6) (decimalLineText (now (name .entry)) n) (now (out .entry)) (now (out .exit)) at r ⌝ }
 {
     let a = put(out, at, name);
-    let b = put_decimal(out, a, n);
+    let b = put_digits(out, a, n, 5);
     put(out, b, b"\n")
 }
 
-pub fn put_pairs_line(out: &mut [u8; 128], at: usize, name: &[u8], bytes: &[u8]) -> usize
-    requires { ⌜ at + length (now name) + length (now bytes) * 2 + 1 ≤ 128 ⌝ }
-    ensures { λ r. ⌜ Put (pairsLineText (now (name .entry)) (now (bytes .entry))) (now (out .entry)) (now (out .exit)) at r ⌝ }
+pub fn put_pairs_line(out: &mut [u8], at: usize, name: &[u8], bytes: &[u8]) -> usize
+    requires { ⌜ at + (length (now name) + length (now bytes) * 2 + 1) ≤ length (now out) ⌝ }
+    ensures { λ r. ⌜ Put (length (now (name .entry)) + length (now (bytes .entry)) * 2 + 1) (pairsLineText (now (name .entry)) (now (bytes .entry))) (now (out .entry)) (now (out .exit)) at r ⌝ }
 {
     let a = put(out, at, name);
     let b = put_hex(out, a, bytes);

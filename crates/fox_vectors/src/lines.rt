@@ -1,35 +1,29 @@
 // The lines that are printed: one for each row, `cipher rounds key-length`, its refusal where there is one, and whether it came out so; and the sum.
 ghost use Prim.Native.Nat.{_≤_};
-use crate::rows;
 
 // What the line of a row starts with.
-pub(crate) fn print_head(row: &[u8]) {
-    print_field(rows::number(row, 0) as usize, b' ');
-    print_field(rows::number(row, 1) as usize, b' ');
-    let mut key = [0u8; 40];
-    io::print_decimal(1, rows::bytes(row, 2, &mut key) as u64);
-    let refusal = rows::number(row, 4);
+pub(crate) fn print_head(cipher: u32, rounds: u32, key_len: usize, refusal: u32) {
+    io::print_decimal(1, cipher as u64);
+    io::write_all(1, b" ");
+    io::print_decimal(1, rounds as u64);
+    io::write_all(1, b" ");
+    io::print_decimal(1, key_len as u64);
     if refusal != 0 {
         io::write_all(1, b" refused ");
         io::print_decimal(1, refusal as u64);
     }
 }
 
-fn print_field(n: usize, after: u8) {
-    io::print_decimal(1, n as u64);
-    io::write_all(1, &[after]);
-}
-
 // Names a way that differs.
-pub(crate) fn print_way(way: u32) {
-    if way < 2 {
+pub(crate) fn print_way(way: u32, seals: bool) {
+    if way == 0 {
         io::write_all(1, b" card");
-    } else if way < 4 {
+    } else if way == 1 {
         io::write_all(1, b" server-from-key");
     } else {
         io::write_all(1, b" server-prepared");
     }
-    print_direction(way % 2 == 0);
+    print_direction(seals);
 }
 
 fn print_direction(seals: bool) {

@@ -1,83 +1,131 @@
-// Runs one row by every way: ways 0, 2 and 4 seal, and 1, 3 and 5 open, by the card, by the server from key bytes, and by the server from a prepared
-// key.
+// Runs one row by every way, sealing and opening: by the card, by the server from key bytes, and by the server from a prepared key.
+ghost use Prim.Native.Nat.{_≤_};
+ghost use lib.ListN.{length};
 use crate::lines;
 use crate::prepared_key;
-use crate::rows;
 use fox_calls::answer::Answer;
 use fox_card::block as card;
 use fox_server::block as server;
+use fox_text::lines::same;
+use fox_text::lines::starts_with;
 
 const PAINT: u8 = 0xA5;
 
+// What a row asks of a way (0: the card, 1: the server from key bytes, 2: from a prepared key), and the refusal that is due.
+struct Call {
+    way: u32,
+    seals: bool,
+    cipher: u32,
+    rounds: u32,
+    refusal: u32,
+}
+
 // Prints the ways that differ from what the row says, and answers whether none does.
-pub(crate) fn agree(row: &[u8]) -> bool {
-    let refusal = rows::number(row, 4);
-    let mut all = true;
-    for way in 0..6 {
-        if !agrees(way, row, refusal) {
-            lines::print_way(way);
-            all = false;
-        }
-    }
-    all
+pub(crate) fn agree(
+    cipher: u32,
+    rounds: u32,
+    refusal: u32,
+    key: &[u8],
+    block: &[u8],
+    sealed: &[u8],
+) -> bool
+    requires { ⌜ (length (now block) ≤ 64) × (length (now sealed) ≤ 64) ⌝ }
+{
+    let card = undoes(0, cipher, rounds, refusal, key, block, sealed);
+    let server = undoes(1, cipher, rounds, refusal, key, block, sealed);
+    let prepared = undoes(2, cipher, rounds, refusal, key, block, sealed);
+    card & server & prepared
 }
 
-// A way that seals turns cell 3 into cell 5, and one that opens turns cell 5 into cell 3. A refused row has nothing sealed to open, so there its
-// block is opened too, and cell 5 has the output's length.
-fn agrees(way: u32, row: &[u8], refusal: u32) -> bool {
+// Sealing turns the block into the sealed one, and opening turns it back. A refused row has nothing sealed to open, so there its block is opened too, and
+// the sealed one has the output's length.
+fn undoes(
+    way: u32,
+    cipher: u32,
+    rounds: u32,
+    refusal: u32,
+    key: &[u8],
+    block: &[u8],
+    sealed: &[u8],
+) -> bool
+    requires { ⌜ (length (now block) ≤ 64) × (length (now sealed) ≤ 64) ⌝ }
+{
+    let seals = Call {
+        way: way,
+        seals: true,
+        cipher: cipher,
+        rounds: rounds,
+        refusal: refusal,
+    };
+    let opens = Call {
+        way: way,
+        seals: false,
+        cipher: cipher,
+        rounds: rounds,
+        refusal: refusal,
+    };
     if refusal != 0 {
-        return tries(way, row, refusal, 3, 5);
+        return tries(seals, key, block, sealed) & tries(opens, key, block, sealed);
     }
-    let opens = (way % 2) as usize;
-    tries(way, row, 0, 3 + 2 * opens, 5 - 2 * opens)
+    tries(seals, key, block, sealed) & tries(opens, key, sealed, block)
 }
 
-// The output is painted first, so that it shows whether a refused call wrote to it.
-fn tries(way: u32, row: &[u8], refusal: u32, from: usize, to: usize) -> bool {
-    let mut out = [PAINT; 40];
-    let n = rows::room(row, to, &out);
-    puts(way, row, refusal, from, to, &mut out[..n])
+// Whether a call turns `from` into `to`, or is refused and leaves its output alone: the output is painted first, so that it shows.
+fn tries(c: Call, key: &[u8], from: &[u8], to: &[u8]) -> bool
+    requires { ⌜ length (now to) ≤ 64 ⌝ }
+{
+    let mut out = [PAINT; 64];
+    let n = to.len();
+    let right = puts(c, key, from, to, &mut out[..n]);
+    if !right {
+        lines::print_way(c.way, c.seals);
+    }
+    right
 }
 
-// Whether a way, run on cell `from`, puts out cell `to`, or refuses and leaves the output painted.
-fn puts(way: u32, row: &[u8], refusal: u32, from: usize, to: usize, out: &mut [u8]) -> bool {
-    let answer = call_row(way, row, from, out);
-    if answer.refusal != refusal {
-        return false;
+fn puts(c: Call, key: &[u8], from: &[u8], to: &[u8], out: &mut [u8]) -> bool {
+    let answer = make(c, key, from, out);
+    if c.refusal != 0 {
+        let painted = starts_with(out, &[PAINT; 64]);
+        return (answer.refusal == c.refusal) & (answer.count == 0) & painted;
     }
-    if refusal != 0 {
-        return answer.count == 0 && rows::is_all(out, PAINT);
-    }
-    answer.count == out.len() && rows::spells(row, to, out)
+    (answer.refusal == 0) & (answer.count == out.len()) & same(out, to)
 }
 
-fn call_row(way: u32, row: &[u8], cell: usize, out: &mut [u8]) -> Answer {
-    let mut key = [0u8; 40];
-    let k = rows::bytes(row, 2, &mut key);
-    let mut block = [0u8; 40];
-    let b = rows::bytes(row, cell, &mut block);
-    call(
-        way,
-        rows::number(row, 0),
-        rows::number(row, 1),
-        &key[..k],
-        &block[..b],
-        out,
-    )
+fn make(c: Call, key: &[u8], from: &[u8], out: &mut [u8]) -> Answer {
+    if c.way == 0 {
+        return by_card(c.seals, c.cipher, c.rounds, key, from, out);
+    }
+    if c.way == 1 {
+        return by_server(c.seals, c.cipher, c.rounds, key, from, out);
+    }
+    prepared_key::call(c.seals, c.cipher, c.rounds, key, from, out)
 }
 
-fn call(way: u32, cipher: u32, rounds: u32, key: &[u8], block: &[u8], out: &mut [u8]) -> Answer {
-    if way == 0 {
-        return card::seal(cipher, rounds, key, block, out);
+fn by_card(
+    seals: bool,
+    cipher: u32,
+    rounds: u32,
+    key: &[u8],
+    from: &[u8],
+    out: &mut [u8],
+) -> Answer {
+    if seals {
+        return card::seal(cipher, rounds, key, from, out);
     }
-    if way == 1 {
-        return card::open(cipher, rounds, key, block, out);
+    card::open(cipher, rounds, key, from, out)
+}
+
+fn by_server(
+    seals: bool,
+    cipher: u32,
+    rounds: u32,
+    key: &[u8],
+    from: &[u8],
+    out: &mut [u8],
+) -> Answer {
+    if seals {
+        return server::seal_from_key(cipher, rounds, key, from, out);
     }
-    if way == 2 {
-        return server::seal_from_key(cipher, rounds, key, block, out);
-    }
-    if way == 3 {
-        return server::open_from_key(cipher, rounds, key, block, out);
-    }
-    prepared_key::call(way == 4, cipher, rounds, key, block, out)
+    server::open_from_key(cipher, rounds, key, from, out)
 }

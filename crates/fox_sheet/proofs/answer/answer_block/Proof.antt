@@ -10,8 +10,7 @@ slice-aggregate-tell : tie.Need-slice-aggregate-tell
 slice-aggregate-tell c = sym (length-take-le _ _ (search needs))
 
 tell-requires : tie.Need-tell-requires
-tell-requires c κs =
-    (c .before .before .before .before .pre .0, c .before .before .before .before .pre .1, length-take-le _ _ (search needs))
+tell-requires c κs = (c .before .before .before .before .before .pre, length-take-le _ _ (search needs))
 
 pub answer-block-spec : {M : Type 1} → statement M
-answer-block-spec = tie.close (tie.spec (λ c. search needs) slice-aggregate-tell tell-requires (λ c. search needs))
+answer-block-spec = tie.close (tie.spec (λ c. search needs) slice-aggregate-tell tell-requires (λ c. search needs) (λ c. search needs))

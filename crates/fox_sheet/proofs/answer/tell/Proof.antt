@@ -1,53 +1,46 @@
 -- `answer::tell` meets its contract: the block is served or refused, and the lines for either are written.
 -- Assumes nothing.
-use mathlib.Core.Path.{_≡_, sym, ap, _∙_}
-use Prim.Native.Nat.{ℕ}
+use mathlib.Core.Path.{_≡_, sym, _∙_}
 use native.Mathlib.Omega.{arith}
-use lib.ListN.{length}
-use Rattle.fox_calls.specs.Refusals.{refusalOf, forBlock}
 use Rattle.fox_text.specs.Ascii.{codes, ascii}
-use Rattle.fox_text.proofs.Laws.Decimals.{decimal-line-short}
-use Rattle.fox_sheet.specs.Answer.{refusalName, refusal}
-use Rattle.fox_sheet.proofs.Laws.Told.{told-refused, told-served}
+use Rattle.fox_text.proofs.Laws.Stores.{at-most}
+use Rattle.fox_sheet.specs.Sheet.{Values}
+use Rattle.fox_sheet.specs.Answer.{refusalName, asked, refusal}
+use Rattle.fox_sheet.proofs.Laws.{refused-text, served-text}
 use borrow.Author.Needs.{needs}
 use Rattle.fox_sheet.proofs.answer.tell.Statement.{statement}
 use Rattle.fox_sheet.proofs.answer.tell.Tie as tie
 
-returns : tie.Need-returns
-unfolding codes ascii refusalName refusal
-returns c =
-    let turn = c .before .before .before .before .before .before .before in
-    let start = turn .before .before .before .before .before in
-    let a = start .args in
-    let room = ap (λ (n : ℕ). refusalOf (forBlock (a .cipher) (a .rounds) (length (a .key .now)) (length (a .block .now)) n)) (start .pre .2) in
-    let e = turn .turn .ensures .refusal ∙ room in
-    let told = told-refused (a .opening) (a .cipher) (a .rounds) (a .key .now) (a .block .now) _ e (c .before .before .before .if1 .taken) in (
-      omega (arith, c .put-decimal-line .ensures .place, decimal-line-short refusalName (turn .turn .result .refusal)),
-      rw told (c .put-decimal-line .ensures),
-    )
+-- after the call: what was asked, and that its refusal is the one for an output as long as the block
+module _ (c : tie.After-turn) where
+  values : Values
+  values =
+      let a = c .before .before .before .before .before .before .args in
+      asked (a .opening) (a .cipher) (a .rounds) (a .key .now) (a .block .now)
 
-put-served-requires : tie.Need-put-served-requires
-put-served-requires c κs =
-    let turn = c .before .before .before .before .before .before in
-    let start = turn .before .before .before .before .before in
-    (start .pre .0, omega (arith, turn .turn .kept .1 .1 .1 .1 .1 .0, start .pre .1, start .pre .2))
+  refusal-is : c .turn .result .refusal ≡ refusal values
+  unfolding values refusal
+  refusal-is = rw (c .before .before .before .before .before .before .pre .1) at (c .turn .ensures .refusal)
+
+returns : tie.Need-returns
+unfolding codes ascii refusalName values
+returns c =
+    let put = c .before .before in
+    let refused = put .before .before .before in
+    let turn = refused .before .before .before .before in
+    rw (refused-text (values turn) _ (refusal-is turn) (refused .if1 .taken)) (at-most (put .put-decimal-line .ensures) (omega arith))
 
 returns-2 : tie.Need-returns-2
-unfolding refusal
+unfolding values
 returns-2 c =
-    let turn = c .before .before .before .before .before .before .before in
-    let start = turn .before .before .before .before .before in
-    let a = start .args in
-    let reply = turn .turn .ensures in
-    let r = reply .refusal in
-    let served = sym r ∙ c .before .before .before .if1 .left in
-    let room = ap (λ (n : ℕ). refusalOf (forBlock (a .cipher) (a .rounds) (length (a .key .now)) (length (a .block .now)) n)) (start .pre .2) in
-    let none : refusal (a .cipher) (a .rounds) (a .key .now) (a .block .now) ≡ 0 = sym room ∙ served in
-    let told = told-served (a .opening) (a .cipher) (a .rounds) (a .key .now) (a .block .now) none in
-    let block = rw served at (reply .output) in
-    (c .put-served .ensures .0, rw (told, ← block) (c .put-served .ensures .1))
+    let put = c .before .before in
+    let served = put .before .before .before in
+    let turn = served .before .before .before .before in
+    let none = sym (refusal-is turn) ∙ served .if1 .left in
+    let block = rw (sym (turn .turn .ensures .refusal) ∙ served .if1 .left) at (turn .turn .ensures .output) in
+    rw (served-text (values turn) none, ← block) (put .put-served .ensures)
 
 pub tell-spec : {M : Type 1} → statement M
 tell-spec =
-    tie.close (tie.spec (λ c κs. search needs) (λ c. search needs) (λ c κs. search needs) (λ c. search needs) returns put-served-requires
-    (λ c. search needs) returns-2)
+    tie.close (tie.spec (λ c κs. search needs) (λ c. search needs) (λ c κs. search needs) (λ c. search needs) (λ c. search needs) returns
+    (λ c κs. search needs) (λ c. search needs) (λ c. search needs) returns-2)

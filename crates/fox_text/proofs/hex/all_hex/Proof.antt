@@ -5,7 +5,7 @@ use Prim.Native.Nat.{_-_, _≤_}
 use borrow.Author.Tests.{not-true, not-false}
 use lib.ListN.{length, drop}
 use Rattle.fox_text.specs.Hex.{allHex}
-use Rattle.fox_text.proofs.Laws.Pairs.{bad-hex, good-hex, hex-done}
+use Rattle.fox_text.proofs.Laws.Pairs.{hex-here, hex-done}
 use borrow.Author.Needs.{needs}
 use Rattle.fox_text.proofs.hex.all_hex.Statement.{statement}
 use Rattle.fox_text.proofs.hex.all_hex.Tie as tie
@@ -19,35 +19,26 @@ abbrev μ-loop : tie.MeasureT-loop
 loop-holds : tie.Need-loop-holds Inv-loop μ-loop
 loop-holds c = (search needs, refl, refl)
 
-shared-slice-read-is-hex : tie.Need-shared-slice-read-is-hex Inv-loop μ-loop
-shared-slice-read-is-hex c = search needs
-
-is-hex-requires : tie.Need-is-hex-requires Inv-loop μ-loop
-is-hex-requires c κs = search needs
-
 returns : tie.Need-returns Inv-loop μ-loop
 returns c =
     let at = c .before .before .before .before in
-    let ds = at .before .before .args .ds .now in
-    sym (sym (at .loop .inv .2) ∙ bad-hex ds (at .loop .i) (search needs) (sym (c .before .is-hex .ensures) ∙ not-true _ (c .if1 .taken)))
-
-add-i : tie.Need-add-i Inv-loop μ-loop
-add-i c = search needs
-
-loop-less : tie.Need-loop-less Inv-loop μ-loop
-loop-less c = search needs
+    let here = hex-here (at .before .before .args .ds .now) (at .loop .i) (search needs) in
+    let no = sym (c .before .is-hex .ensures) ∙ not-true _ (c .if1 .taken) in
+    sym (sym (at .loop .inv .2) ∙ here ∙ rw no)
 
 loop-again : tie.Need-loop-again Inv-loop μ-loop
 loop-again c =
     let at = c .before .before .before .before in
-    let ds = at .before .before .args .ds .now in
-    (search needs, refl, good-hex ds (at .loop .i) (search needs) (sym (c .before .is-hex .ensures) ∙ not-false _ (c .if1 .left)) ∙ at .loop .inv .2)
+    let here = hex-here (at .before .before .args .ds .now) (at .loop .i) (search needs) in
+    let yes = sym (c .before .is-hex .ensures) ∙ not-false _ (c .if1 .left) in
+    (search needs, refl, sym (here ∙ rw yes) ∙ at .loop .inv .2)
 
 returns-2 : tie.Need-returns-2 Inv-loop μ-loop
 returns-2 c =
     let at = c .before in
-    let ds = at .before .before .args .ds .now in
-    sym (hex-done ds (at .loop .i) (c .loop-test .left)) ∙ at .loop .inv .2
+    sym (hex-done (at .before .before .args .ds .now) (at .loop .i) (c .loop-test .left)) ∙ at .loop .inv .2
 
 pub all-hex-spec : {M : Type 1} → statement M
-all-hex-spec = tie.close (tie.spec Inv-loop μ-loop loop-holds shared-slice-read-is-hex is-hex-requires returns add-i loop-less loop-again returns-2)
+all-hex-spec =
+    tie.close (tie.spec Inv-loop μ-loop loop-holds (λ c. search needs) (λ c κs. search needs) returns (λ c. search needs) (λ c. search needs)
+    loop-again returns-2)

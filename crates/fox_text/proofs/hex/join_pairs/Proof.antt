@@ -2,12 +2,12 @@
 -- the output as it was gives.
 -- Assumes nothing.
 use mathlib.Core.Path.{_≡_, refl, sym, _∙_}
+use mathlib.Core.Bool.{true}
 use Prim.Native.Nat.{_+_, _-_, _*_, _≤_, _<_}
 use native.Mathlib.Omega.{arith}
-use native.Mathlib.Nat.{div-add-mod', mod-lt}
 use lib.ListN.{length, drop, getD, length-set}
 use lib.Seq.{sets}
-use Rattle.fox_text.specs.Hex.{nibble, pairsOf}
+use Rattle.fox_text.specs.Hex.{isHex, nibble, pairsOf}
 use Rattle.fox_text.proofs.Laws.Pairs.{hex-at, nibble-small, pairs-stored, pairs-done}
 use borrow.Author.Needs.{needs}
 use Rattle.fox_text.proofs.hex.join_pairs.Statement.{statement}
@@ -21,64 +21,40 @@ abbrev μ-loop : tie.MeasureT-loop
 μ-loop ds out₀ n i₀ out i = n - i
 
 loop-holds : tie.Need-loop-holds Inv-loop μ-loop
-loop-holds c =
-    let n = length (c .before .before .args .ds .now) in
-    (search needs, omega (arith, div-add-mod' n 2), omega (arith, div-add-mod' n 2, mod-lt n {m = 2} (omega arith)), refl, refl)
+loop-holds c = (search needs, omega arith, omega arith, refl, refl)
 
-mul-nibble : tie.Need-mul-nibble Inv-loop μ-loop
-mul-nibble c = search needs
+-- in a turn: both digits of the pair are hex digits, and stand for less than 16
+module _ (c : tie.In-loop Inv-loop μ-loop) where
+  high : isHex (getD (c .before .before .before .before .args .ds .now) (c .before .loop .i * 2) 0) ≡ true
+  high = hex-at _ _ (c .before .before .before .before .pre .hex) (search needs)
 
-shared-slice-read-nibble : tie.Need-shared-slice-read-nibble Inv-loop μ-loop
-shared-slice-read-nibble c = search needs
+  low : isHex (getD (c .before .before .before .before .args .ds .now) (c .before .loop .i * 2 + 1) 0) ≡ true
+  low = hex-at _ _ (c .before .before .before .before .pre .hex) (search needs)
+
+  high-small : nibble (getD (c .before .before .before .before .args .ds .now) (c .before .loop .i * 2) 0) < 16
+  high-small = nibble-small _ high
+
+  low-small : nibble (getD (c .before .before .before .before .args .ds .now) (c .before .loop .i * 2 + 1) 0) < 16
+  low-small = nibble-small _ low
 
 nibble-requires : tie.Need-nibble-requires Inv-loop μ-loop
-nibble-requires c κs =
-    let a = c .before .before .before .before .before .args in
-    hex-at (a .ds .now) (c .before .before .loop .i * 2) (c .before .before .before .before .before .pre .0) (search needs)
+nibble-requires c κs = high (c .before)
 
 mul-out : tie.Need-mul-out Inv-loop μ-loop
-mul-out c =
-    let at = c .before .before .before in
-    let d = getD (at .before .before .before .args .ds .now) (at .loop .i * 2) 0 in
-    omega (arith, c .nibble .ensures, nibble-small d (hex-at _ _ (at .before .before .before .pre .0) (search needs)))
-
-mul-nibble-2 : tie.Need-mul-nibble-2 Inv-loop μ-loop
-mul-nibble-2 c = search needs
-
-add-nibble : tie.Need-add-nibble Inv-loop μ-loop
-add-nibble c = search needs
-
-shared-slice-read-nibble-2 : tie.Need-shared-slice-read-nibble-2 Inv-loop μ-loop
-shared-slice-read-nibble-2 c = search needs
+mul-out c = omega (arith, c .nibble .ensures, high-small (c .before .before))
 
 nibble-requires-2 : tie.Need-nibble-requires-2 Inv-loop μ-loop
-nibble-requires-2 c κs =
-    let at = c .before .before .before .before in
-    hex-at (at .before .before .before .args .ds .now) (at .loop .i * 2 + 1) (at .before .before .before .pre .0) (search needs)
+nibble-requires-2 c κs = low (c .before .before .before)
 
 add-out : tie.Need-add-out Inv-loop μ-loop
 add-out c =
-    let at = c .before .before .before .before .before in
-    let ds = at .before .before .before .args .ds .now in
-    let hex = at .before .before .before .pre .0 in
-    omega (
-      arith,
-      c .before .before .nibble .ensures,
-      c .nibble2 .ensures,
-      nibble-small _ (hex-at ds (at .loop .i * 2) hex (search needs)),
-      nibble-small _ (hex-at ds (at .loop .i * 2 + 1) hex (search needs)),
-    )
+    let turn = c .before .before .before .before in
+    omega (arith, c .before .before .nibble .ensures, c .nibble2 .ensures, high-small turn, low-small turn)
 
 slice-write-out : tie.Need-slice-write-out Inv-loop μ-loop
 slice-write-out c =
     let at = c .before .before .before .before .before in
-    omega (arith, at .loop .inv .1, at .loop .inv .3, at .before .before .before .pre .1)
-
-add-i : tie.Need-add-i Inv-loop μ-loop
-add-i c = search needs
-
-loop-less : tie.Need-loop-less Inv-loop μ-loop
-loop-less c = search needs
+    omega (arith, at .loop .inv .1, at .loop .inv .3, at .before .before .before .pre .room)
 
 loop-again : tie.Need-loop-again Inv-loop μ-loop
 loop-again c =
@@ -92,16 +68,13 @@ loop-again c =
       pairs-stored (at .loop .out) ds (at .loop .i) _ _ (search needs) (c .before .before .nibble .ensures) (c .nibble2 .ensures) ∙ inv .4,
     )
 
-same-length : tie.Need-same-length Inv-loop μ-loop
-same-length c = search needs
-
 returns : tie.Need-returns Inv-loop μ-loop
 returns c =
     let at = c .before in
-    let ds = at .before .before .before .args .ds .now in
-    sym (pairs-done (at .loop .out) ds (at .loop .i) (search needs)) ∙ at .loop .inv .4
+    sym (pairs-done (at .loop .out) (at .before .before .before .args .ds .now) (at .loop .i) (search needs)) ∙ at .loop .inv .4
 
 pub join-pairs-spec : {M : Type 1} → statement M
 join-pairs-spec =
-    tie.close (tie.spec Inv-loop μ-loop loop-holds mul-nibble shared-slice-read-nibble nibble-requires mul-out mul-nibble-2 add-nibble
-    shared-slice-read-nibble-2 nibble-requires-2 add-out slice-write-out add-i loop-less loop-again same-length returns)
+    tie.close (tie.spec Inv-loop μ-loop loop-holds (λ c. search needs) (λ c. search needs) nibble-requires mul-out (λ c. search needs)
+    (λ c. search needs) (λ c. search needs) nibble-requires-2 add-out slice-write-out (λ c. search needs) (λ c. search needs) loop-again
+    (λ c. search needs) returns)

@@ -1,51 +1,43 @@
 -- `lines::line_end` meets its contract: whenever the loop's test is reached, the line's end found from i on is the one found from the start on.
 -- Assumes nothing.
-use mathlib.Core.Path.{_≡_}
+use mathlib.Core.Path.{_≡_, refl}
 use Prim.Native.Nat.{_+_, _-_, _≤_}
 use native.Mathlib.Omega.{arith}
+use borrow.Author.Tests.{eq-eqb, ne-eqb}
 use lib.ListN.{length, drop, length-drop}
 use Rattle.fox_text.specs.Lines.{lineEnd}
-use Rattle.fox_text.proofs.Laws.Lines.{line-end-here, line-end-on, line-end-within}
+use Rattle.fox_text.proofs.Laws.Lines.{line-end-here, line-end-within, ends}
 use borrow.Author.Needs.{needs}
 use Rattle.fox_text.proofs.lines.line_end.Statement.{statement}
 use Rattle.fox_text.proofs.lines.line_end.Tie as tie
 
 abbrev Inv-loop : tie.InvT-loop
-Inv-loop text at i₀ i = (i ≤ length text) × (i + lineEnd (drop i text) ≡ at + lineEnd (drop at text))
+Inv-loop t i₀ i-end i = (i ≤ i-end) × (i-end ≡ length t) × (i + lineEnd (drop i t) ≡ lineEnd t)
 
 abbrev μ-loop : tie.MeasureT-loop
-μ-loop text at i₀ i = length text - i
+μ-loop t i₀ i-end i = i-end - i
 
 loop-holds : tie.Need-loop-holds Inv-loop μ-loop
-loop-holds c = search needs
-
-shared-slice-read-if1 : tie.Need-shared-slice-read-if1 Inv-loop μ-loop
-shared-slice-read-if1 c = search needs
+loop-holds c = (search needs, refl, omega arith)
 
 returns : tie.Need-returns Inv-loop μ-loop
 returns c =
     let at = c .before .before .before in
-    let t = at .before .args .text .now in
-    omega (arith, at .loop .inv .1, line-end-here t (at .loop .i) (search needs) (c .if1 .taken))
-
-add-i : tie.Need-add-i Inv-loop μ-loop
-add-i c = search needs
-
-loop-less : tie.Need-loop-less Inv-loop μ-loop
-loop-less c = search needs
+    let here = rw (eq-eqb _ _ (c .if1 .taken)) at (line-end-here (at .before .args .t .now) (at .loop .i) (search needs)) in
+    ends (omega (arith, at .loop .inv .2, here))
 
 loop-again : tie.Need-loop-again Inv-loop μ-loop
 loop-again c =
     let at = c .before .before .before in
-    let t = at .before .args .text .now in
-    let here = line-end-on t (at .loop .i) (search needs) (c .if1 .left) in
-    (search needs, omega (arith, at .loop .inv .1, here))
+    let here = rw (ne-eqb _ _ (c .if1 .left)) at (line-end-here (at .before .args .t .now) (at .loop .i) (search needs)) in
+    (search needs, refl, omega (arith, at .loop .inv .2, here))
 
 returns-2 : tie.Need-returns-2 Inv-loop μ-loop
 returns-2 c =
     let at = c .before in
-    let t = at .before .args .text .now in
-    omega (arith, at .loop .inv .1, c .loop-test .left, line-end-within (drop (at .loop .i) t), length-drop (at .loop .i) t)
+    let t = at .before .args .t .now in
+    ends (omega (arith, at .loop .inv .2, c .loop-test .left, line-end-within (drop (at .loop .i) t), length-drop (at .loop .i) t))
 
 pub line-end-spec : {M : Type 1} → statement M
-line-end-spec = tie.close (tie.spec Inv-loop μ-loop loop-holds shared-slice-read-if1 returns add-i loop-less loop-again returns-2)
+line-end-spec =
+    tie.close (tie.spec Inv-loop μ-loop loop-holds (λ c. search needs) returns (λ c. search needs) (λ c. search needs) loop-again returns-2)
