@@ -56,7 +56,7 @@ pub extern "C" fn fox_probe_again64(keys: &[u64; 510], blocks: u32, l: u32, r: u
     let t = joined4::tbsm();
     let mut y = Fox64::new(l, r);
     for i in 0..blocks {
-        y = lent64::seal64(&s, &t.a, &t.b, &t.c, &t.d, keys, 16, y);
+        y = lent64::turn64(true, &s, &t.a, &t.b, &t.c, &t.d, keys, 16, y);
     }
     y.l
 }
@@ -76,7 +76,8 @@ pub extern "C" fn fox_probe_again128(
     let t = joined8::tbsm();
     let mut y = Fox128::new(a, b, c, d);
     for i in 0..blocks {
-        y = lent128::seal128(
+        y = lent128::turn128(
+            true,
             &s,
             &t.a,
             &t.b,

@@ -101,7 +101,23 @@ fn lay128<'a>(
 {
     let mut at = 0;
     while at < input.len() {
-        let added = part128(s, a, b, c, d, e, f, g, h, keys, rounds, x, n + at, &input[at..], &mut out[at..]);
+        let added = part128(
+            s,
+            a,
+            b,
+            c,
+            d,
+            e,
+            f,
+            g,
+            h,
+            keys,
+            rounds,
+            x,
+            n + at,
+            &input[at..],
+            &mut out[at..],
+        );
         at = at + added;
     }
 }

@@ -89,7 +89,19 @@ fn lay64<'a>(
 {
     let mut at = 0;
     while at < input.len() {
-        let added = part64(s, a, b, c, d, keys, rounds, x, n + at, &input[at..], &mut out[at..]);
+        let added = part64(
+            s,
+            a,
+            b,
+            c,
+            d,
+            keys,
+            rounds,
+            x,
+            n + at,
+            &input[at..],
+            &mut out[at..],
+        );
         at = at + added;
     }
 }

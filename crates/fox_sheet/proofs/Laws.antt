@@ -34,8 +34,8 @@ pub first-broken : {settings task line : ℕ} (t : List ℕ) → settings ≡ br
     → line ≡ cond (eqb settings 0) task settings → line ≡ brokenLine t
 first-broken t s k l = l ∙ rw (s, k) (parts-broken t)
 
-pub same-values : {v : Values} {opening : Bool} {cipher rounds : ℕ} {key block : List ℕ} → opening ≡ v .opening → cipher ≡ v .cipher
-    → rounds ≡ v .rounds → key ≡ v .key → block ≡ v .block → asked opening cipher rounds key block ≡ v
+pub same-values : {v : Values} {sealing : Bool} {cipher rounds : ℕ} {key block : List ℕ} → sealing ≡ v .sealing → cipher ≡ v .cipher
+    → rounds ≡ v .rounds → key ≡ v .key → block ≡ v .block → asked sealing cipher rounds key block ≡ v
 same-values o c r k b = rw (o, c, r, k, b)
 
 -- the answer stored

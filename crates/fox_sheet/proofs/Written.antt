@@ -2,7 +2,7 @@
 -- as it was written; and a right sheet is the one that is written from what it says, which is in range. So no two sheets say the same.
 -- Assumes nothing.
 use mathlib.Core.Path.{_≡_, refl, sym, ap, _∙_}
-use mathlib.Core.Bool.{Bool, true, false, _||_, or-false}
+use mathlib.Core.Bool.{Bool, true, false}
 use mathlib.Core.List.{List, _++_}
 use Prim.Native.Nat.{ℕ}
 use native.Mathlib.Omega.{arith}
@@ -41,19 +41,19 @@ block-plain : Plain blockName
 unfolding blockName codes ascii Plain
 block-plain = (refl, (refl, (refl, (refl, (refl, (refl, tt))))))
 
-way-plain : (opening : Bool) → Plain (wayText opening)
+way-plain : (sealing : Bool) → Plain (wayText sealing)
 unfolding wayText openWay sealWay codes ascii Plain
 way-plain true = (refl, (refl, (refl, (refl, (refl, (refl, (refl, (refl, tt))))))))
 way-plain false = (refl, (refl, (refl, (refl, (refl, (refl, (refl, (refl, tt))))))))
 
 -- a written sheet is right, and says what it was written from
 
-way-right : (opening : Bool) → isWayLine (wayText opening) ≡ true
+way-right : (sealing : Bool) → isWayLine (wayText sealing) ≡ true
 unfolding isWayLine wayText openWay sealWay codes ascii startsWith
 way-right true = refl
 way-right false = refl
 
-way-read : (opening : Bool) → same openWay (wayText opening) ≡ opening
+way-read : (sealing : Bool) → same sealWay (wayText sealing) ≡ sealing
 unfolding wayText openWay sealWay codes ascii startsWith
 way-read true = refl
 way-read false = refl
@@ -67,7 +67,7 @@ module _ {v : Values} (r : InRange v) where
       decimal-line-right 65535 (v .rounds) roundsName (r .rounds) (omega (arith, r .rounds)),
       (
         pairs-line-right 64 keyName (v .key) (r .key) (r .key-bytes),
-        (way-right (v .opening), (pairs-line-right 32 blockName (v .block) (r .block) (r .block-bytes), tt)),
+        (way-right (v .sealing), (pairs-line-right 32 blockName (v .block) (r .block) (r .block-bytes), tt)),
       ),
     ),
   )
@@ -81,7 +81,7 @@ module _ {v : Values} (r : InRange v) where
       (
         pairs-line-plain keyName (v .key) key-plain (r .key-bytes),
         (
-          way-plain (v .opening),
+          way-plain (v .sealing),
           (pairs-line-plain blockName (v .block) block-plain (r .block-bytes), tt),
         ),
       ),
@@ -95,7 +95,7 @@ module _ {v : Values} (r : InRange v) where
         decimal-line-read 65535 (v .cipher) cipherName (r .cipher) (omega (arith, r .cipher)),
         decimal-line-read 65535 (v .rounds) roundsName (r .rounds) (omega (arith, r .rounds)),
         pairs-line-read 64 keyName (v .key) (r .key) (r .key-bytes),
-        way-read (v .opening),
+        way-read (v .sealing),
         pairs-line-read 32 blockName (v .block) (r .block) (r .block-bytes),
       )
 
@@ -113,10 +113,10 @@ written-is-read {v} w =
 
 -- a right sheet is one that is written from values in range
 
-way-again : (b : Bool) (l : List ℕ) → same openWay l ≡ b → isWayLine l ≡ true → l ≡ wayText b
+way-again : (b : Bool) (l : List ℕ) → same sealWay l ≡ b → isWayLine l ≡ true → l ≡ wayText b
 unfolding isWayLine wayText
-way-again true l e h = same-is openWay l e
-way-again false l e h = same-is sealWay l (sym (or-false (same sealWay l)) ∙ (rw e at h))
+way-again true l e h = same-is sealWay l e
+way-again false l e h = same-is openWay l (rw e at h)
 
 pub right-is-written : (t : List ℕ) → brokenLine t ≡ 0 → WrittenFrom (valuesOf t) t
 unfolding brokenLine Kept settingTests taskTests lines valuesOf said sheetText linesOf

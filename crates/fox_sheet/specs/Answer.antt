@@ -6,9 +6,7 @@ use mathlib.Core.List.{List, _++_}
 use lib.ListN.{length}
 use lib.Dec.{eqb}
 use Rattle.fox_calls.specs.Refusals.{refusalOf, forBlock}
-use Rattle.fox_calls.specs.Reply.{Reply}
-use Rattle.fox_calls.specs.declared.answer.Answer.{Answer}
-use Rattle.fox_cipher.specs.Block.{sealBlock, openBlock}
+use Rattle.fox_cipher.specs.Block.{turnBlock}
 use Rattle.fox_text.specs.Ascii.{ascii}
 use Rattle.fox_text.specs.Fields.{decimalLineText, pairsLineText}
 use Rattle.fox_text.specs.Put.{Stored}
@@ -35,19 +33,11 @@ servedText cipher rounds keyLen block =
 
 -- what a block is turned from
 abbrev pub asked : Bool → ℕ → ℕ → List ℕ → List ℕ → Values
-asked opening cipher rounds key block = record { cipher = cipher; rounds = rounds; key = key; opening = opening; block = block }
+asked sealing cipher rounds key block = record { cipher = cipher; rounds = rounds; key = key; sealing = sealing; block = block }
 
 -- the block that the way asks for
-unfoldable pub turned : Values → List ℕ
-turned v =
-    let opened = openBlock (v .cipher) (v .rounds) (v .key) (v .block) in
-    let sealed = sealBlock (v .cipher) (v .rounds) (v .key) (v .block) in
-    cond (v .opening) opened sealed
-
--- a call that turns a block
-abbrev pub Turns : Values → List ℕ → List ℕ → Answer → Type 0
-Turns v before after r =
-    Reply (forBlock (v .cipher) (v .rounds) (length (v .key)) (length (v .block)) (length before)) (turned v) before after r
+abbrev pub turned : Values → List ℕ
+turned v = turnBlock (v .sealing) (v .cipher) (v .rounds) (v .key) (v .block)
 
 -- the refusals of one block, with an output as long as the block
 unfoldable pub refusal : Values → ℕ

@@ -8,7 +8,7 @@ use Rattle.fox_text.specs.Lines.{line, afterLines}
 use Rattle.fox_text.specs.Rules.{isLine, brokenIn, brokenFrom}
 use Rattle.fox_text.specs.Fields.{pairsIn}
 use Rattle.fox_text.specs.Put.{Stored}
-use Rattle.fox_sheet.specs.Sheet.{openWay, blockName, isWayLine, settingTests, taskTests, valuesOf}
+use Rattle.fox_sheet.specs.Sheet.{sealWay, blockName, isWayLine, settingTests, taskTests, valuesOf}
 use Rattle.fox_sheet.specs.declared.sheet.Settings.{Settings}
 use Rattle.fox_sheet.specs.declared.sheet.Way.{Way}
 use Rattle.fox_sheet.specs.declared.sheet.Task.{Task}
@@ -22,10 +22,10 @@ pub record ReadsSettings (t before after : List ℕ) (r : Settings) : Type 0 whe
 
 pub record ReadsWay (t : List ℕ) (r : Way) : Type 0 where
   pub right : r .right ≡ isLine isWayLine t
-  pub opening : r .opening ≡ same openWay (line t)
+  pub sealing : r .sealing ≡ same sealWay (line t)
 
 -- the same of the task, where t is what follows the first three lines; text after the last counts as one line more
 pub record ReadsTask (t before after : List ℕ) (r : Task) : Type 0 where
   pub broken : r .line ≡ brokenFrom 4 taskTests t
-  pub opening : r .opening ≡ same openWay (line t)
+  pub sealing : r .sealing ≡ same sealWay (line t)
   pub block : Stored 32 (pairsIn 32 blockName (line (afterLines 1 t))) before after (r .size)

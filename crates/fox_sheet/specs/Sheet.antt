@@ -42,12 +42,12 @@ taskTests = isWayLine ∷ isPairsLine 32 blockName ∷ []
 unfoldable pub brokenLine : List ℕ → ℕ
 brokenLine t = brokenFrom 1 (settingTests ++ taskTests) t
 
--- what a sheet says; `opening` is whether the way is `open`
+-- what a sheet says; `sealing` is whether the way is `seal`
 pub record Values : Type 0 where
   pub cipher : ℕ
   pub rounds : ℕ
   pub key : List ℕ
-  pub opening : Bool
+  pub sealing : Bool
   pub block : List ℕ
 
 unfoldable pub said : List (List ℕ) → Values
@@ -56,7 +56,7 @@ said ls =
       cipher = decimalIn 65535 cipherName (getD ls 0 []);
       rounds = decimalIn 65535 roundsName (getD ls 1 []);
       key = pairsIn 64 keyName (getD ls 2 []);
-      opening = same openWay (getD ls 3 []);
+      sealing = same sealWay (getD ls 3 []);
       block = pairsIn 32 blockName (getD ls 4 []);
     }
 

@@ -11,11 +11,11 @@ use Rattle.fox_text.specs.Fields.{decimalLine, pairsLine}
 use Rattle.fox_sheet.specs.Sheet.{cipherName, roundsName, keyName, sealWay, openWay, blockName, brokenLine, Values, valuesOf}
 
 unfoldable pub wayText : Bool → List ℕ
-wayText opening = cond opening openWay sealWay
+wayText sealing = cond sealing sealWay openWay
 
 unfoldable pub linesOf : Values → List (List ℕ)
 linesOf v =
-    decimalLine cipherName (v .cipher) ∷ decimalLine roundsName (v .rounds) ∷ pairsLine keyName (v .key) ∷ wayText (v .opening)
+    decimalLine cipherName (v .cipher) ∷ decimalLine roundsName (v .rounds) ∷ pairsLine keyName (v .key) ∷ wayText (v .sealing)
     ∷ pairsLine blockName (v .block) ∷ []
 
 -- five lines, each ended by one line feed

@@ -3,13 +3,11 @@ ghost use mathlib.Core.Path.{_≡_};
 ghost use Prim.Native.Nat.{_≤_};
 ghost use lib.ListN.{length};
 ghost use Rattle.fox_text.specs.Put.{Put};
-ghost use Rattle.fox_sheet.specs.Answer.{Answers, Room, Turns, asked, blockText, brokenText, servedText};
+ghost use Rattle.fox_sheet.specs.Answer.{Answers, Room, asked, blockText, brokenText, servedText};
 use crate::sheet::first_broken;
 use crate::sheet::read_settings;
 use crate::sheet::read_task;
-use fox_calls::answer::Answer;
-use fox_card::block::open;
-use fox_card::block::seal;
+use fox_card::block::turn;
 use fox_text::lines::after_line;
 use fox_text::writing::put_decimal_line;
 use fox_text::writing::put_pairs_line;
@@ -36,19 +34,9 @@ fn put_served(cipher: u32, rounds: u32, key: usize, block: &[u8], out: &mut [u8]
     put_pairs_line(out, d, b"block=", block)
 }
 
-// The block sealed or opened, as the sheet asks.
-fn turn(opening: bool, cipher: u32, rounds: u32, key: &[u8], block: &[u8], out: &mut [u8]) -> Answer
-    ensures { λ r. ⌜ Turns (asked opening cipher rounds (now (key .entry)) (now (block .entry))) (now (out .entry)) (now (out .exit)) r ⌝ }
-{
-    if opening {
-        return open(cipher, rounds, key, block, out);
-    }
-    seal(cipher, rounds, key, block, out)
-}
-
 // `room` is where the turned block goes.
 fn tell(
-    opening: bool,
+    sealing: bool,
     cipher: u32,
     rounds: u32,
     key: &[u8],
@@ -58,9 +46,9 @@ fn tell(
 ) -> usize
     requires lengths { ⌜ Room (length (now key)) (now block) (now out) ⌝ }
     requires as_long { ⌜ length (now room) ≡ length (now block) ⌝ }
-    ensures { λ r. ⌜ Put 125 (blockText (asked opening cipher rounds (now (key .entry)) (now (block .entry)))) (now (out .entry)) (now (out .exit)) 0 r ⌝ }
+    ensures { λ r. ⌜ Put 125 (blockText (asked sealing cipher rounds (now (key .entry)) (now (block .entry)))) (now (out .entry)) (now (out .exit)) 0 r ⌝ }
 {
-    let a = turn(opening, cipher, rounds, key, block, room);
+    let a = turn(sealing, cipher, rounds, key, block, room);
     if a.refusal != 0 {
         return put_decimal_line(out, 0, b"refusal=", a.refusal);
     }
@@ -68,7 +56,7 @@ fn tell(
 }
 
 fn answer_block(
-    opening: bool,
+    sealing: bool,
     cipher: u32,
     rounds: u32,
     key: &[u8],
@@ -76,11 +64,11 @@ fn answer_block(
     out: &mut [u8],
 ) -> usize
     requires { ⌜ Room (length (now key)) (now block) (now out) ⌝ }
-    ensures { λ r. ⌜ Put 125 (blockText (asked opening cipher rounds (now (key .entry)) (now (block .entry)))) (now (out .entry)) (now (out .exit)) 0 r ⌝ }
+    ensures { λ r. ⌜ Put 125 (blockText (asked sealing cipher rounds (now (key .entry)) (now (block .entry)))) (now (out .entry)) (now (out .exit)) 0 r ⌝ }
 {
     let mut room = [0; 32];
     let n = block.len();
-    tell(opening, cipher, rounds, key, block, &mut room[..n], out)
+    tell(sealing, cipher, rounds, key, block, &mut room[..n], out)
 }
 
 // Every byte that the bench program prints for the sheet, at the start of the output; their count is handed back.
@@ -100,5 +88,5 @@ pub fn answer(sheet: &[u8], out: &mut [u8; ROOM]) -> usize
     }
     let k = s.size;
     let b = t.size;
-    answer_block(t.opening, s.cipher, s.rounds, &key[..k], &block[..b], out)
+    answer_block(t.sealing, s.cipher, s.rounds, &key[..k], &block[..b], out)
 }

@@ -20,13 +20,13 @@ pub struct Settings {
 
 pub struct Way {
     pub right: bool,
-    pub opening: bool,
+    pub sealing: bool,
 }
 
 // `size` is the number of bytes in the block.
 pub struct Task {
     pub line: u32,
-    pub opening: bool,
+    pub sealing: bool,
     pub size: usize,
 }
 
@@ -59,10 +59,10 @@ fn way_line(t: &[u8]) -> Way
     ensures { λ r. ⌜ ReadsWay (now (t .entry)) r ⌝ }
 {
     let line = first_line(t);
-    let opening = same(b"way=open", line);
+    let sealing = same(b"way=seal", line);
     Way {
-        right: has_line(t) & (same(b"way=seal", line) | opening),
-        opening: opening,
+        right: has_line(t) & (sealing | same(b"way=open", line)),
+        sealing,
     }
 }
 
@@ -78,7 +78,7 @@ pub fn read_task(t: &[u8], block: &mut [u8; 32]) -> Task
     let from_fifth = first_broken(5, b.right, from_sixth);
     Task {
         line: first_broken(4, w.right, from_fifth),
-        opening: w.opening,
+        sealing: w.sealing,
         size: b.count,
     }
 }

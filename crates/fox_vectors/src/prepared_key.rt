@@ -3,7 +3,6 @@ use fox_calls::answer::Answer;
 use fox_server::block as server;
 use fox_server::prepared;
 use fox_server::prepared::Preparation;
-use fox_server::prepared::Prepared;
 
 // What no row has for a refusal: the answer where a prepared key is not as it must be.
 const WRONG: u32 = 99;
@@ -25,7 +24,7 @@ pub(crate) fn call(
     if answer.refusal != 0 {
         return answer;
     }
-    with(seals, made.key, block, out)
+    past_key(server::turn(seals, made.key, block, out))
 }
 
 // Preparing a key meets refusals 1 to 3 alone, and a refused prepared key is all zeros.
@@ -49,13 +48,6 @@ fn key_bytes(cipher: u32, rounds: u32) -> usize {
 }
 
 // Refusals 1 to 3 are not due here: preparing the key has met them.
-fn with(seals: bool, key: Prepared, block: &[u8], out: &mut [u8]) -> Answer {
-    if seals {
-        return past_key(server::seal(key, block, out));
-    }
-    past_key(server::open(key, block, out))
-}
-
 fn past_key(answer: Answer) -> Answer {
     if answer.refusal == 0 {
         return answer;

@@ -94,38 +94,10 @@ fn puts(c: Call, key: &[u8], from: &[u8], to: &[u8], out: &mut [u8]) -> bool {
 
 fn make(c: Call, key: &[u8], from: &[u8], out: &mut [u8]) -> Answer {
     if c.way == 0 {
-        return by_card(c.seals, c.cipher, c.rounds, key, from, out);
+        return card::turn(c.seals, c.cipher, c.rounds, key, from, out);
     }
     if c.way == 1 {
-        return by_server(c.seals, c.cipher, c.rounds, key, from, out);
+        return server::turn_from_key(c.seals, c.cipher, c.rounds, key, from, out);
     }
     prepared_key::call(c.seals, c.cipher, c.rounds, key, from, out)
-}
-
-fn by_card(
-    seals: bool,
-    cipher: u32,
-    rounds: u32,
-    key: &[u8],
-    from: &[u8],
-    out: &mut [u8],
-) -> Answer {
-    if seals {
-        return card::seal(cipher, rounds, key, from, out);
-    }
-    card::open(cipher, rounds, key, from, out)
-}
-
-fn by_server(
-    seals: bool,
-    cipher: u32,
-    rounds: u32,
-    key: &[u8],
-    from: &[u8],
-    out: &mut [u8],
-) -> Answer {
-    if seals {
-        return server::seal_from_key(cipher, rounds, key, from, out);
-    }
-    server::open_from_key(cipher, rounds, key, from, out)
 }

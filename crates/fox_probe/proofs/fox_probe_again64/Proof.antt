@@ -5,6 +5,7 @@ use mathlib.Core.Path.{_≡_, refl, sym, ap, _∙_}
 use Prim.Native.Nat.{_-_, _≤_}
 use native.Mathlib.Omega.{arith}
 use Rattle.fox_rounds.specs.Skeleton.{numbered, seal64}
+use Rattle.fox_rounds.proofs.Laws.Skeleton.{sealed-64}
 use Rattle.fox_lent.specs.Held.{held64}
 use Rattle.fox_keying.specs.Register.{iterate}
 use Rattle.fox_keying.proofs.Laws.Register.{iterate-suc}
@@ -21,8 +22,8 @@ loop-holds : tie.Need-loop-holds Inv-loop μ-loop
 unfolding iterate
 loop-holds c = (search needs, refl)
 
-seal64-requires : tie.Need-seal64-requires Inv-loop μ-loop
-seal64-requires c κs =
+turn64-requires : tie.Need-turn64-requires Inv-loop μ-loop
+turn64-requires c κs =
     let tables = c .before .before .before .before .before .before .before .before .before in
     let t = tables .tbsm .ensures in
     (record { s = tables .before .tbs .ensures; a = t .a; b = t .b; c = t .c; d = t .d }, (search needs, search needs))
@@ -31,8 +32,10 @@ loop-again : tie.Need-loop-again Inv-loop μ-loop
 loop-again c =
     let at = c .before .before .before .before .before .before .before .before in
     let start = at .before .before .before .before in
-    let one = seal64 (numbered (held64 (start .args .keys .now)) 16 0) in
-    (omega (arith, c .before .before .before .before .before .before .before .loop-test .taken), c .seal64 .ensures ∙ ap one (at .loop .inv .1) ∙ sym (iterate-suc (at .loop .i) one (at .before .new .result)))
+    let ks = numbered (held64 (start .args .keys .now)) 16 0 in
+    let one = seal64 ks in
+    let is : c .turn64 .result ≡ one (at .loop .y) = cc (c .turn64 .ensures ∙ sealed-64 ks (at .loop .y)) in
+    (omega (arith, c .before .before .before .before .before .before .before .loop-test .taken), is ∙ ap one (at .loop .inv .1) ∙ sym (iterate-suc (at .loop .i) one (at .before .new .result)))
 
 returns : tie.Need-returns Inv-loop μ-loop
 returns c =
@@ -45,5 +48,5 @@ returns c =
 
 pub fox-probe-again64-spec : {M : Type 1} → statement M
 fox-probe-again64-spec =
-    tie.close (tie.spec Inv-loop μ-loop (λ c κs. search needs) (λ c κs. search needs) (λ c κs. search needs) loop-holds seal64-requires
+    tie.close (tie.spec Inv-loop μ-loop (λ c κs. search needs) (λ c κs. search needs) (λ c κs. search needs) loop-holds turn64-requires
     (λ c. search needs) (λ c. search needs) loop-again returns)

@@ -36,7 +36,7 @@ returns-2 c =
     let read = right .before in
     let s = read .before .before .before .before .before .before .before .read-settings .ensures in
     let t = rw (fourth read) at (read .before .before .read-task .ensures) in
-    let same = same-values (t .opening) (s .cipher) (s .rounds) (s .key .part) (t .block .part) in
+    let same = same-values (t .sealing) (s .cipher) (s .rounds) (s .key .part) (t .block .part) in
     right-answer _ (sym (line-is read) ∙ right .if1 .left) same (c .answer-block .ensures) (search needs)
 
 pub answer-spec : {M : Type 1} → statement M

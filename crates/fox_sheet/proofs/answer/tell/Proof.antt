@@ -16,7 +16,7 @@ module _ (c : tie.After-turn) where
   values : Values
   values =
       let a = c .before .before .before .before .before .before .args in
-      asked (a .opening) (a .cipher) (a .rounds) (a .key .now) (a .block .now)
+      asked (a .sealing) (a .cipher) (a .rounds) (a .key .now) (a .block .now)
 
   refusal-is : c .turn .result .refusal ≡ refusal values
   unfolding values refusal

@@ -23,7 +23,7 @@ returns c =
       broken =
           c .first-broken3 .ensures
           ∙ rw (way .right, c .before .first-broken2 .ensures, block .right, c .before .before .first-broken .ensures, sixth);
-      opening = way .opening;
+      sealing = way .sealing;
       block = block .stored;
     }
 

@@ -9,7 +9,7 @@ use Rattle.fox_sheet.proofs.sheet.way_line.Tie as tie
 
 returns : tie.Need-returns
 unfolding isLine isWayLine sealWay openWay ascii codes
-returns c = record { right = cc; opening = cc }
+returns c = record { right = cc; sealing = cc }
 
 pub way-line-spec : {M : Type 1} → statement M
 way-line-spec =
