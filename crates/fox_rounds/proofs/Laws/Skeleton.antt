@@ -4,7 +4,7 @@ use mathlib.Core.Path.{_≡_, refl, sym, ap, ap₂, _∙_}
 use mathlib.Core.Bool.{Bool, true, false}
 use mathlib.Core.List.{List, [], _∷_, _++_, reverse, reverse-cons}
 use Prim.Native.Nat.{ℕ, zero, suc, _+_, _-_, _<_, _≤_}
-use native.Mathlib.Nat.{add-zero, add-suc, suc-add, not-suc-le-zero, le-of-suc-le-suc}
+use native.Mathlib.Nat.{zero-add, add-zero, add-suc, suc-add, not-suc-le-zero, le-of-suc-le-suc}
 use native.Mathlib.Omega.{arith}
 use lib.ListN.{length, getD}
 use Rattle.fox_rounds.specs.Rounds.{lmid64, or64, elmid128, or128}
@@ -166,3 +166,45 @@ unfolding through
 through-keeps f step after s a [] x = refl
 through-keeps f step after s a (k ∷ []) x = s k x
 through-keeps f step after s a (k ∷ l ∷ ks) x = through-keeps f step after s a (l ∷ ks) (after (step k x)) ∙ a (step k x) ∙ s k x
+
+-- one round key more at the end
+pub through-snoc : {S : Type 0} (round : ℕ → S → S) (between : S → S) (l : ℕ) (ls : List ℕ) (k : ℕ) (x : S)
+    → through round between ((l ∷ ls) ++ (k ∷ [])) x ≡ round k (between (through round between (l ∷ ls) x))
+unfolding through
+through-snoc round between l [] k x = refl
+through-snoc round between l (m ∷ ms) k x = through-snoc round between m ms k (between (round l x))
+
+-- a state turned by m rounds, as a loop does them that has no round after it: the rounds done so far are those of the first i round keys
+module _ (d : Bool) (k : ℕ → ℕ) (m : ℕ) where
+  abbrev pub Turned : State → ℕ → State → Type 0
+  Turned x i y = y ≡ through round (between d) (numbered (λ (j : ℕ). k (place d m j)) i 0) x
+
+  pub turned-none : (x : State) → Turned x 0 x
+  unfolding through numbered
+  turned-none x = refl
+
+  pub turned-one : (x y z : State) (i : ℕ) → i ≡ 0 → Turned x i y → z ≡ round (k (place d m i)) y → Turned x (i + 1) z
+  unfolding through numbered
+  turned-one x y z i none t e =
+      let keys : ℕ → ℕ = λ j. k (place d m j) in
+      e
+      ∙ ap₂ (λ (j : ℕ) (w : State). round (keys j) w) none (t ∙ ap (λ (j : ℕ). through round (between d) (numbered keys j 0) x) none)
+      ∙ ap (λ (j : ℕ). through round (between d) (numbered keys (j + 1) 0) x) (sym none)
+
+  pub turned-more : (x y z : State) (i : ℕ) → 0 < i → Turned x i y → z ≡ round (k (place d m i)) (between d y) → Turned x (i + 1) z
+  unfolding numbered
+  turned-more x y z zero some t e = absurd (not-suc-le-zero some)
+  turned-more x y z (suc i) some t e =
+      let keys : ℕ → ℕ = λ j. k (place d m j) in
+      let next : suc (suc i) ≡ suc i + 1 = omega arith in
+      e
+      ∙ ap (λ (w : State). round (keys (suc i)) (between d w)) t
+      ∙ sym (through-snoc round (between d) (keys 0) (numbered keys i 1) (keys (suc i)) x)
+      ∙ ap (λ (ks : List ℕ). through round (between d) ks x) (sym (numbered-snoc keys (suc i) 0 ∙ ap (λ (j : ℕ). numbered keys (suc i) 0 ++ (keys j ∷ [])) (zero-add (suc i))))
+      ∙ ap (λ (j : ℕ). through round (between d) (numbered keys j 0) x) next
+
+  pub turned-all : (x y : State) {i : ℕ} → 1 ≤ m → i ≡ m → Turned x i y → y ≡ turned d (numbered k m 0) x
+  unfolding turned
+  turned-all x y some all t =
+      t ∙ ap (λ (j : ℕ). through round (between d) (numbered (λ (j : ℕ). k (place d m j)) j 0) x) all
+      ∙ ap (λ (ks : List ℕ). through round (between d) ks x) (sym (inOrder-numbered d k m some))

@@ -9,7 +9,7 @@ use Rattle.fox_rounds.specs.Skeleton.{through, round, between, inOrder, 
 use Rattle.fox_rounds.specs.declared.fox128.Fox128.{Fox128}
 use Rattle.fox_rounds.specs.declared.state.State.{State}
 use Rattle.fox_rounds.specs.declared.state.State.the-variants.{Of64, Of128}
-use Rattle.fox_rounds.proofs.Laws.Skeleton.{sealed-128}
+use Rattle.fox_rounds.proofs.Laws.Skeleton.{through-snoc, sealed-128}
 use Rattle.fox_rounds.proofs.Laws.Rounds.{Words64, Words128, lmid64-words, lmid64-twice, or64-words, io64-words, io64-or64, or64-io64, elmid128-words, elmid128-twice, or128-words, io128-words, io128-or128, or128-io128}
 
 -- a round, a step between rounds and the step that undoes it, on the states that have the right width
@@ -18,13 +18,6 @@ pub record Undone {S : Type 0} (Wide : S → Type 0) (round : ℕ → S → S) (
   pub there-wide : (x : S) → Wide x → Wide (there x)
   pub twice : (k : ℕ) (x : S) → round k (round k x) ≡ x
   pub undone : (x : S) → Wide x → back (there x) ≡ x
-
--- one round key more at the end
-through-snoc : {S : Type 0} (round : ℕ → S → S) (between : S → S) (l : ℕ) (ls : List ℕ) (k : ℕ) (x : S)
-    → through round between ((l ∷ ls) ++ (k ∷ [])) x ≡ round k (between (through round between (l ∷ ls) x))
-unfolding through
-through-snoc round between l [] k x = refl
-through-snoc round between l (m ∷ ms) k x = through-snoc round between m ms k (between (round l x))
 
 -- a list that ends in an element has a first one, so the law above holds of a reversed list too
 through-reverse : {S : Type 0} (round : ℕ → S → S) (between : S → S) (l : ℕ) (ls : List ℕ) (k : ℕ) (x : S)
