@@ -29,10 +29,12 @@ seal64-requires c κs =
 
 loop-again : tie.Need-loop-again Inv-loop μ-loop
 loop-again c =
-    let at = c .before .before .before .before .before .before .before .before in
+    let turn = c .before .before .before .before .before .before .before in
+    let at = turn .before in
     let start = at .before .before .before .before in
     let one = seal64 (numbered (held64 (start .args .keys .now)) 16 0) in
-    (omega (arith, c .before .before .before .before .before .before .before .loop-test .taken), c .seal64 .ensures ∙ ap one (at .loop .inv .1) ∙ sym (iterate-suc (at .loop .i) one (at .before .new .result)))
+    let one-more = iterate-suc (at .loop .i) one (at .before .new .result) in
+    (omega (arith, turn .loop-test .taken), c .seal64 .ensures ∙ ap one (at .loop .inv .1) ∙ sym one-more)
 
 returns : tie.Need-returns Inv-loop μ-loop
 returns c =
