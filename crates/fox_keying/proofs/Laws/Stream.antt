@@ -24,7 +24,8 @@ value k r = split 3 (iterate k clocked r)
 
 -- six values in a row, cut as the words of the front and of the rest take them
 pub front-row : (r : ℕ)
-    → value 0 r ++ value 1 r ++ take 2 (value 2 r) ++ (drop 2 (value 2 r) ++ value 3 r ++ value 4 r ++ take 1 (value 5 r)) ++ drop 1 (value 5 r) ≡ stream 6 r
+    → value 0 r ++ value 1 r ++ take 2 (value 2 r) ++ (drop 2 (value 2 r) ++ value 3 r ++ value 4 r ++ take 1 (value 5 r))
+    ++ drop 1 (value 5 r) ≡ stream 6 r
 unfolding stream split iterate
 front-row r = refl
 
@@ -46,7 +47,13 @@ word-332 x y z hx hy hz =
     let all : List ℕ = u ++ v in
     let top : joined v ≡ z / 0x100 = unfold joined split in omega arith in
     let number : x * 0x10000000000 + y * 0x10000 + z / 0x100 ≡ joined all =
-    omega (arith, simp lengths at (joined-append u v), simp lengths at (joined-append (split 3 x) (split 3 y)), joined-split 3 x hx, joined-split 3 y hy) in
+    omega (
+      arith,
+      simp lengths at (joined-append u v),
+      simp lengths at (joined-append (split 3 x) (split 3 y)),
+      joined-split 3 x hx,
+      joined-split 3 y hy,
+    ) in
     word-of _ all (search bytes) (simp lengths) number
 
 pub word-233 : (x y z : ℕ) → y < 2 ^ 24 → z < 2 ^ 24
@@ -57,7 +64,13 @@ word-233 x y z hy hz =
     let all : List ℕ = u ++ split 3 z in
     let low : joined v ≡ x % 0x10000 = unfold split in joined-split-low 2 x in
     let number : x % 0x10000 * 0x1000000000000 + y * 0x1000000 + z ≡ joined all =
-    omega (arith, simp lengths at (joined-append u (split 3 z)), simp lengths at (joined-append v (split 3 y)), joined-split 3 y hy, joined-split 3 z hz) in
+    omega (
+      arith,
+      simp lengths at (joined-append u (split 3 z)),
+      simp lengths at (joined-append v (split 3 y)),
+      joined-split 3 y hy,
+      joined-split 3 z hz,
+    ) in
     word-of _ all (search bytes) (simp lengths) number
 
 pub word-1331 : (x y z t : ℕ) → y < 2 ^ 24 → z < 2 ^ 24 → t < 2 ^ 24

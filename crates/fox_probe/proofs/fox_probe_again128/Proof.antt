@@ -25,17 +25,21 @@ loop-holds c = (search needs, refl)
 turn128-requires : tie.Need-turn128-requires Inv-loop μ-loop
 turn128-requires c κs =
     let tables = c .before .before .before .before .before .before .before .before .before .before .before .before .before in
-    let t = tables .tbsm .ensures in
-    (record { s = tables .before .tbs .ensures; a = t .a; b = t .b; c = t .c; d = t .d; e = t .e; f = t .f; g = t .g; h = t .h }, (search needs, search needs))
+    let t = tables .tbsm .ensures in (
+      record { s = tables .before .tbs .ensures; a = t .a; b = t .b; c = t .c; d = t .d; e = t .e; f = t .f; g = t .g; h = t .h },
+      (search needs, search needs),
+    )
 
 loop-again : tie.Need-loop-again Inv-loop μ-loop
 loop-again c =
-    let at = c .before .before .before .before .before .before .before .before .before .before .before .before in
+    let turn = c .before .before .before .before .before .before .before .before .before .before .before in
+    let at = turn .before in
     let start = at .before .before .before .before in
     let ks = numbered (held128 (start .args .keys .now)) 16 0 in
     let one = seal128 ks in
     let is : c .turn128 .result ≡ one (at .loop .y) = cc (c .turn128 .ensures ∙ sealed-128 ks (at .loop .y)) in
-    (omega (arith, c .before .before .before .before .before .before .before .before .before .before .before .loop-test .taken), is ∙ ap one (at .loop .inv .1) ∙ sym (iterate-suc (at .loop .i) one (at .before .new .result)))
+    let one-more = iterate-suc (at .loop .i) one (at .before .new .result) in
+    (omega (arith, turn .loop-test .taken), is ∙ ap one (at .loop .inv .1) ∙ sym one-more)
 
 returns : tie.Need-returns Inv-loop μ-loop
 returns c =
@@ -43,7 +47,8 @@ returns c =
     let new = at .before .new .ensures in
     let a = at .before .before .before .before .args in
     let all : at .loop .i ≡ a .blocks = omega arith in
-    let start : at .before .new .result ≡ record { ll = a .a; lr = a .b; rl = a .c; rr = a .d } = λ i. record { ll = new .0 i; lr = new .1 i; rl = new .2 i; rr = new .3 i } in
+    let start : at .before .new .result ≡ record { ll = a .a; lr = a .b; rl = a .c; rr = a .d } =
+    λ i. record { ll = new .0 i; lr = new .1 i; rl = new .2 i; rr = new .3 i } in
     rw (at .loop .inv .1, all, start)
 
 pub fox-probe-again128-spec : {M : Type 1} → statement M

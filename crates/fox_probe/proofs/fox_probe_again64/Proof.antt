@@ -30,12 +30,14 @@ turn64-requires c κs =
 
 loop-again : tie.Need-loop-again Inv-loop μ-loop
 loop-again c =
-    let at = c .before .before .before .before .before .before .before .before in
+    let turn = c .before .before .before .before .before .before .before in
+    let at = turn .before in
     let start = at .before .before .before .before in
     let ks = numbered (held64 (start .args .keys .now)) 16 0 in
     let one = seal64 ks in
     let is : c .turn64 .result ≡ one (at .loop .y) = cc (c .turn64 .ensures ∙ sealed-64 ks (at .loop .y)) in
-    (omega (arith, c .before .before .before .before .before .before .before .loop-test .taken), is ∙ ap one (at .loop .inv .1) ∙ sym (iterate-suc (at .loop .i) one (at .before .new .result)))
+    let one-more = iterate-suc (at .loop .i) one (at .before .new .result) in
+    (omega (arith, turn .loop-test .taken), is ∙ ap one (at .loop .inv .1) ∙ sym one-more)
 
 returns : tie.Need-returns Inv-loop μ-loop
 returns c =

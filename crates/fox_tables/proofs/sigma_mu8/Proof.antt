@@ -12,8 +12,9 @@ returns c =
     let c4 = c .before .before .before .before in
     rw (split-8 (c4 .before .before .before .before .args .w))
     (running-terms
-    (c4 .before .before .before .of-joined8 .ensures ▸ c4 .before .before .of-joined82 .ensures ▸ c4 .before .of-joined83 .ensures ▸ c4 .of-joined84 .ensures
-    ▸ c .before .before .before .of-joined85 .ensures ▸ c .before .before .of-joined86 .ensures ▸ c .before .of-joined87 .ensures ▸ c .of-joined88 .ensures ▸ done))
+    (c4 .before .before .before .of-joined8 .ensures ▸ c4 .before .before .of-joined82 .ensures
+    ▸ c4 .before .of-joined83 .ensures ▸ c4 .of-joined84 .ensures ▸ c .before .before .before .of-joined85 .ensures
+    ▸ c .before .before .of-joined86 .ensures ▸ c .before .of-joined87 .ensures ▸ c .of-joined88 .ensures ▸ done))
 
 pub sigma-mu8-spec : {M : Type 1} → statement M
 sigma-mu8-spec =

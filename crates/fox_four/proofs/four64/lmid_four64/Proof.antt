@@ -9,7 +9,8 @@ returns : tie.Need-returns
 unfolding lmidFour64
 returns c =
     let c2 = c .before .before in
-    λ i. record { first = c2 .before .lmid64 .ensures i; second = c2 .lmid642 .ensures i; third = c .before .lmid643 .ensures i; fourth = c .lmid644 .ensures i }
+    let c3 = c2 .before in
+    λ i. record { first = c3 .lmid64 .ensures i; second = c2 .lmid642 .ensures i; third = c .before .lmid643 .ensures i; fourth = c .lmid644 .ensures i }
 
 pub lmid-four64-spec : {M : Type 1} → statement M
 lmid-four64-spec = tie.close (tie.spec (λ c κs. search needs) (λ c κs. search needs) (λ c κs. search needs) (λ c κs. search needs) returns)

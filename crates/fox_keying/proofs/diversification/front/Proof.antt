@@ -17,8 +17,11 @@ returns c =
     let e2 = c4 .before .clocked2 .ensures .0 in
     let e3 = c4 .clocked3 .ensures .0 in
     let e4 = c2 .before .clocked4 .ensures .0 in
-    let e5 = c2 .clocked5 .ensures .0 in
-    (rw (c .before .word-332 .ensures, c .word-1331 .ensures, e5, e4, e3, e2, e1) (front-row (c6 .before .args .reg)), rw (e5, e4, e3, e2, e1), c2 .clocked5 .ensures .1)
+    let e5 = c2 .clocked5 .ensures .0 in (
+      rw (c .before .word-332 .ensures, c .word-1331 .ensures, e5, e4, e3, e2, e1) (front-row (c6 .before .args .reg)),
+      rw (e5, e4, e3, e2, e1),
+      c2 .clocked5 .ensures .1,
+    )
 
 pub front-spec : {M : Type 1} → statement M
 front-spec =

@@ -7,5 +7,5 @@ use Rattle.fox_keying.proofs.diversification.word_1331.Tie as tie
 
 pub word-1331-spec : {M : Type 1} → statement M
 word-1331-spec =
-    tie.close (tie.spec (λ c. search needs) (λ c. search needs) (λ c. search needs) (λ c. search needs) (λ c. search needs) (λ c. search needs) (λ c. search needs) (λ c. search needs)
-    (λ c. word-1331 (c .args .x) (c .args .y) (c .args .z) (c .args .t) (c .pre .1) (c .pre .2) (c .pre .3)))
+    tie.close (tie.spec (λ c. search needs) (λ c. search needs) (λ c. search needs) (λ c. search needs) (λ c. search needs) (λ c. search needs)
+    (λ c. search needs) (λ c. search needs) (λ c. word-1331 (c .args .x) (c .args .y) (c .args .z) (c .args .t) (c .pre .1) (c .pre .2) (c .pre .3)))

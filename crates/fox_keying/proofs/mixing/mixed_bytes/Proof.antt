@@ -37,7 +37,8 @@ loop-again c =
     let byte = padded-at ek key (c6 .pre .0) (l .i) here in (
       omega arith,
       length-set (l .out) (l .i) (c .mixed-byte .result) ∙ l .inv .1,
-      mixed-step p (l .out) (mixed 0x6A 0x76 p) (l .i) (l .x) (l .y) (c .mixed-byte .result) (omega arith) (omega arith) (cc) (l .inv .2),
+      mixed-step p (l .out) (mixed 0x6A 0x76 p) (l .i) (l .x) (l .y) (c .mixed-byte .result) (omega arith) (omega arith)
+          (rw (c .mixed-byte .ensures, c1 .padded-byte .ensures, byte)) (l .inv .2),
     )
 
 returns : tie.Need-returns Inv-loop μ-loop

@@ -16,10 +16,13 @@ returns c =
     let c4 = c .before .before .before .before in
     let start = c4 .before .before .before .before in
     let fits = start .good .0 .1 .1 in
-    (λ i. c .before .before .before .second8 .ensures i ∷ c .before .before .second82 .ensures i ∷ c .before .second83 .ensures i ∷ c .second84 .ensures i ∷ [])
+    (λ i. c .before .before .before .second8 .ensures i ∷ c .before .before .second82 .ensures i
+    ∷ c .before .second83 .ensures i ∷ c .second84 .ensures i ∷ [])
     ∙ layers-made 8 4 mu8 mix128 (start .args .flip) _
-    (λ i. c4 .before .before .before .first8 .ensures i ∷ c4 .before .before .first82 .ensures i ∷ c4 .before .first83 .ensures i ∷ c4 .first84 .ensures i ∷ []) pad-8-4
-    ∙ ap (layers 8 4 mu8 mix128 (start .args .flip)) (sym (words32 (start .args .d) (fits .0 .1) (fits .1 .0 .1) (fits .1 .1 .0 .1) (fits .1 .1 .1 .0 .1)))
+    (λ i. c4 .before .before .before .first8 .ensures i ∷ c4 .before .before .first82 .ensures i
+    ∷ c4 .before .first83 .ensures i ∷ c4 .first84 .ensures i ∷ []) pad-8-4
+    ∙ ap (layers 8 4 mu8 mix128 (start .args .flip))
+    (sym (words32 (start .args .d) (fits .0 .1) (fits .1 .0 .1) (fits .1 .1 .0 .1) (fits .1 .1 .1 .0 .1)))
 
 pub layers128-spec : {M : Type 1} → statement M
 layers128-spec = tie.close (tie.spec (λ c κs. tt) (λ c κs. tt) (λ c κs. tt) (λ c κs. tt) (λ c κs. tt) (λ c κs. tt) (λ c κs. tt) (λ c κs. tt) returns)

@@ -18,7 +18,8 @@ returns c =
     let c8 = c4 .before .before .before .before in
     let start = c8 .before .before .before .before in
     let fits = start .good .0 .1 .1 in
-    (λ i. c .before .before .before .second4 .ensures i ∷ c .before .before .second42 .ensures i ∷ c .before .second43 .ensures i ∷ c .second44 .ensures i ∷ [])
+    (λ i. c .before .before .before .second4 .ensures i ∷ c .before .before .second42 .ensures i
+    ∷ c .before .second43 .ensures i ∷ c .second44 .ensures i ∷ [])
     ∙ layers-made 4 4 mu4 mix64 (start .args .flip) _
     (λ i. c8 .before .before .first4 .ensures i ∷ c8 .first42 .ensures i ∷ c4 .before .before .first43 .ensures i ∷ c4 .first44 .ensures i ∷ []) pad-4-4
     ∙ ap (layers 4 4 mu4 mix64 (start .args .flip)) (sym (halves16 (start .args .d) (fits .0 .1) (fits .1 .0 .1)))

@@ -7,4 +7,5 @@ use Rattle.fox_nonlinear.proofs.one_word.second4.Tie as tie
 pub second4-spec : {M : Type 1} → statement M
 unfolding flipped
 second4-spec =
-    tie.close (tie.spec (λ c κs. tt) (λ c κs. tt) (λ c. rw (c .sigma4 .ensures, c .before .if1 .taken)) (λ c. rw (c .sigma42 .ensures, c .before .if1 .left)))
+    tie.close (tie.spec (λ c κs. tt) (λ c κs. tt) (λ c. rw (c .sigma4 .ensures, c .before .if1 .taken))
+    (λ c. rw (c .sigma42 .ensures, c .before .if1 .left)))

@@ -7,4 +7,5 @@ use Rattle.fox_nonlinear.proofs.one_word.second8.Tie as tie
 pub second8-spec : {M : Type 1} → statement M
 unfolding flipped
 second8-spec =
-    tie.close (tie.spec (λ c κs. tt) (λ c κs. tt) (λ c. rw (c .sigma8 .ensures, c .before .if1 .taken)) (λ c. rw (c .sigma82 .ensures, c .before .if1 .left)))
+    tie.close (tie.spec (λ c κs. tt) (λ c κs. tt) (λ c. rw (c .sigma8 .ensures, c .before .if1 .taken))
+    (λ c. rw (c .sigma82 .ensures, c .before .if1 .left)))
