@@ -1,8 +1,8 @@
 -- The right sheets are exactly those written from values in range. A sheet written from such values is right and says them, since each line of it is read
 -- as it was written; and a right sheet is the one that is written from what it says, which is in range. So no two sheets say the same.
 -- Assumes nothing.
-use mathlib.Core.Path.{_≡_, refl, sym, ap, _∙_}
-use mathlib.Core.Bool.{Bool, true, false, _||_, or-false}
+use mathlib.Core.Path.{_≡_, refl, sym, _∙_}
+use mathlib.Core.Bool.{Bool, true, false, or-false}
 use mathlib.Core.List.{List, _++_}
 use Prim.Native.Nat.{ℕ}
 use native.Mathlib.Omega.{arith}
