@@ -62,5 +62,8 @@ refused =
     ∷ []
 
 pub printed : Printed (broken ++ refused)
-unfolding broken refused zeros refusalOf blockSize noCipher noRounds longKey noBlock noOutput forKey forBlock codes ascii startsWith lineEnd afterLine lines isLine brokenFrom allDigits onward begins inRange isDecimal digitsText allHex nibble pairsOf isDecimalLine isPairsLine decimalIn pairsIn decimalLineText cipherName roundsName keyName sealWay openWay blockName isWayLine settingTests taskTests brokenLine said valuesOf refusalName lineName brokenText refusal blockText answerOf
+unfolding broken refused zeros refusalOf blockSize noCipher noRounds longKey noBlock noOutput forKey forBlock codes ascii startsWith lineEnd
+    afterLine lines isLine brokenFrom allDigits onward begins inRange isDecimal digitsText allHex nibble pairsOf isDecimalLine isPairsLine
+    decimalIn pairsIn decimalLineText cipherName roundsName keyName sealWay openWay blockName isWayLine settingTests taskTests brokenLine
+    said valuesOf refusalName lineName brokenText refusal blockText answerOf
 printed = refl

@@ -1,27 +1,25 @@
 -- The first broken line of a sheet, of what its two parts have, and the answer, by whether the sheet is right and the block served.
 -- Assumes nothing.
 use mathlib.Core.Path.{_≡_, refl, _∙_}
-use mathlib.Core.List.{List}
+use mathlib.Core.List.{List, [], _∷_}
 use mathlib.Core.Bool.{Bool, true, false, cond}
 use Prim.Native.Nat.{ℕ, _≤_}
 use lib.ListN.{length}
 use lib.Dec.{eqb}
 use borrow.Author.Tests.{ne-eqb}
 use Rattle.fox_text.specs.Lines.{afterLine, afterLines}
-use Rattle.fox_text.specs.Rules.{isLine, brokenIn, brokenFrom}
+use Rattle.fox_text.specs.Rules.{Test, isLine, brokenIn, brokenFrom}
 use Rattle.fox_text.specs.Put.{Put}
 use Rattle.fox_text.proofs.Laws.Stores.{put-stored}
-use Rattle.fox_text.specs.Fields.{isDecimalLine, isPairsLine, decimalLineText}
-use Rattle.fox_sheet.specs.Sheet.{cipherName, roundsName, keyName, settingTests, taskTests, brokenLine, Values, valuesOf}
+use Rattle.fox_text.specs.Fields.{decimalLineText}
+use Rattle.fox_sheet.specs.Sheet.{settingTests, taskTests, brokenLine, Values, valuesOf}
 use Rattle.fox_sheet.specs.Answer.{refusalName, asked, brokenText, servedText, turned, refusal, blockText, answerOf, Answers}
 
--- a broken line of the settings, and else of the task
-parts-broken : (t : List ℕ)
-    → cond (eqb (brokenIn 1 settingTests t) 0) (brokenFrom 4 taskTests (afterLines 3 t)) (brokenIn 1 settingTests t) ≡ brokenLine t
-unfolding brokenIn brokenFrom brokenLine settingTests afterLines
-parts-broken t =
-    joined (isLine (isDecimalLine 65535 cipherName) t) (isLine (isDecimalLine 65535 roundsName) (afterLine t))
-    (isLine (isPairsLine 64 keyName) (afterLine (afterLine t))) _
+-- a broken line of the first three, and else of the others
+parts-broken : (f g h : Test) (tests : List Test) (t : List ℕ)
+    → cond (eqb (brokenIn 1 (f ∷ g ∷ h ∷ []) t) 0) (brokenFrom 4 tests (afterLines 3 t)) (brokenIn 1 (f ∷ g ∷ h ∷ []) t) ≡ brokenFrom 1 (f ∷ g ∷ h ∷ tests) t
+unfolding brokenIn brokenFrom afterLines
+parts-broken f g h tests t = joined (isLine f t) (isLine g (afterLine t)) (isLine h (afterLine (afterLine t))) _
   where
     joined : (a b c : Bool) (n : ℕ)
         → cond (eqb (cond a (cond b (cond c 0 3) 2) 1) 0) n (cond a (cond b (cond c 0 3) 2) 1) ≡ cond a (cond b (cond c n 3) 2) 1
@@ -32,7 +30,8 @@ parts-broken t =
 
 pub first-broken : {settings task line : ℕ} (t : List ℕ) → settings ≡ brokenIn 1 settingTests t → task ≡ brokenFrom 4 taskTests (afterLines 3 t)
     → line ≡ cond (eqb settings 0) task settings → line ≡ brokenLine t
-first-broken t s k l = l ∙ rw (s, k) (parts-broken t)
+unfolding brokenLine settingTests
+first-broken t s k l = l ∙ rw (s, k) (parts-broken _ _ _ taskTests t)
 
 pub same-values : {v : Values} {sealing : Bool} {cipher rounds : ℕ} {key block : List ℕ} → sealing ≡ v .sealing → cipher ≡ v .cipher
     → rounds ≡ v .rounds → key ≡ v .key → block ≡ v .block → asked sealing cipher rounds key block ≡ v

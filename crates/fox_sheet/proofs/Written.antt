@@ -1,7 +1,7 @@
 -- The right sheets are exactly those written from values in range. A sheet written from such values is right and says them, since each line of it is read
 -- as it was written; and a right sheet is the one that is written from what it says, which is in range. So no two sheets say the same.
 -- Assumes nothing.
-use mathlib.Core.Path.{_≡_, refl, sym, ap, _∙_}
+use mathlib.Core.Path.{_≡_, refl, sym, _∙_}
 use mathlib.Core.Bool.{Bool, true, false}
 use mathlib.Core.List.{List, _++_}
 use Prim.Native.Nat.{ℕ}
@@ -9,18 +9,11 @@ use native.Mathlib.Omega.{arith}
 use Rattle.fox_text.specs.Ascii.{codes, ascii, startsWith, same}
 use Rattle.fox_text.specs.Lines.{lines}
 use Rattle.fox_text.proofs.Laws.Written.{Plain, Plains, Kept, written-right, written-lines, right-lines}
-use Rattle.fox_text.proofs.Laws.Values.{
-  same-is,
-  decimal-line-right,
-  decimal-line-read,
-  decimal-line-plain,
-  decimal-line-again,
-  pairs-line-right,
-  pairs-line-read,
-  pairs-line-plain,
-  pairs-line-again,
-}
-use Rattle.fox_sheet.specs.Sheet.{cipherName, roundsName, keyName, sealWay, openWay, blockName, isWayLine, settingTests, taskTests, brokenLine, Values, said, valuesOf}
+use Rattle.fox_text.proofs.Laws.Values.{same-is, decimal-line-right, decimal-line-read, decimal-line-plain, decimal-line-again}
+use Rattle.fox_text.proofs.Laws.Values.{pairs-line-right, pairs-line-read, pairs-line-plain, pairs-line-again}
+use Rattle.fox_sheet.specs.Sheet.{cipherName, roundsName, keyName, sealWay, openWay, blockName, isWayLine, settingTests, taskTests}
+use Rattle.fox_sheet.specs.Sheet.{brokenLine, Values, said, valuesOf}
+use Rattle.fox_sheet.proofs.Laws.{same-values}
 use Rattle.fox_sheet.specs.Written.{wayText, linesOf, sheetText, InRange, WrittenFrom, Says}
 
 -- names and ways hold no line feed
@@ -62,12 +55,12 @@ module _ {v : Values} (r : InRange v) where
   lines-kept : Kept (settingTests ++ taskTests) (linesOf v)
   unfolding Kept settingTests taskTests linesOf
   lines-kept = (
-    decimal-line-right 65535 (v .cipher) cipherName (r .cipher) (omega (arith, r .cipher)),
+    decimal-line-right _ (v .cipher) cipherName (omega (arith, r .cipher)) (omega (arith, r .cipher)),
     (
-      decimal-line-right 65535 (v .rounds) roundsName (r .rounds) (omega (arith, r .rounds)),
+      decimal-line-right _ (v .rounds) roundsName (omega (arith, r .rounds)) (omega (arith, r .rounds)),
       (
-        pairs-line-right 64 keyName (v .key) (r .key) (r .key-bytes),
-        (way-right (v .sealing), (pairs-line-right 32 blockName (v .block) (r .block) (r .block-bytes), tt)),
+        pairs-line-right _ keyName (v .key) (omega (arith, r .key)) (r .key-bytes),
+        (way-right (v .sealing), (pairs-line-right _ blockName (v .block) (omega (arith, r .block)) (r .block-bytes), tt)),
       ),
     ),
   )
@@ -91,13 +84,10 @@ module _ {v : Values} (r : InRange v) where
   lines-said : said (linesOf v) ≡ v
   unfolding said linesOf
   lines-said =
-      rw (
-        decimal-line-read 65535 (v .cipher) cipherName (r .cipher) (omega (arith, r .cipher)),
-        decimal-line-read 65535 (v .rounds) roundsName (r .rounds) (omega (arith, r .rounds)),
-        pairs-line-read 64 keyName (v .key) (r .key) (r .key-bytes),
-        way-read (v .sealing),
-        pairs-line-read 32 blockName (v .block) (r .block) (r .block-bytes),
-      )
+      same-values (way-read (v .sealing)) (decimal-line-read _ (v .cipher) cipherName (omega (arith, r .cipher)) (omega (arith, r .cipher)))
+      (decimal-line-read _ (v .rounds) roundsName (omega (arith, r .rounds)) (omega (arith, r .rounds)))
+      (pairs-line-read _ keyName (v .key) (omega (arith, r .key)) (r .key-bytes))
+      (pairs-line-read _ blockName (v .block) (omega (arith, r .block)) (r .block-bytes))
 
   read-again : lines 5 (sheetText v) ≡ linesOf v
   unfolding sheetText linesOf
@@ -123,11 +113,11 @@ unfolding brokenLine Kept settingTests taskTests lines valuesOf said sheetText l
 right-is-written t right =
     let r = right-lines 0 (settingTests ++ taskTests) t right in
     let k = r .kept in
-    let cipher = decimal-line-again 65535 cipherName _ (omega arith) (k .0) in
-    let rounds = decimal-line-again 65535 roundsName _ (omega arith) (k .1 .0) in
-    let key = pairs-line-again 64 keyName _ (k .1 .1 .0) in
+    let cipher = decimal-line-again _ cipherName _ (omega arith) (k .0) in
+    let rounds = decimal-line-again _ roundsName _ (omega arith) (k .1 .0) in
+    let key = pairs-line-again _ keyName _ (k .1 .1 .0) in
     let way = way-again _ _ refl (k .1 .1 .1 .0) in
-    let block = pairs-line-again 32 blockName _ (k .1 .1 .1 .1 .0) in
+    let block = pairs-line-again _ blockName _ (k .1 .1 .1 .1 .0) in
     record {
       range =
           record {

@@ -1,8 +1,8 @@
 -- A line that is a name, with its `=`, and a value: whether it is right, what it says, and how it is written. Lines stand without their line feed here.
 -- Assumes nothing.
 use mathlib.Core.Path.{_≡_}
-use Prim.Native.Nat.{ℕ}
-use mathlib.Core.Bool.{Bool, cond, _&&_}
+use Prim.Native.Nat.{ℕ, _+_, _*_}
+use mathlib.Core.Bool.{cond, _&&_}
 use mathlib.Core.List.{List, [], _∷_, _++_}
 use lib.ListN.{length, drop}
 use Rattle.fox_text.specs.Ascii.{startsWith}
@@ -10,7 +10,7 @@ use Rattle.fox_text.specs.Lines.{line}
 use Rattle.fox_text.specs.Rules.{Test, isLine}
 use Rattle.fox_text.specs.Decimal.{isDecimal, decimalOf, decimalText}
 use Rattle.fox_text.specs.Hex.{isPairs, pairsOf, hexText}
-use Rattle.fox_text.specs.Put.{Stored}
+use Rattle.fox_text.specs.Put.{Put, Stored}
 use Rattle.fox_text.specs.declared.decimal.Decimal.{Decimal}
 use Rattle.fox_text.specs.declared.fields.Pairs.{Pairs}
 
@@ -55,3 +55,10 @@ decimalLineText name n = name ++ decimalText n ++ (10 ∷ [])
 
 unfoldable pub pairsLineText : List ℕ → List ℕ → List ℕ
 pairsLineText name bytes = name ++ hexText bytes ++ (10 ∷ [])
+
+-- a line written from a place on, with its line feed: a decimal has five digits at most
+abbrev pub PutsDecimal : List ℕ → ℕ → List ℕ → List ℕ → ℕ → ℕ → Type 0
+PutsDecimal name n before after at r = Put (length name + 6) (decimalLineText name n) before after at r
+
+abbrev pub PutsPairs : List ℕ → List ℕ → List ℕ → List ℕ → ℕ → ℕ → Type 0
+PutsPairs name bytes before after at r = Put (length name + length bytes * 2 + 1) (pairsLineText name bytes) before after at r

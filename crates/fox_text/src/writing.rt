@@ -4,7 +4,7 @@ ghost use Prim.Native.Nat.{_+_, _*_, _≤_, _<_};
 ghost use lib.ListN.{length};
 ghost use Rattle.fox_text.specs.Decimal.{digitsText};
 ghost use Rattle.fox_text.specs.Hex.{digit, hexText};
-ghost use Rattle.fox_text.specs.Fields.{decimalLineText, pairsLineText};
+ghost use Rattle.fox_text.specs.Fields.{PutsDecimal, PutsPairs};
 ghost use Rattle.fox_text.specs.Put.{Put};
 
 pub fn put(out: &mut [u8], at: usize, text: &[u8]) -> usize
@@ -55,7 +55,7 @@ pub fn put_hex(out: &mut [u8], at: usize, bytes: &[u8]) -> usize
 // A name, a number of five digits at most, and a line feed.
 pub fn put_decimal_line(out: &mut [u8], at: usize, name: &[u8], n: u32) -> usize
     requires { ⌜ at + (length (now name) + 6) ≤ length (now out) ⌝ }
-    ensures { λ r. ⌜ Put (length (now (name .entry)) + 6) (decimalLineText (now (name .entry)) n) (now (out .entry)) (now (out .exit)) at r ⌝ }
+    ensures { λ r. ⌜ PutsDecimal (now (name .entry)) n (now (out .entry)) (now (out .exit)) at r ⌝ }
 {
     let a = put(out, at, name);
     let b = put_digits(out, a, n, 5);
@@ -64,7 +64,7 @@ pub fn put_decimal_line(out: &mut [u8], at: usize, name: &[u8], n: u32) -> usize
 
 pub fn put_pairs_line(out: &mut [u8], at: usize, name: &[u8], bytes: &[u8]) -> usize
     requires { ⌜ at + (length (now name) + length (now bytes) * 2 + 1) ≤ length (now out) ⌝ }
-    ensures { λ r. ⌜ Put (length (now (name .entry)) + length (now (bytes .entry)) * 2 + 1) (pairsLineText (now (name .entry)) (now (bytes .entry))) (now (out .entry)) (now (out .exit)) at r ⌝ }
+    ensures { λ r. ⌜ PutsPairs (now (name .entry)) (now (bytes .entry)) (now (out .entry)) (now (out .exit)) at r ⌝ }
 {
     let a = put(out, at, name);
     let b = put_hex(out, a, bytes);

@@ -20,7 +20,7 @@ use Rattle.fox_text.specs.Decimal.{isDecimal}
 use Rattle.fox_text.specs.Hex.{isPairs}
 use Rattle.fox_text.specs.Fields.{valueText, isDecimalLine, isPairsLine}
 use Rattle.fox_text.proofs.Laws.Tests.{both, by-test}
-use Rattle.fox_text.proofs.Laws.Lines.{line-end-within, length-line}
+use Rattle.fox_text.proofs.Laws.Lines.{length-line}
 use Rattle.fox_text.proofs.Laws.Decimals.{decimal-length}
 use Rattle.fox_text.proofs.Laws.Pairs.{even-pairs}
 

@@ -1,22 +1,22 @@
 -- Lines of a name and a value: what is written is read again, and what is right is as it would be written. A number's digits, read from the left, make it
 -- digit by digit, and the first that is written is not 0, since one more digit moves the others up by a place. Two digits stand for the two halves of a byte.
 -- Assumes nothing.
-use mathlib.Core.Path.{_≡_, refl, sym, ap, ap₂, _∙_}
-use mathlib.Core.Bool.{Bool, true, false, _&&_, true≢false}
+use mathlib.Core.Path.{_≡_, refl, sym, ap₂, _∙_}
+use mathlib.Core.Bool.{true, false, _&&_, true≢false}
 use mathlib.Core.List.{List, [], _∷_, _++_, append-nil}
 use Prim.Native.Nat.{ℕ, zero, suc, _+_, _-_, _*_, _/_, _%_, _^_, _≤_, _<_}
 use native.Mathlib.Omega.{arith}
 use lib.ListN.{length, drop, getD, drop-of-length-le}
 use lib.Seq.{append-snoc, drop-append-seam}
-use lib.Dec.{leb, ltb, eqb}
+use lib.Dec.{ltb, eqb}
 use borrow.Author.Tests.{ltb-true, ltb-false, eqb-true, lt-ltb, le-ltb, le-leb, lt-leb, eq-eqb, ne-eqb}
 use Rattle.fox_text.specs.Ascii.{startsWith, same}
 use Rattle.fox_text.specs.Decimal.{isDigit, allDigits, onward, decimalOf, begins, inRange, isDecimal, digitsText, decimalText}
 use Rattle.fox_text.specs.Hex.{isHex, allHex, isPairs, nibble, pairsOf, digit, hexText}
 use Rattle.fox_text.specs.Fields.{valueText, isDecimalLine, isPairsLine, decimalIn, pairsIn, decimalLine, pairsLine}
 use Rattle.fox_text.proofs.Laws.Tests.{both, by-test}
-use Rattle.fox_text.proofs.Laws.Decimals.{digit-known, decimal-digits, first-digit, decimal-length, grows, digits-more}
-use Rattle.fox_text.proofs.Laws.Pairs.{Ranges, ranges, nibble-small, length-pairs, length-hex-text, even-pairs}
+use Rattle.fox_text.proofs.Laws.Decimals.{digit-known, decimal-digits, first-digit, decimal-length, digits-more}
+use Rattle.fox_text.proofs.Laws.Pairs.{ranges, nibble-small, length-pairs, length-hex-text, even-pairs}
 use Rattle.fox_text.proofs.Laws.Prefixes.{same-length}
 use Rattle.fox_text.proofs.Laws.Written.{Plain, plain-append}
 

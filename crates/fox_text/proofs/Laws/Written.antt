@@ -1,12 +1,12 @@
 -- Texts of lines, as they are written and as they are read. A written line ends at the first line feed where it holds none itself, so lines that pass their
 -- tests make a text that breaks no rule, whose lines they are; and a text that breaks no rule is its lines, one after the other.
 -- Assumes nothing.
-use mathlib.Core.Path.{_≡_, refl, sym, ap, ap₂, _∙_}
+use mathlib.Core.Path.{_≡_, refl, ap, ap₂, _∙_}
 use mathlib.Core.Bool.{true, false}
 use mathlib.Core.List.{List, [], _∷_, _++_}
 use Prim.Native.Nat.{ℕ, suc, _+_, _<_}
 use native.Mathlib.Omega.{arith}
-use lib.ListN.{length, take, drop, length-append}
+use lib.ListN.{length, drop, length-append}
 use lib.Seq.{take-at}
 use lib.Dec.{eqb}
 use borrow.Author.Tests.{ltb-true, eqb-true, lt-ltb}

@@ -18,7 +18,8 @@ returns c =
     let two = three .before .before .before .before .before in
     let one = two .before .before .before .before .before in
     let heads = then (then (one .put-decimal-line .ensures) (two .put-decimal-line2 .ensures)) (three .put-decimal-line3 .ensures) in
-    at-most (then (then heads (four .put-decimal-line4 .ensures)) (five .put-pairs-line .ensures)) (omega (arith, one .before .before .before .before .before .pre .block))
+    let start = one .before .before .before .before .before in
+    at-most (then (then heads (four .put-decimal-line4 .ensures)) (five .put-pairs-line .ensures)) (omega (arith, start .pre .block))
 
 pub put-served-spec : {M : Type 1} → statement M
 put-served-spec =

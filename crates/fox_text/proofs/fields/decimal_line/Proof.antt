@@ -1,14 +1,18 @@
 -- `fields::decimal_line` meets its contract, since each of its parts meets its own.
 -- Assumes nothing.
-use Rattle.fox_text.specs.Rules.{isLine}
-use Rattle.fox_text.specs.Fields.{isDecimalLine, decimalIn}
+use Rattle.fox_text.proofs.Laws.Fields.{read-decimal-line}
 use borrow.Author.Needs.{needs}
 use Rattle.fox_text.proofs.fields.decimal_line.Statement.{statement}
 use Rattle.fox_text.proofs.fields.decimal_line.Tie as tie
 
 returns : tie.Need-returns
-unfolding isLine isDecimalLine decimalIn
-returns c = record { right = cc; value = cc }
+returns c =
+    let starts = c .before in
+    let has = starts .before in
+    let read = has .before in
+    let value = read .before in
+    read-decimal-line (value .before .first-line .ensures) (value .rest .ensures) (has .has-line .ensures) (starts .starts-with .ensures)
+    (read .read-decimal .ensures)
 
 pub decimal-line-spec : {M : Type 1} → statement M
 decimal-line-spec =

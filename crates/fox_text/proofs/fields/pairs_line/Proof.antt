@@ -1,6 +1,5 @@
 -- `fields::pairs_line` meets its contract: the line's value is pairs or not, and only where it is are they written.
 -- Assumes nothing.
-use Rattle.fox_text.specs.Fields.{isPairsLine}
 use Rattle.fox_text.proofs.Laws.Pairs.{joinable}
 use Rattle.fox_text.proofs.Laws.Fields.{right-pairs, wrong-pairs}
 use borrow.Author.Needs.{needs}
@@ -13,12 +12,22 @@ join-pairs-requires c κs =
     joinable (tested .before .starts-with .result) (tested .is-pairs .result) _ _ _ (c .before .if1 .taken) (tested .is-pairs .ensures) (search needs)
 
 returns : tie.Need-returns
-unfolding isPairsLine
-returns c = right-pairs _ _ _ _ (search needs) (cc) (cc) (cc) (cc)
+returns c =
+    let join = c .before .before .before in
+    let right = join .before .before in
+    let pairs = right .before in
+    let starts = pairs .before in
+    let value = starts .before in
+    right-pairs _ _ _ _ (search needs) (value .before .first-line .ensures) (value .rest .ensures) (starts .starts-with .ensures)
+    (pairs .is-pairs .ensures) (right .if1 .taken) (c .has-line .ensures) (join .join-pairs .ensures)
 
 returns-2 : tie.Need-returns-2
-unfolding isPairsLine
-returns-2 c = wrong-pairs _ _ _ _ (search needs) (cc)
+returns-2 c =
+    let pairs = c .before in
+    let starts = pairs .before in
+    let value = starts .before in
+    wrong-pairs _ _ _ _ (search needs) (value .before .first-line .ensures) (value .rest .ensures) (starts .starts-with .ensures)
+    (pairs .is-pairs .ensures) (c .if1 .left)
 
 pub pairs-line-spec : {M : Type 1} → statement M
 pairs-line-spec =

@@ -15,7 +15,8 @@ use Rattle.fox_text.proofs.hex.join_pairs.Tie as tie
 
 abbrev Inv-loop : tie.InvT-loop
 Inv-loop ds out₀ n i₀ out i =
-    (i ≤ n) × (n * 2 ≤ length ds) × (length ds < n * 2 + 2) × (length out ≡ length out₀) × (sets out i (pairsOf (drop (i * 2) ds)) ≡ sets out₀ 0 (pairsOf ds))
+    (i ≤ n) × (n * 2 ≤ length ds) × (length ds < n * 2 + 2) × (length out ≡ length out₀)
+    × (sets out i (pairsOf (drop (i * 2) ds)) ≡ sets out₀ 0 (pairsOf ds))
 
 abbrev μ-loop : tie.MeasureT-loop
 μ-loop ds out₀ n i₀ out i = n - i

@@ -1,13 +1,12 @@
 -- `writing::put_digits` meets its contract: a number below ten is its digit, and any other the digits of its tenth and then its last. The measure is the
 -- number of places.
 -- Assumes nothing.
-use mathlib.Core.Path.{_≡_, refl, _∙_}
+use mathlib.Core.Path.{_≡_, _∙_}
 use mathlib.Core.List.{[], _∷_, _++_}
 use Prim.Native.Nat.{ℕ, _+_, _-_, _/_, _%_, _<_}
 use native.Mathlib.Omega.{arith}
 use borrow.Author.Needs.{needs}
 use borrow.Author.Tests.{lt-ltb, le-ltb}
-use lib.ListN.{length-set}
 use Rattle.fox_text.specs.Decimal.{digitsText}
 use Rattle.fox_text.proofs.Laws.Decimals.{digits-more}
 use Rattle.fox_text.proofs.Laws.Stores.{one, then, at-most}

@@ -1,9 +1,9 @@
 -- `writing::put` meets its contract: whenever the loop's test is reached, storing the bytes from number i on gives what storing all of them into the
 -- buffer as it was gives.
 -- Assumes nothing.
-use mathlib.Core.Path.{_≡_, refl, sym, ap, _∙_}
+use mathlib.Core.Path.{_≡_, refl, sym, _∙_}
 use native.Mathlib.Omega.{arith}
-use Prim.Native.Nat.{ℕ, _+_, _-_, _≤_}
+use Prim.Native.Nat.{_+_, _-_, _≤_}
 use lib.ListN.{length, drop, length-set}
 use lib.Seq.{sets}
 use Rattle.fox_text.proofs.Laws.Stores.{text-stored, text-done}
