@@ -2,8 +2,7 @@
 -- computed by the definitions: as many in one statement as the prover computes at once.
 -- Assumes nothing.
 use mathlib.Core.Path.{_≡_, refl}
-use mathlib.Core.List.{List, [], _∷_}
-use Prim.Native.Nat.{ℕ}
+use mathlib.Core.List.{[], _∷_}
 use lib.ListN.{take}
 use Rattle.fox_layers.specs.Words.{joined, split, sum, summed}
 use Rattle.fox_layers.specs.Field.{polynomial, rest, product}
@@ -16,16 +15,7 @@ use Rattle.fox_keying.specs.Register.{seed, clocked, iterate, LFSR, stream, gro
 use Rattle.fox_nonlinear.specs.Nonlinear.{words, mix64, mix128, mix64h, flipped, layers, number64, number128, NL64, NL64h, parts128, NL128}
 use Rattle.fox_schedule.specs.Schedule.{ek64, ek128, key64, key128, roundKey64, roundKey128, roundKey, roundKeys}
 use Rattle.fox_cipher.specs.Block.{state64, state128, bytes64, bytes128, state, bytes, turnWith, sealBlock, openBlock}
-
-unfoldable pub key : List ℕ
-key =
-    0x00 ∷ 0x11 ∷ 0x22 ∷ 0x33 ∷ 0x44 ∷ 0x55 ∷ 0x66 ∷ 0x77 ∷ 0x88 ∷ 0x99 ∷ 0xAA ∷ 0xBB ∷ 0xCC ∷ 0xDD ∷ 0xEE ∷ 0xFF ∷ 0xFF ∷ 0xEE ∷ 0xDD ∷ 0xCC ∷ 0xBB ∷ 0xAA ∷ 0x99 ∷ 0x88 ∷ 0x77 ∷ 0x66 ∷ 0x55 ∷ 0x44 ∷ 0x33 ∷ 0x22 ∷ 0x11 ∷ 0x00 ∷ []
-
-unfoldable pub plain64 : List ℕ
-plain64 = 0x01 ∷ 0x23 ∷ 0x45 ∷ 0x67 ∷ 0x89 ∷ 0xAB ∷ 0xCD ∷ 0xEF ∷ []
-
-unfoldable pub plain128 : List ℕ
-plain128 = 0x01 ∷ 0x23 ∷ 0x45 ∷ 0x67 ∷ 0x89 ∷ 0xAB ∷ 0xCD ∷ 0xEF ∷ 0xFE ∷ 0xDC ∷ 0xBA ∷ 0x98 ∷ 0x76 ∷ 0x54 ∷ 0x32 ∷ 0x10 ∷ []
+use Rattle.fox_definitions.specs.Given.{key, plain64, plain128}
 
 -- FOX64 sealed
 pub sealed-64 : sealBlock 64 16 (take 8 key) plain64

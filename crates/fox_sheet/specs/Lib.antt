@@ -3,3 +3,4 @@ pub mod Sheet
 pub mod Written
 pub mod Reading
 pub mod Answer
+pub mod Examples

@@ -1,10 +1,7 @@
 -- Sheets whose block is served, and what the bench program prints for them, computed by the definitions: 01's own sheet, its answer opened again, and a sheet
 -- with an empty key.
 -- Assumes nothing.
-use mathlib.Core.Path.{_≡_, refl}
-use mathlib.Core.List.{List, [], _∷_, map}
-use Prim.Native.Nat.{ℕ}
-use Prim.Native.String.{String}
+use mathlib.Core.Path.{refl}
 use Rattle.fox_layers.specs.Words.{joined, split, sum, summed}
 use Rattle.fox_layers.specs.Field.{polynomial, rest, product}
 use Rattle.fox_layers.specs.Substitution.{S₁, S₂, S₃, halves, whole, or4, lmid4, lmor4, sbox, sigma}
@@ -25,16 +22,10 @@ use Rattle.fox_text.specs.Hex.{allHex, nibble, pairsOf, digit, hexText}
 use Rattle.fox_text.specs.Fields.{isDecimalLine, isPairsLine, decimalIn, pairsIn, decimalLineText, pairsLineText}
 use Rattle.fox_sheet.specs.Sheet.{cipherName, roundsName, keyName, sealWay, openWay, blockName, isWayLine, settingTests, taskTests, brokenLine, said, valuesOf}
 use Rattle.fox_sheet.specs.Answer.{refusalName, lineName, keybitsName, brokenText, servedText, refusal, blockText, answerOf}
+use Rattle.fox_sheet.specs.Examples.{Printed}
+use Rattle.fox_sheet_definitions.specs.Examples.{served}
 
--- sheets, each with what is printed for it
-unfoldable pub served : List (List ℕ × String)
-served =
-    (ascii "cipher=64\nrounds=16\nkey=00112233445566778899AABBCCDDEEFF\nway=seal\nblock=0123456789ABCDEF\n", "refusal=0\ncipher=64\nrounds=16\nkeybits=128\nblock=B85D6B766DCE952E\n")
-    ∷ (ascii "cipher=64\nrounds=16\nkey=00112233445566778899AABBCCDDEEFF\nway=open\nblock=B85D6B766DCE952E\n", "refusal=0\ncipher=64\nrounds=16\nkeybits=128\nblock=0123456789ABCDEF\n")
-    ∷ (ascii "cipher=64\nrounds=12\nkey=\nway=seal\nblock=0000000000000000\n", "refusal=0\ncipher=64\nrounds=12\nkeybits=0\nblock=143F1DD7FBF5DEAC\n")
-    ∷ []
-
-pub served-printed : map (λ x. answerOf (x .0)) served ≡ map (λ x. ascii (x .1)) served
+pub served-printed : Printed served
 unfolding served joined split sum summed polynomial rest product S₁ S₂ S₃ halves whole or4 lmid4 lmor4 sbox sigma dot times mu4Rows diffused
     mu4 left right or io f f32 lmid64 or64 io64 numbered through round between inOrder turnedState seal64 pad padded mixed mkey seed clocked iterate LFSR stream groups
     dkey words mix64 flipped layers number64 NL64 ek64 key64 roundKey64 refusalOf blockSize noCipher noRounds longKey noBlock noOutput

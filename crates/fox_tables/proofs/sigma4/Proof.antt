@@ -15,5 +15,4 @@ returns c =
     (running-terms (c2 .before .of-moved .ensures ▸ c2 .of-moved2 .ensures ▸ c .before .of-moved3 .ensures ▸ c .of-moved4 .ensures ▸ done))
 
 pub sigma4-spec : {M : Type 1} → statement M
-sigma4-spec =
-    tie.close (tie.spec (λ c κs. search needs) (λ c κs. search needs) (λ c κs. search needs) (λ c κs. search needs) returns)
+sigma4-spec = tie.close (tie.spec (λ c κs. search needs) (λ c κs. search needs) (λ c κs. search needs) (λ c κs. search needs) returns)

@@ -14,5 +14,4 @@ returns c =
     (running-terms (c2 .before .of-joined4 .ensures ▸ c2 .of-joined42 .ensures ▸ c .before .of-joined43 .ensures ▸ c .of-joined44 .ensures ▸ done))
 
 pub sigma-mu4-spec : {M : Type 1} → statement M
-sigma-mu4-spec =
-    tie.close (tie.spec (λ c κs. tt) (λ c κs. tt) (λ c κs. tt) (λ c κs. tt) returns)
+sigma-mu4-spec = tie.close (tie.spec (λ c κs. tt) (λ c κs. tt) (λ c κs. tt) (λ c κs. tt) returns)

@@ -17,5 +17,4 @@ returns c =
     ▸ c .before .before .of-joined86 .ensures ▸ c .before .of-joined87 .ensures ▸ c .of-joined88 .ensures ▸ done))
 
 pub sigma-mu8-spec : {M : Type 1} → statement M
-sigma-mu8-spec =
-    tie.close (tie.spec (λ c κs. tt) (λ c κs. tt) (λ c κs. tt) (λ c κs. tt) (λ c κs. tt) (λ c κs. tt) (λ c κs. tt) (λ c κs. tt) returns)
+sigma-mu8-spec = tie.close (tie.spec (λ c κs. tt) (λ c κs. tt) (λ c κs. tt) (λ c κs. tt) (λ c κs. tt) (λ c κs. tt) (λ c κs. tt) (λ c κs. tt) returns)

@@ -32,4 +32,5 @@ loop-again c = omega (arith, less c)
 pub run-rows-spec : {M : Type 1} → statement M
 run-rows-spec =
     tie.close (tie.spec Inv-loop μ-loop (λ c. search needs) (λ c. search needs) (λ c κs. search needs) (λ c. search needs) (λ c κs. search needs)
-    (λ c. search needs) (λ c κs. search needs) loop-less loop-again (λ c. search needs) (λ c. search needs) (λ c κs. search needs) (λ c. search needs))
+    (λ c. search needs) (λ c κs. search needs) loop-less loop-again (λ c. search needs) (λ c. search needs) (λ c κs. search needs)
+    (λ c. search needs))

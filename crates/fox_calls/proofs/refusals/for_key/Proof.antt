@@ -13,4 +13,5 @@ unfolding numbered chain refusalOf forKey noCipher noRounds longKey
 returns c = cc (chained [] (forKey _ _ _) refl)
 
 pub for-key-spec : {M : Type 1} → statement M
-for-key-spec = tie.close (tie.spec (λ c κs. search needs) (λ c κs. search needs) (λ c κs. search needs) (λ c κs. search needs) (λ c κs. search needs) returns)
+for-key-spec =
+    tie.close (tie.spec (λ c κs. search needs) (λ c κs. search needs) (λ c κs. search needs) (λ c κs. search needs) (λ c κs. search needs) returns)

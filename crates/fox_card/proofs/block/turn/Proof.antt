@@ -67,5 +67,5 @@ returns-2 c =
 
 pub turn-spec : {M : Type 1} → statement M
 turn-spec =
-    tie.close (tie.spec (λ c κs. search needs) (λ c κs. search needs) returns of-requires read-requires (λ c. search needs) turned-requires write-requires
-    (λ c κs. search needs) (λ c. search needs) returns-2)
+    tie.close (tie.spec (λ c κs. search needs) (λ c κs. search needs) returns of-requires read-requires (λ c. search needs) turned-requires
+    write-requires (λ c κs. search needs) (λ c. search needs) returns-2)

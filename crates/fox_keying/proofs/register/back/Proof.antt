@@ -30,5 +30,4 @@ returns c =
     (rw all at (c .before .loop .inv .0), c .before .loop .inv .1)
 
 pub back-spec : {M : Type 1} → statement M
-back-spec =
-    tie.close (tie.spec Inv-loop μ-loop loop-holds (λ c κs. omega arith) (λ c. omega arith) (λ c. omega arith) loop-again returns)
+back-spec = tie.close (tie.spec Inv-loop μ-loop loop-holds (λ c κs. omega arith) (λ c. omega arith) (λ c. omega arith) loop-again returns)

@@ -11,4 +11,5 @@ use Rattle.fox_keying.proofs.register.seed.Tie as tie
 pub seed-spec : {M : Type 1} → statement M
 unfolding seed joined
 seed-spec =
-    tie.close (tie.spec (λ c κs. search needs) (λ c. omega (arith, c .join4 .ensures, seed-lt (c .before .args .rounds) (c .before .fits .rounds .fits))))
+    tie.close (tie.spec (λ c κs. search needs)
+    (λ c. omega (arith, c .join4 .ensures, seed-lt (c .before .args .rounds) (c .before .fits .rounds .fits))))

@@ -51,5 +51,5 @@ returns c =
 
 pub turn128-spec : {M : Type 1} → statement M
 turn128-spec =
-    tie.close (tie.spec Inv-loop μ-loop (λ c. search needs) loop-holds (λ c κs. search needs) lent (λ c κs. search needs) (λ c. search needs) (λ c. search needs)
-    loop-again (λ c κs. search needs) lent-2 returns)
+    tie.close (tie.spec Inv-loop μ-loop (λ c. search needs) loop-holds (λ c κs. search needs) lent (λ c κs. search needs) (λ c. search needs)
+    (λ c. search needs) loop-again (λ c κs. search needs) lent-2 returns)

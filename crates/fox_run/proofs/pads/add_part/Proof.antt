@@ -45,5 +45,5 @@ returns-2 c =
 
 pub add-part-spec : {M : Type 1} → statement M
 add-part-spec =
-    tie.close (tie.spec (λ c. search needs) add-part64-requires (λ c. search needs) add-part128-requires (λ c. search needs) returns (λ c. search needs)
-    returns-2)
+    tie.close (tie.spec (λ c. search needs) add-part64-requires (λ c. search needs) add-part128-requires (λ c. search needs) returns
+    (λ c. search needs) returns-2)

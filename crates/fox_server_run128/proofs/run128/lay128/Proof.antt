@@ -57,5 +57,5 @@ returns c =
 
 pub lay128-spec : {M : Type 1} → statement M
 lay128-spec =
-    tie.close (tie.spec Inv-loop μ-loop loop-holds (λ c. search needs) (λ c. search needs) (λ c. search needs) (λ c. search needs) (λ c. search needs)
-    (λ c. search needs) (λ c. search needs) part128-requires add-at loop-less loop-again (λ c. search needs) returns)
+    tie.close (tie.spec Inv-loop μ-loop loop-holds (λ c. search needs) (λ c. search needs) (λ c. search needs) (λ c. search needs)
+    (λ c. search needs) (λ c. search needs) (λ c. search needs) part128-requires add-at loop-less loop-again (λ c. search needs) returns)

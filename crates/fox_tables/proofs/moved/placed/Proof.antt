@@ -8,6 +8,6 @@ use Rattle.fox_tables.proofs.moved.placed.Tie as tie
 
 pub placed-spec : {M : Type 1} → statement M
 placed-spec =
-    tie.close (tie.spec (λ c. search needs) (λ c. search needs) (λ c. search needs)
-    (λ c. let e : c .before .args .j ≡ 0 = search needs in rw e) (λ c. let e : c .before .args .j ≡ 1 = search needs in rw e)
-    (λ c. let e : c .before .args .j ≡ 2 = search needs in rw e) (λ c. let e : c .before .args .j ≡ 3 = search needs in rw e (omega arith)))
+    tie.close (tie.spec (λ c. search needs) (λ c. search needs) (λ c. search needs) (λ c. let e : c .before .args .j ≡ 0 = search needs in rw e)
+    (λ c. let e : c .before .args .j ≡ 1 = search needs in rw e) (λ c. let e : c .before .args .j ≡ 2 = search needs in rw e)
+    (λ c. let e : c .before .args .j ≡ 3 = search needs in rw e (omega arith)))

@@ -11,4 +11,5 @@ slice-aggregate-puts c = sym (length-take-le _ _ (search needs))
 
 pub tries-spec : {M : Type 1} → statement M
 tries-spec =
-    tie.close (tie.spec (λ c. search needs) slice-aggregate-puts (λ c κs. search needs) (λ c κs. search needs) (λ c. search needs) (λ c. search needs))
+    tie.close (tie.spec (λ c. search needs) slice-aggregate-puts (λ c κs. search needs) (λ c κs. search needs) (λ c. search needs)
+    (λ c. search needs))

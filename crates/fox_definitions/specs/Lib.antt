@@ -1,0 +1,2 @@
+-- What the vectors of 001 are given.
+pub mod Given

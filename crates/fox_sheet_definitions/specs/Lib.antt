@@ -1,0 +1,2 @@
+-- Sheets whose block is served.
+pub mod Examples
