@@ -51,7 +51,8 @@ place false m i = m - 1 - i
 unfoldable pub turned : Bool → List ℕ → State → State
 turned sealing rks x = through round (between sealing) (inOrder sealing rks) x
 
--- FOX64 and FOX128 sealed, each on its own states: what many blocks side by side are held to
+-- §2.1.1 and §2.1.2 for sealing alone, each cipher on its own states: what the non-linear parts seal with (§2.3.10 to §2.3.12), and what four blocks side by
+-- side are held to
 unfoldable pub seal64 : List ℕ → Fox64 → Fox64
 seal64 rks x = through lmid64 or64 rks x
 
