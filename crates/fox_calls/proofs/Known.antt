@@ -2,6 +2,7 @@
 -- answers, for a key, a block and a stretch; and the last value that is served beside the first that is not.
 -- Assumes nothing.
 use mathlib.Core.Path.{_≡_, refl}
+use mathlib.Core.Bool.{true, false}
 use mathlib.Core.List.{[], _∷_, _++_}
 use Rattle.fox_calls.specs.Refusals.{refusalOf, blockSize, noCipher, noRounds, longKey, noBlock, longData, noOutput, pastEnd, forKey, forBlock, forStretch, forRun}
 
@@ -10,9 +11,10 @@ pub known :
     (refusalOf (forKey 65 11 32) ∷ refusalOf (forKey 64 256 33) ∷ refusalOf (forKey 64 255 33) ∷ [])
     ++ (refusalOf (forKey 0 12 0) ∷ refusalOf (forKey 127 12 0) ∷ refusalOf (forKey 64 11 32) ∷ refusalOf (forKey 128 256 0) ∷ [])
     ++ (refusalOf (forKey 64 12 0) ∷ refusalOf (forKey 64 255 32) ∷ refusalOf (forKey 128 12 16) ∷ refusalOf (forKey 128 255 32) ∷ [])
-    -- a block: 3 before 4 before 6; 8 bytes for FOX64 and 16 for FOX128
-    ++ (refusalOf (forBlock 64 12 33 7 7) ∷ refusalOf (forBlock 64 12 32 7 8) ∷ refusalOf (forBlock 64 12 32 8 7) ∷ refusalOf (forBlock 128 12 32 8 8) ∷ [])
-    ++ (refusalOf (forBlock 64 12 32 8 8) ∷ refusalOf (forBlock 128 12 32 16 16) ∷ [])
+    -- a block, sealed and opened: 3 before 4 before 6; 8 bytes for FOX64 and 16 for FOX128
+    ++ (refusalOf (forBlock true 64 12 33 7 7) ∷ refusalOf (forBlock true 64 12 32 7 8) ∷ refusalOf (forBlock true 64 12 32 8 7) ∷ refusalOf (forBlock true 128 12 32 8 8) ∷ [])
+    ++ (refusalOf (forBlock false 64 12 33 7 7) ∷ refusalOf (forBlock false 64 12 32 7 8) ∷ refusalOf (forBlock false 64 12 32 8 7) ∷ refusalOf (forBlock false 128 12 32 8 8) ∷ [])
+    ++ (refusalOf (forBlock true 64 12 0 8 8) ∷ refusalOf (forBlock true 128 12 32 16 16) ∷ refusalOf (forBlock false 64 12 0 8 8) ∷ refusalOf (forBlock false 128 12 32 16 16) ∷ [])
     -- a stretch: 3 before 4 before 5 before 6 before 7; 65,536 bytes in a call, and a run of 1,073,741,824
     ++ (refusalOf (forRun 64 12 33 7 0 0 0) ∷ refusalOf (forRun 64 12 32 7 0 65537 65537) ∷ refusalOf (forRun 64 12 32 8 0 65537 65536) ∷ [])
     ++ (refusalOf (forRun 64 12 32 8 1073741824 1 0) ∷ refusalOf (forRun 64 12 32 8 1073741824 1 1) ∷ refusalOf (forRun 64 12 32 8 1073741825 0 0) ∷ [])
@@ -22,7 +24,8 @@ pub known :
     ++ (1 ∷ 1 ∷ 2 ∷ 2 ∷ [])
     ++ (0 ∷ 0 ∷ 0 ∷ 0 ∷ [])
     ++ (3 ∷ 4 ∷ 6 ∷ 4 ∷ [])
-    ++ (0 ∷ 0 ∷ [])
+    ++ (3 ∷ 4 ∷ 6 ∷ 4 ∷ [])
+    ++ (0 ∷ 0 ∷ 0 ∷ 0 ∷ [])
     ++ (3 ∷ 4 ∷ 5 ∷ [])
     ++ (6 ∷ 7 ∷ 7 ∷ [])
     ++ (7 ∷ 0 ∷ [])

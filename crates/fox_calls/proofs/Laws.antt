@@ -1,4 +1,3 @@
 -- Laws beside definitions: what a proof cites in place of a definition's text.
 pub mod Refusals
 pub mod Reply
-pub mod Blocks

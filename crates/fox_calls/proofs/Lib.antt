@@ -1,3 +1,3 @@
--- The laws of the refusals, the replies and the words of a block, for the proofs here and in the crates above.
+-- The laws of the refusals and the replies, for the proofs here and in the crates above.
 pub mod Laws
 pub mod Known

@@ -63,9 +63,9 @@ orElse refusal applies number = cond (eqb refusal 0) (cond applies number 0) ref
 unfoldable pub forKey : ℕ → ℕ → ℕ → List Refusal
 forKey cipher rounds keyLen = noCipher cipher ∷ noRounds rounds ∷ longKey keyLen ∷ []
 
--- one block meets only these
-unfoldable pub forBlock : ℕ → ℕ → ℕ → ℕ → ℕ → List Refusal
-forBlock cipher rounds keyLen blockLen outLen =
+-- one block meets only these, whether it is sealed or opened
+unfoldable pub forBlock : Bool → ℕ → ℕ → ℕ → ℕ → ℕ → List Refusal
+forBlock sealing cipher rounds keyLen blockLen outLen =
     forKey cipher rounds keyLen ++ (noBlock cipher blockLen ∷ noOutput blockLen outLen ∷ [])
 
 -- the tests of a stretch that come after those of the key

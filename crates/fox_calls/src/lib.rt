@@ -1,5 +1,4 @@
-// What all calls have in common: the refusals in their order, the answer, and words read from and written to byte slices.
+// What all calls have in common: the refusals in their order, and the answer.
 pub mod answer;
-pub mod bytes;
 pub mod refusals;
 pub mod stretch;

@@ -53,8 +53,15 @@ pub fn for_key(cipher: u32, rounds: u32, key_len: usize) -> u32
     or_else(second, key_len > 32, 3)
 }
 
-pub fn for_block(cipher: u32, rounds: u32, key_len: usize, block_len: usize, out_len: usize) -> u32
-    ensures { λ r. ⌜ r ≡ refusalOf (forBlock cipher rounds «key_len» «block_len» «out_len») ⌝ }
+pub fn for_block(
+    sealing: bool,
+    cipher: u32,
+    rounds: u32,
+    key_len: usize,
+    block_len: usize,
+    out_len: usize,
+) -> u32
+    ensures { λ r. ⌜ r ≡ refusalOf (forBlock sealing cipher rounds «key_len» «block_len» «out_len») ⌝ }
 {
     let of_key = for_key(cipher, rounds, key_len);
     let size = block_size(cipher);

@@ -17,7 +17,7 @@ pub fn turn(
 ) -> Answer
     ensures { λ r. ⌜ Turns sealing cipher rounds (now (key .entry)) (now (block .entry)) (now (out .entry)) (now (out .exit)) r ⌝ }
 {
-    let refusal = for_block(cipher, rounds, key.len(), block.len(), out.len());
+    let refusal = for_block(sealing, cipher, rounds, key.len(), block.len(), out.len());
     if refusal != 0 {
         return Answer::refused(refusal);
     }

@@ -45,9 +45,9 @@ module _ (d : Bool) (c rounds keyLen : ℕ) (ks block : List ℕ) (k : Keyed c r
   pub turned-back-calls : {before mid before-back after : List ℕ} {r s : Answer} → length before ≡ blockSize c → length before-back ≡ blockSize c
       → TurnsWith d c rounds keyLen ks block before mid r → TurnsWith (not d) c rounds keyLen ks mid before-back after s → TurnedBack c block after r s
   turned-back-calls room room-back first second =
-      let there = served first (blocked-served (record { keyed = k; block = b .size; output = room ∙ sym (b .size) })) in
+      let there = served first (blocked-served d (record { keyed = k; block = b .size; output = room ∙ sym (b .size) })) in
       let size = ap length (there .output) ∙ length-turned d c ks block in
-      let back = served second (blocked-served (record { keyed = k; block = size; output = room-back ∙ sym size })) in
+      let back = served second (blocked-served (not d) (record { keyed = k; block = size; output = room-back ∙ sym size })) in
       record {
         served = there .refusal;
         count = there .count ∙ room;

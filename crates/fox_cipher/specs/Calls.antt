@@ -15,7 +15,7 @@ use Rattle.fox_cipher.specs.Block.{turnWith}
 -- from cipher, rounds, key length, a list of round keys and block, with the output before and after
 abbrev pub TurnsWith : Bool → ℕ → ℕ → ℕ → List ℕ → List ℕ → List ℕ → List ℕ → Answer → Type 0
 TurnsWith sealing cipher rounds keyLen rks block before after r =
-    Reply (forBlock cipher rounds keyLen (length block) (length before)) (turnWith sealing cipher rks block) before after r
+    Reply (forBlock sealing cipher rounds keyLen (length block) (length before)) (turnWith sealing cipher rks block) before after r
 
 -- from cipher, rounds and key bytes: the round keys are the key's
 abbrev pub Turns : Bool → ℕ → ℕ → List ℕ → List ℕ → List ℕ → List ℕ → Answer → Type 0

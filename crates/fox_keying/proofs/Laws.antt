@@ -1,5 +1,4 @@
 -- Laws beside definitions: what a proof cites in place of a definition's text.
-pub mod Register
 pub mod Bytes
 pub mod Stream
 pub mod Mixing

@@ -1,10 +1,9 @@
 // Keys of 16 and of 32 bytes, held in words of 64 bits, the first byte the most significant.
 ghost use mathlib.Core.Path.{_≡_};
-ghost use Prim.Native.Nat.{_+_, _≤_};
-ghost use lib.ListN.{length, take, drop};
-ghost use Rattle.fox_layers.specs.Words.{split};
+ghost use Prim.Native.Nat.{_≤_};
+ghost use lib.ListN.{length, take};
 ghost use Rattle.fox_keying.specs.Held.{bytes16, bytes32};
-use fox_layers::words::join8;
+use fox_bytes::bytes::load8;
 
 pub struct Key16 {
     pub a: u64,
@@ -16,23 +15,6 @@ pub struct Key32 {
     pub b: u64,
     pub c: u64,
     pub d: u64,
-}
-
-// Eight bytes in a word.
-fn load8(s: &[u8], at: usize) -> u64
-    requires { ⌜ at + 8 ≤ length (now s) ⌝ }
-    ensures { λ r. ⌜ split 8 r ≡ take 8 (drop at (now (s .entry))) ⌝ }
-{
-    join8(
-        s[at],
-        s[at + 1],
-        s[at + 2],
-        s[at + 3],
-        s[at + 4],
-        s[at + 5],
-        s[at + 6],
-        s[at + 7],
-    )
 }
 
 pub(crate) fn load16(s: &[u8]) -> Key16

@@ -8,7 +8,8 @@ use lib.Dec.{eqb}
 use lib.ListN.{length}
 use Rattle.fox_rounds.specs.Skeleton.{place}
 use Rattle.fox_keying.specs.Padding.{mkey}
-use Rattle.fox_keying.specs.Register.{LFSR, dkey, clocked, clockedBack, iterate}
+use Rattle.fox_register.specs.Register.{LFSR, clocked, clockedBack, iterate}
+use Rattle.fox_keying.specs.Diversification.{dkey}
 use Rattle.fox_keying.specs.Held.{bytes16, bytes32}
 use Rattle.fox_nonlinear.specs.Nonlinear.{NL64, NL64h, NL128}
 use Rattle.fox_nonlinear.specs.declared.nl128.Key128.{Key128}

@@ -10,13 +10,13 @@ use fox_keying::held::Key16;
 use fox_keying::held::Key32;
 use fox_keying::mixing::mkey16;
 use fox_keying::mixing::mkey32;
-use fox_keying::register::back;
-use fox_keying::register::forward;
-use fox_keying::register::seed;
 use fox_nonlinear::nl64::nl64;
 use fox_nonlinear::nl64h::nl64h;
 use fox_nonlinear::nl128::Key128;
 use fox_nonlinear::nl128::nl128;
+use fox_register::register::back;
+use fox_register::register::forward;
+use fox_register::register::seed;
 use fox_rounds::fox64::Fox64;
 use fox_rounds::fox128::Fox128;
 

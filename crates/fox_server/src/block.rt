@@ -61,7 +61,14 @@ fn block128(sealing: bool, keys: &[u64; 510], rounds: usize, block: &[u8], out: 
 pub fn turn(sealing: bool, p: Prepared, block: &[u8], out: &mut [u8]) -> Answer
     ensures { λ r. ⌜ TurnsWith sealing (p .cipher) (p .rounds) (p .«key_len») (heldKeys p) (now (block .entry)) (now (out .entry)) (now (out .exit)) r ⌝ }
 {
-    let refusal = for_block(p.cipher, p.rounds, p.key_len, block.len(), out.len());
+    let refusal = for_block(
+        sealing,
+        p.cipher,
+        p.rounds,
+        p.key_len,
+        block.len(),
+        out.len(),
+    );
     if refusal != 0 {
         return Answer::refused(refusal);
     }
@@ -86,7 +93,7 @@ pub fn turn_from_key(
 ) -> Answer
     ensures { λ r. ⌜ Turns sealing cipher rounds (now (key .entry)) (now (block .entry)) (now (out .entry)) (now (out .exit)) r ⌝ }
 {
-    let refusal = for_block(cipher, rounds, key.len(), block.len(), out.len());
+    let refusal = for_block(sealing, cipher, rounds, key.len(), block.len(), out.len());
     if refusal != 0 {
         return Answer::refused(refusal);
     }

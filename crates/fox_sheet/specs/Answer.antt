@@ -41,7 +41,7 @@ turned v = turnBlock (v .sealing) (v .cipher) (v .rounds) (v .key) (v .block)
 
 -- the refusals of one block, with an output as long as the block
 unfoldable pub refusal : Values → ℕ
-refusal v = refusalOf (forBlock (v .cipher) (v .rounds) (length (v .key)) (length (v .block)) (length (v .block)))
+refusal v = refusalOf (forBlock (v .sealing) (v .cipher) (v .rounds) (length (v .key)) (length (v .block)) (length (v .block)))
 
 unfoldable pub blockText : Values → List ℕ
 blockText v =

@@ -1,3 +1,3 @@
-// The bench sheet: read, answered by the card's way, and the answer written.
-pub mod answer;
+// The bench sheet and its answer: definitions in specs/, theorems in proofs/. The code is in fox_sheet_read and fox_sheet_answer; here are the structs that
+// reading hands back.
 pub mod sheet;

@@ -9,7 +9,8 @@ use Rattle.fox_layers.specs.Diffusion.{dot, times, mu4Rows, diffused, mu4}
 use Rattle.fox_rounds.specs.Rounds.{left, right, or, io, f, f32, lmid64, or64, io64}
 use Rattle.fox_rounds.specs.Skeleton.{numbered, through, round, between, inOrder, turned as turnedState, seal64}
 use Rattle.fox_keying.specs.Padding.{pad, padded, mixed, mkey}
-use Rattle.fox_keying.specs.Register.{seed, clocked, iterate, LFSR, stream, groups, dkey}
+use Rattle.fox_register.specs.Register.{seed, clocked, iterate, LFSR}
+use Rattle.fox_keying.specs.Diversification.{stream, groups, dkey}
 use Rattle.fox_nonlinear.specs.Nonlinear.{words, mix64, flipped, layers, number64, NL64}
 use Rattle.fox_schedule.specs.Schedule.{ek64, key64, roundKey64, roundKey, roundKeys}
 use Rattle.fox_calls.specs.Refusals.{refusalOf, blockSize, noCipher, noRounds, longKey, noBlock, noOutput, forKey, forBlock}

@@ -15,7 +15,7 @@ use Rattle.fox_run.specs.Run.{run}
 -- one block sealed or opened, from cipher, rounds, key bytes and block, with the output before and after
 abbrev pub TurnHanded : Bool → ℕ → ℕ → List ℕ → List ℕ → List ℕ → List ℕ → ℕ → Type 0
 TurnHanded sealing cipher rounds key block before after r =
-    Handed (forBlock cipher rounds (length key) (length block) (length before)) (turnBlock sealing cipher rounds key block) before after r
+    Handed (forBlock sealing cipher rounds (length key) (length block) (length before)) (turnBlock sealing cipher rounds key block) before after r
 
 -- a stretch of a run, from cipher, rounds, key bytes, counter block, offset and input, with the output before and after
 abbrev pub RunHanded : ℕ → ℕ → List ℕ → List ℕ → ℕ → List ℕ → List ℕ → List ℕ → ℕ → Type 0

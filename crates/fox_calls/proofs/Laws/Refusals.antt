@@ -138,17 +138,17 @@ keyed c r k e =
 
 -- one block
 
-pub blocked-served : {c r k b o : ℕ} → Blocked c r k b o → refusalOf (forBlock c r k b o) ≡ 0
+pub blocked-served : (sealing : Bool) {c r k b o : ℕ} → Blocked c r k b o → refusalOf (forBlock sealing c r k b o) ≡ 0
 unfolding Passed forKey forBlock noBlock noOutput
-blocked-served {c} {r} {k} {b} {o} h =
+blocked-served sealing {c} {r} {k} {b} {o} h =
     let p = keyed-passed (h .keyed) in
-    passed-served (forBlock c r k b o)
+    passed-served (forBlock sealing c r k b o)
     (p .0, (p .1 .0, (p .1 .1 .0, (differs-passed b (blockSize c) (h .block), (differs-passed o b (h .output), tt)))))
 
-pub blocked : (c r k b o : ℕ) → refusalOf (forBlock c r k b o) ≡ 0 → Blocked c r k b o
+pub blocked : (sealing : Bool) (c r k b o : ℕ) → refusalOf (forBlock sealing c r k b o) ≡ 0 → Blocked c r k b o
 unfolding Passed numbered forKey forBlock noCipher noRounds longKey noBlock noOutput
-blocked c r k b o e =
-    let p = served-passed (forBlock c r k b o) refl e in
+blocked sealing c r k b o e =
+    let p = served-passed (forBlock sealing c r k b o) refl e in
     let q = p .1 .1 .1 in
     record {
       keyed = passed-keyed c r k (p .0) (p .1 .0) (p .1 .1 .0);

@@ -1,22 +1,16 @@
--- Lists of bytes, put together and taken apart: they stay lists of bytes, eight of them are the bytes of the word that they join to, and the sum
--- goes through parts of equal length and leaves out what only one of the lists has.
+-- Lists of bytes added: the sum goes through parts of equal length and leaves out what only one of the lists has.
 -- Assumes nothing.
 use mathlib.Core.Path.{_≡_, refl, sym, ap, _∙_}
 use mathlib.Core.List.{List, [], _∷_, _++_, append-nil, append-assoc}
-use Prim.Native.Nat.{ℕ, zero, suc, _+_, _≤_}
-use native.Mathlib.Nat.{suc-inj, add-suc, add-zero}
+use Prim.Native.Nat.{ℕ}
+use native.Mathlib.Nat.{suc-inj}
 use native.Mathlib.Omega.{arith}
-use lib.ListN.{length, getD, take, drop, length-append}
-use lib.Seq.{drop-cons}
-use Rattle.fox_layers.specs.Words.{_⊕_, joined, split, sum, Bytes}
-use Rattle.fox_layers.proofs.Laws.Words.{split-joined, split-xor, length-split}
+use lib.ListN.{length, length-append}
+use Rattle.fox_layers.specs.Words.{_⊕_, split, sum}
+use Rattle.fox_layers.proofs.Laws.Words.{split-xor, length-split}
 use Rattle.fox_keying.specs.declared.held.Key16.{Key16}
 use Rattle.fox_keying.specs.declared.held.Key32.{Key32}
 use Rattle.fox_keying.specs.Held.{bytes16, bytes32}
-
--- a word that is joined of eight bytes has these bytes
-pub word-of : (r : ℕ) (xs : List ℕ) → Bytes xs → length xs ≡ 8 → r ≡ joined xs → split 8 r ≡ xs
-word-of r xs h n e = ap (split 8) e ∙ ap (λ (k : ℕ). split k (joined xs)) (sym n) ∙ split-joined xs h
 
 pub sum-append : (xs xs′ ys ys′ : List ℕ) → length xs ≡ length ys → sum (xs ++ xs′) (ys ++ ys′) ≡ sum xs ys ++ sum xs′ ys′
 unfolding sum
@@ -68,18 +62,3 @@ pub sum-bytes32 : (k l : Key32) → bytes32 (record { a = k .a ⊕ l .a; b = k .
 unfolding sum
 sum-bytes32 k l =
     rw (held32, held32 k, held32 l) (sum-held 8 (k .a ∷ k .b ∷ k .c ∷ k .d ∷ []) (l .a ∷ l .b ∷ l .c ∷ l .d ∷ []) refl)
-
--- the n elements from at + k on, one by one, as code reads them
-abbrev pub window : List ℕ → ℕ → ℕ → ℕ → List ℕ
-window l at k zero = []
-window l at k (suc n) = getD l (at + k) 0 ∷ window l at (suc k) n
-
-pub take-window : (l : List ℕ) (at k n : ℕ) → at + k + n ≤ length l → take n (drop (at + k) l) ≡ window l at k n
-take-window l at k zero h = refl
-take-window l at k (suc n) h =
-    rw (drop-cons l (at + k) 0 (omega arith), ← (add-suc at k), take-window l at (suc k) n (omega arith))
-
-pub take-eight : (l : List ℕ) (at : ℕ) → at + 8 ≤ length l
-    → take 8 (drop at l) ≡ getD l at 0 ∷ getD l (at + 1) 0 ∷ getD l (at + 2) 0 ∷ getD l (at + 3) 0
-    ∷ getD l (at + 4) 0 ∷ getD l (at + 5) 0 ∷ getD l (at + 6) 0 ∷ getD l (at + 7) 0 ∷ []
-take-eight l at h = rw (add-zero at) at (take-window l at 0 8 (omega arith))

@@ -12,7 +12,7 @@ use lib.ListN.{length, take, drop, getD, set, length-drop}
 use lib.Seq.{take-suc, drop-cons, set-at, length-take-le, append-snoc, take-all, take-at, drop-at, drop-drop}
 use Rattle.fox_layers.specs.Words.{_⊕_, joined, split, Bytes, sum}
 use Rattle.fox_layers.proofs.Laws.Words.{split-joined, split-xor, take-bytes, drop-bytes}
-use Rattle.fox_calls.proofs.Laws.Blocks.{put-end}
+use Rattle.fox_bytes.proofs.Laws.Blocks.{put-end}
 
 pub length-sum-min : (xs ys : List ℕ) → length (sum xs ys) ≡ min (length xs) (length ys)
 unfolding sum

@@ -12,7 +12,8 @@ use borrow.Author.Tests.{le-leb, lt-leb, eq-eqb, ne-eqb}
 use Rattle.fox_rounds.specs.Skeleton.{numbered}
 use Rattle.fox_rounds.proofs.Laws.Skeleton.{numbered-next, numbered-same}
 use Rattle.fox_keying.specs.Padding.{mkey}
-use Rattle.fox_keying.specs.Register.{LFSR, groups, dkey}
+use Rattle.fox_register.specs.Register.{LFSR}
+use Rattle.fox_keying.specs.Diversification.{groups, dkey}
 use Rattle.fox_nonlinear.specs.Nonlinear.{NL64, NL64h, NL128}
 use Rattle.fox_nonlinear.proofs.Laws.Wide.{NL128-lt}
 use Rattle.fox_nonlinear.specs.declared.nl128.Key128.{Key128}

@@ -6,8 +6,8 @@ use Prim.Native.Nat.{ℕ, _+_, _-_, _*_, _^_, _<_, _≤_}
 use native.Mathlib.Nat.{zero-mul, add-mul, one-mul, mul-le-mul-left}
 use native.Mathlib.Omega.{arith}
 use lib.Dec.{lit≤}
-use Rattle.fox_keying.specs.Register.{seed, clocked, clockedBack, iterate, LFSR}
-use Rattle.fox_keying.proofs.Laws.Register.{LFSR-forward, LFSR-back}
+use Rattle.fox_register.specs.Register.{seed, clocked, clockedBack, iterate, LFSR}
+use Rattle.fox_register.proofs.Laws.Register.{LFSR-forward, LFSR-back}
 use Rattle.fox_rounds.specs.Skeleton.{place}
 use Rattle.fox_schedule.specs.Step.{made, steps, keyAt, Stands, stepped, Moved}
 use Rattle.fox_schedule.specs.declared.step.Schedule.{Schedule}

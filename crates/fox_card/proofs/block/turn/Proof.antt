@@ -24,17 +24,17 @@ returns c =
     refused-reply _ _ _ _ _ (c .refused .ensures .0 ∙ e) (λ z. at .if1 .taken (e ∙ z)) (c .refused .ensures .1) refl
 
 of-requires : tie.Need-of-requires
-of-requires c κs = blocked _ _ _ _ _ (sym (c .before .for-block .ensures) ∙ c .if1 .left) .keyed .key
+of-requires c κs = blocked _ _ _ _ _ _ (sym (c .before .for-block .ensures) ∙ c .if1 .left) .keyed .key
 
 read-requires : tie.Need-read-requires
 read-requires c κs =
     let at = c .before in
-    blocked _ _ _ _ _ (sym (at .before .for-block .ensures) ∙ at .if1 .left) .block
+    blocked _ _ _ _ _ _ (sym (at .before .for-block .ensures) ∙ at .if1 .left) .block
 
 turned-requires : tie.Need-turned-requires
 turned-requires c κs =
     let at = c .before .before in
-    let known = blocked _ _ _ _ _ (sym (at .before .for-block .ensures) ∙ at .if1 .left) .keyed in
+    let known = blocked _ _ _ _ _ _ (sym (at .before .for-block .ensures) ∙ at .if1 .left) .keyed in
     omega (arith, known .low, known .high)
 
 write-requires : tie.Need-write-requires
@@ -42,7 +42,7 @@ write-requires c κs =
     let made = c .before in
     let read = made .before in
     let at = read .before .before in
-    let known = blocked _ _ _ _ _ (sym (at .before .for-block .ensures) ∙ at .if1 .left) in
+    let known = blocked _ _ _ _ _ _ (sym (at .before .for-block .ensures) ∙ at .if1 .left) in
     known .output ∙ known .block
     ∙ sym (ap size (made .turned .ensures) ∙ turned-size _ _ _ ∙ ap size (read .read .ensures) ∙ state-size _ _)
 
@@ -56,7 +56,7 @@ returns-2 c =
     let at = of .before in
     let a = at .before .before .before .before .before .args in
     let zero = sym (at .before .for-block .ensures) ∙ at .if1 .left in
-    let whole = rounds-whole (blocked _ _ _ _ _ zero .keyed) in
+    let whole = rounds-whole (blocked _ _ _ _ _ _ zero .keyed) in
     served-reply _ _ _ _ _ zero (c .served .ensures .0) (c .served .ensures .1 ∙ write .write .kept .0)
     (write .write .ensures
     ∙ ap bytes

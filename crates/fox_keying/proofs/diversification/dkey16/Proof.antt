@@ -5,7 +5,7 @@ use lib.ListN.{drop}
 use Rattle.fox_layers.specs.Words.{split}
 use Rattle.fox_keying.specs.declared.held.Key16.{Key16}
 use Rattle.fox_keying.specs.Held.{bytes16}
-use Rattle.fox_keying.specs.Register.{dkey, groups}
+use Rattle.fox_keying.specs.Diversification.{dkey, groups}
 use Rattle.fox_keying.proofs.Laws.Bytes.{sum-bytes16, sum-surplus, length-bytes16}
 use borrow.Author.Needs.{needs}
 use Rattle.fox_keying.proofs.diversification.dkey16.Statement.{statement}

@@ -6,7 +6,8 @@ use lib.ListN.{drop}
 use Rattle.fox_layers.specs.Words.{split}
 use Rattle.fox_keying.specs.declared.held.Key32.{Key32}
 use Rattle.fox_keying.specs.Held.{bytes16, bytes32}
-use Rattle.fox_keying.specs.Register.{clocked, iterate, dkey, groups}
+use Rattle.fox_register.specs.Register.{clocked, iterate}
+use Rattle.fox_keying.specs.Diversification.{dkey, groups}
 use Rattle.fox_keying.proofs.Laws.Bytes.{sum-bytes32, sum-surplus, length-bytes32}
 use Rattle.fox_keying.proofs.Laws.Stream.{eleven}
 use borrow.Author.Needs.{needs}

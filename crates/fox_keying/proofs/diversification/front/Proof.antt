@@ -1,7 +1,7 @@
 -- `diversification::front` meets its contract: the two words and what is left of the last register value are the six values in a row, cut at other
 -- places.
 -- Assumes nothing.
-use Rattle.fox_keying.specs.Register.{iterate}
+use Rattle.fox_register.specs.Register.{iterate}
 use Rattle.fox_keying.proofs.Laws.Stream.{front-row}
 use borrow.Author.Needs.{needs}
 use Rattle.fox_keying.proofs.diversification.front.Statement.{statement}

@@ -2,7 +2,7 @@
 -- other places.
 -- Assumes nothing.
 use Rattle.fox_keying.specs.Held.{bytes16}
-use Rattle.fox_keying.specs.Register.{iterate}
+use Rattle.fox_register.specs.Register.{iterate}
 use Rattle.fox_keying.proofs.Laws.Stream.{rest-row}
 use borrow.Author.Needs.{needs}
 use Rattle.fox_keying.proofs.diversification.rest.Statement.{statement}

@@ -20,7 +20,7 @@ block64-requires : tie.Need-block64-requires
 block64-requires c κs =
     let test = c .before .before in
     let at = test .before .before .before .before in
-    ready _ _ (blocked _ _ _ _ _ (sym (at .before .for-block .ensures) ∙ at .if1 .left)) (size-64 _ (test .if2 .taken))
+    ready _ _ (blocked _ _ _ _ _ _ (sym (at .before .for-block .ensures) ∙ at .if1 .left)) (size-64 _ (test .if2 .taken))
 
 returns-2 : tie.Need-returns-2
 returns-2 c =
@@ -36,7 +36,7 @@ block128-requires : tie.Need-block128-requires
 block128-requires c κs =
     let test = c .before .before in
     let at = test .before .before .before .before in
-    ready _ _ (blocked _ _ _ _ _ (sym (at .before .for-block .ensures) ∙ at .if1 .left)) (size-128 _ (test .if2 .left))
+    ready _ _ (blocked _ _ _ _ _ _ (sym (at .before .for-block .ensures) ∙ at .if1 .left)) (size-128 _ (test .if2 .left))
 
 returns-3 : tie.Need-returns-3
 returns-3 c =

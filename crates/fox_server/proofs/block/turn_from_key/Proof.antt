@@ -21,7 +21,7 @@ returns-2 c =
     let made = call .before .before .before in
     let test = made .before in
     let a = test .before .before .before .before .before .args in
-    let known = blocked _ _ _ _ _ (sym (test .before .for-block .ensures) ∙ test .if1 .left) in
+    let known = blocked _ _ _ _ _ _ (sym (test .before .for-block .ensures) ∙ test .if1 .left) in
     turn-prepared (a .sealing) (a .cipher) (a .rounds) (a .key .now) (a .block .now) (made .prepare .result) (known .keyed) (made .prepare .ensures)
     (call .turn .ensures)
 

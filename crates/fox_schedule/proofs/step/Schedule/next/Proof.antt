@@ -4,7 +4,7 @@ use borrow.Author.Needs.{needs}
 use mathlib.Core.Path.{sym, ap, ap₂, _∙_}
 use mathlib.Core.Bool.{Bool}
 use Prim.Native.Nat.{ℕ}
-use Rattle.fox_keying.specs.Register.{iterate, clocked, clockedBack}
+use Rattle.fox_register.specs.Register.{iterate, clocked, clockedBack}
 use Rattle.fox_schedule.specs.Step.{steps, stepped}
 use Rattle.fox_schedule.proofs.step.Schedule.next.Statement.{statement}
 use Rattle.fox_schedule.proofs.step.Schedule.next.Tie as tie

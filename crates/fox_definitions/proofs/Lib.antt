@@ -1,2 +1,0 @@
--- The definitions on the specification's vectors.
-pub mod Vectors

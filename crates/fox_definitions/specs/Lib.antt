@@ -1,2 +1,0 @@
--- What the vectors of 001 are given.
-pub mod Given

@@ -1,0 +1,2 @@
+-- The definitions on 001's test vectors of FOX64.
+pub mod Vectors

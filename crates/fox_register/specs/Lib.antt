@@ -1,0 +1,2 @@
+-- The register of the key schedules.
+pub mod Register

@@ -1,0 +1,16 @@
+-- `answer::answer_block` meets its contract: the room that it lends is as long as the block.
+-- Assumes nothing.
+use mathlib.Core.Path.{sym}
+use lib.Seq.{length-take-le}
+use borrow.Author.Needs.{needs}
+use Rattle.fox_sheet_answer.proofs.answer.answer_block.Statement.{statement}
+use Rattle.fox_sheet_answer.proofs.answer.answer_block.Tie as tie
+
+slice-aggregate-tell : tie.Need-slice-aggregate-tell
+slice-aggregate-tell c = sym (length-take-le _ _ (search needs))
+
+tell-requires : tie.Need-tell-requires
+tell-requires c κs = (c .before .before .before .before .before .pre, length-take-le _ _ (search needs))
+
+pub answer-block-spec : {M : Type 1} → statement M
+answer-block-spec = tie.close (tie.spec (λ c. search needs) slice-aggregate-tell tell-requires (λ c. search needs) (λ c. search needs))

@@ -1,0 +1,2 @@
+// The bench sheet read.
+pub mod sheet;
