@@ -32,8 +32,9 @@ pub record Refused (refusals : List Refusal) (before after : List ℕ) (r : Answ
   pub count : r .count ≡ 0
   pub output : after ≡ before
 
--- two calls that answer the same: refusal, count and output
-pub record Same (after₁ after₂ : List ℕ) (r₁ r₂ : Answer) : Type 0 where
+-- two calls that answer the same: refusal and count, and the output where they are served, or where both outputs held the same before
+pub record Same (before₁ before₂ after₁ after₂ : List ℕ) (r₁ r₂ : Answer) : Type 0 where
   pub refusal : r₁ .refusal ≡ r₂ .refusal
   pub count : r₁ .count ≡ r₂ .count
-  pub output : after₁ ≡ after₂
+  pub served : r₁ .refusal ≡ 0 → after₁ ≡ after₂
+  pub lent-alike : before₁ ≡ before₂ → after₁ ≡ after₂

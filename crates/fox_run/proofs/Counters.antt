@@ -1,15 +1,15 @@
--- No counter block of a run comes twice: within a run fewer than 2 ^ 32 blocks are counted, so the lowest 32 bits, which count, do not come round.
+-- Counting starts at the counter block that is given, and no counter block of a run comes twice: within a run fewer than 2 ^ 32 blocks are counted, so the lowest 32 bits, which count, do not come round.
 -- Assumes nothing.
 use mathlib.Core.Path.{_≡_, refl, sym, ap, _∙_}
 use mathlib.Core.Logic.{⊎-elim}
-use mathlib.Core.List.{List, [], _∷_}
+use mathlib.Core.List.{List, [], _∷_, _++_}
 use Prim.Native.Nat.{ℕ, _+_, _*_, _-_, _/_, _%_, _^_, _≤_, _<_}
-use native.Mathlib.Nat.{mod-lt, zero-lt-suc, div-mul-le-self, mul-le-mul-left, eq-zero-or-pos}
+use native.Mathlib.Nat.{add-zero, mod-lt, mod-eq-of-lt, zero-lt-suc, div-mul-le-self, mul-le-mul-left, eq-zero-or-pos}
 use native.Mathlib.Omega.{arith}
-use lib.ListN.{length, take, drop}
+use lib.ListN.{length, take, drop, length-drop, take-append-drop}
 use lib.Seq.{length-take-le, drop-at}
-use Rattle.fox_layers.specs.Words.{joined, split}
-use Rattle.fox_layers.proofs.Laws.Words.{joined-split}
+use Rattle.fox_layers.specs.Words.{joined, split, Bytes}
+use Rattle.fox_layers.proofs.Laws.Words.{joined-lt, joined-split, split-joined, drop-bytes}
 use Rattle.fox_calls.specs.Refusals.{blockSize}
 use Rattle.fox_cipher.proofs.Laws.Block.{by-cipher, size-64, size-128}
 use Rattle.fox_run.specs.Counter.{counterBlock}
@@ -47,7 +47,29 @@ bytes-apart c counter m n size hm hn apart e =
     ⊎-elim (λ z. counters-differ c counter (n / B) (m / B) size (omega arith) (omega (arith, div-mul-le-self m B)) (sym e))
     (λ p. counters-differ c counter (m / B) (n / B) size (omega arith) (omega (arith, div-mul-le-self n B)) e) (eq-zero-or-pos (n / B - m / B))
 
--- a known value: the count wraps, and no bit of it reaches what stands before
-pub counter-wraps : counterBlock (0 ∷ 0 ∷ 0 ∷ 0 ∷ 255 ∷ 255 ∷ 255 ∷ 255 ∷ []) 1 ≡ 0 ∷ 0 ∷ 0 ∷ 0 ∷ 0 ∷ 0 ∷ 0 ∷ 0 ∷ []
+-- the counter block number 0 is the one that the run is given
+pub counter-first : (counter : List ℕ) → Bytes counter → 4 ≤ length counter → counterBlock counter 0 ≡ counter
+unfolding counterBlock
+counter-first counter bytes size =
+    let kept = length counter - 4 in
+    let low = drop kept counter in
+    let four : length low ≡ 4 = rw (length-drop kept counter) (omega arith) in
+    let small : joined low < 2 ^ 32 = rw four at (joined-lt low (drop-bytes kept counter bytes)) in
+    let same : split 4 (joined low) ≡ low = rw four at (split-joined low (drop-bytes kept counter bytes)) in
+    ap (λ (w : ℕ). take kept counter ++ split 4 w) (ap (λ (k : ℕ). k % 2 ^ 32) (add-zero (joined low)) ∙ mod-eq-of-lt small)
+    ∙ ap (λ (bs : List ℕ). take kept counter ++ bs) same
+    ∙ take-append-drop kept counter
+
+-- known values, of 8 and of 16 bytes: the lowest 32 bits count and wrap, and no bit of them reaches what stands before
+pub counter-wraps : counterBlock (0 ∷ 0 ∷ 0 ∷ 0 ∷ 255 ∷ 255 ∷ 255 ∷ 255 ∷ []) 1
+    ∷ counterBlock (1 ∷ 2 ∷ 3 ∷ 4 ∷ 255 ∷ 255 ∷ 255 ∷ 254 ∷ []) 3
+    ∷ counterBlock (1 ∷ 2 ∷ 3 ∷ 4 ∷ 5 ∷ 6 ∷ 7 ∷ 8 ∷ 9 ∷ 10 ∷ 11 ∷ 12 ∷ 255 ∷ 255 ∷ 255 ∷ 255 ∷ []) 1
+    ∷ counterBlock (255 ∷ 255 ∷ 255 ∷ 255 ∷ 255 ∷ 255 ∷ 255 ∷ 255 ∷ 255 ∷ 255 ∷ 255 ∷ 255 ∷ 0 ∷ 0 ∷ 0 ∷ 255 ∷ []) 1
+    ∷ []
+    ≡ (0 ∷ 0 ∷ 0 ∷ 0 ∷ 0 ∷ 0 ∷ 0 ∷ 0 ∷ [])
+    ∷ (1 ∷ 2 ∷ 3 ∷ 4 ∷ 0 ∷ 0 ∷ 0 ∷ 1 ∷ [])
+    ∷ (1 ∷ 2 ∷ 3 ∷ 4 ∷ 5 ∷ 6 ∷ 7 ∷ 8 ∷ 9 ∷ 10 ∷ 11 ∷ 12 ∷ 0 ∷ 0 ∷ 0 ∷ 0 ∷ [])
+    ∷ (255 ∷ 255 ∷ 255 ∷ 255 ∷ 255 ∷ 255 ∷ 255 ∷ 255 ∷ 255 ∷ 255 ∷ 255 ∷ 255 ∷ 0 ∷ 0 ∷ 1 ∷ 0 ∷ [])
+    ∷ []
 unfolding counterBlock joined split
 counter-wraps = refl

@@ -46,48 +46,45 @@ run-nothing : (c : ℕ) (rks counter : List ℕ) (n : ℕ) → runWith c rks cou
 unfolding runWith addedFrom
 run-nothing c rks counter n = refl
 
--- a run in any cuts
+-- a run in any cuts, by calls of any kind that promise `RunsWith`
 
-module _ (c rounds keyLen : ℕ) (rks counter : List ℕ) where
-  pub cuts-joined : {n : ℕ} {inputs outputs : List ℕ} → CallsOf (RunsWith c rounds keyLen rks counter) n inputs outputs → outputs ≡ runWith c rks counter n inputs
+module _ (c rounds keyLen : ℕ) (rks counter : List ℕ) (call : Call)
+    (runs : (n : ℕ) (ds before after : List ℕ) (r : Answer) → call n ds before after r → RunsWith c rounds keyLen rks counter n ds before after r) where
+  pub cuts-joined : {n : ℕ} {inputs outputs : List ℕ} → CallsOf call n inputs outputs → outputs ≡ runWith c rks counter n inputs
   cuts-joined {n} none = sym (run-nothing c rks counter n)
-  cuts-joined {n} (next ds {inputs = inputs} call e rest) =
-      ap₂ (λ (xs ys : List ℕ). xs ++ ys) (call-did c rounds keyLen rks counter n ds call e .output) (cuts-joined rest) ∙ sym (run-append c rks counter n ds inputs)
+  cuts-joined {n} (next ds {inputs = inputs} made e rest) =
+      ap₂ (λ (xs ys : List ℕ). xs ++ ys) (call-did c rounds keyLen rks counter n ds (runs n ds _ _ _ made) e .output) (cuts-joined rest)
+      ∙ sym (run-append c rks counter n ds inputs)
 
   -- whatever the cuts and whatever the calls
-  pub cuts-agree : {n : ℕ} {inputs one other : List ℕ} → CallsOf (RunsWith c rounds keyLen rks counter) n inputs one
-      → CallsOf (RunsWith c rounds keyLen rks counter) n inputs other → one ≡ other
+  pub cuts-agree : {n : ℕ} {inputs one other : List ℕ} → CallsOf call n inputs one → CallsOf call n inputs other → one ≡ other
   cuts-agree a b = cuts-joined a ∙ sym (cuts-joined b)
 
   -- sealed in some stretches and opened in others
-  pub cuts-undone : {n : ℕ} {inputs sealed opened : List ℕ} → CallsOf (RunsWith c rounds keyLen rks counter) n inputs sealed
-      → CallsOf (RunsWith c rounds keyLen rks counter) n sealed opened → opened ≡ inputs
+  pub cuts-undone : {n : ℕ} {inputs sealed opened : List ℕ} → CallsOf call n inputs sealed → CallsOf call n sealed opened → opened ≡ inputs
   cuts-undone {n} {inputs} a b = cuts-joined b ∙ ap (runWith c rks counter n) (cuts-joined a) ∙ run-twice c rks counter n inputs
 
-  -- such cuts are served, as far as a run goes
-  pub cuts-served : {n : ℕ} {inputs outputs : List ℕ} → Keyed c rounds keyLen → length counter ≡ blockSize c → n + length inputs ≤ 1073741824
-      → CutOf (RunsWith c rounds keyLen rks counter) n inputs outputs → CallsOf (RunsWith c rounds keyLen rks counter) n inputs outputs
-  cuts-served h size fits none = none
-  cuts-served {n} h size fits (next ds {inputs = inputs} short room call rest) =
-      let l : n + (length ds + length inputs) ≤ 1073741824 = rw (length-append ds inputs) at fits in
-      let s = call-served c rounds keyLen rks counter n ds call (record { keyed = h; counter = size; short = short; output = room; end = omega arith }) in
-      next ds call (s .refusal) (cuts-served h size (omega arith) rest)
+  module _ (h : Keyed c rounds keyLen) (size : length counter ≡ blockSize c) where
+    -- such cuts are served, as far as a run goes
+    pub cuts-served : {n : ℕ} {inputs outputs : List ℕ} → n + length inputs ≤ 1073741824 → CutOf call n inputs outputs → CallsOf call n inputs outputs
+    cuts-served fits none = none
+    cuts-served {n} fits (next ds {inputs = inputs} short room made rest) =
+        let l : n + (length ds + length inputs) ≤ 1073741824 = rw (length-append ds inputs) at fits in
+        let s = call-served c rounds keyLen rks counter n ds (runs n ds _ _ _ made) (record { keyed = h; counter = size; short = short; output = room; end = omega arith }) in
+        next ds made (s .refusal) (cuts-served (omega arith) rest)
 
-  -- so they give the run
-  pub cuts-opened : {n : ℕ} {inputs outputs : List ℕ} → Keyed c rounds keyLen → length counter ≡ blockSize c → n + length inputs ≤ 1073741824
-      → CutOf (RunsWith c rounds keyLen rks counter) n inputs outputs → outputs ≡ runWith c rks counter n inputs
-  cuts-opened h size fits cut = cuts-joined (cuts-served h size fits cut)
+    -- so they give the run
+    pub cuts-opened : {n : ℕ} {inputs outputs : List ℕ} → n + length inputs ≤ 1073741824 → CutOf call n inputs outputs
+        → CallsOf call n inputs outputs × (outputs ≡ runWith c rks counter n inputs)
+    cuts-opened fits cut = (cuts-served fits cut, cuts-joined (cuts-served fits cut))
 
--- calls of one kind are calls of another, where each is
-pub calls-are : {P Q : Call} → ((n : ℕ) (ds before after : List ℕ) (r : Answer) → P n ds before after r → Q n ds before after r)
-    → {n : ℕ} {inputs outputs : List ℕ} → CallsOf P n inputs outputs → CallsOf Q n inputs outputs
-calls-are f none = none
-calls-are f {n} (next ds call e rest) = next ds (f n ds _ _ _ call) e (calls-are f rest)
-
-pub cut-is : {P Q : Call} → ((n : ℕ) (ds before after : List ℕ) (r : Answer) → P n ds before after r → Q n ds before after r)
-    → {n : ℕ} {inputs outputs : List ℕ} → CutOf P n inputs outputs → CutOf Q n inputs outputs
-cut-is f none = none
-cut-is f {n} (next ds short room call rest) = next ds short room (f n ds _ _ _ call) (cut-is f rest)
+    -- any m bytes of a run that was opened in cuts, opened alone by one more call, are that part of what the cuts gave
+    pub stretch-of-cuts : (whole : List ℕ) {outputs : List ℕ} (k m : ℕ) {before after : List ℕ} {r : Answer} → length whole ≤ 1073741824 → CutOf call 0 whole outputs
+        → k + m ≤ length whole → m ≤ 65536 → length before ≡ m → call k (take m (drop k whole)) before after r → Served m (take m (drop k outputs)) after r
+    stretch-of-cuts whole k m long cut fits short room made =
+        let end : 0 + length whole ≤ 1073741824 = omega arith in
+        let joined = cuts-opened end cut .1 in
+        rw joined (stretch-opened-alone c rounds keyLen rks counter whole k m h size long fits short room (runs k _ _ _ _ made))
 
 -- the pieces of a run opened one by one, on the definitions
 pub cut-run : (c : ℕ) (rks counter : List ℕ) (n : ℕ) (pieces : List (List ℕ))

@@ -1,12 +1,13 @@
 -- Opening a run undoes sealing it, since both are the same sum, and a byte of the key stream that is added twice is gone: by the round keys of any list, so by
--- those that a prepared key holds and by those of a key, for every cipher, round count, counter block and offset. And two calls on the same stretch answer the
--- same, whatever ways they are.
+-- those that a prepared key holds and by those of a key, for every cipher, round count, counter block and offset. And two calls on the same stretch, with
+-- outputs of one length, answer the same, whichever engines they are.
 -- Assumes nothing.
 use mathlib.Core.Path.{_≡_, ap, _∙_}
 use mathlib.Core.List.{List}
 use Prim.Native.Nat.{ℕ}
 use native.Mathlib.Omega.{arith}
 use lib.ListN.{length}
+use Rattle.fox_calls.specs.Refusals.{forRun}
 use Rattle.fox_calls.specs.Reply.{Served, Same}
 use Rattle.fox_calls.specs.declared.answer.Answer.{Answer}
 use Rattle.fox_calls.proofs.Laws.Reply.{same}
@@ -35,6 +36,7 @@ module _ (c rounds k : ℕ) (rks counter : List ℕ) (offset : ℕ) (ds : List �
         output = opened .output ∙ ap (runWith c rks counter offset) sealed ∙ run-twice c rks counter offset ds;
       }
 
-  pub same-answer : {before after₁ after₂ : List ℕ} {r₁ r₂ : Answer} → RunsWith c rounds k rks counter offset ds before after₁ r₁
-      → RunsWith c rounds k rks counter offset ds before after₂ r₂ → Same after₁ after₂ r₁ r₂
-  same-answer a b = same a b
+  pub runs-same : {before₁ before₂ after₁ after₂ : List ℕ} {r₁ r₂ : Answer} → length before₁ ≡ length before₂
+      → RunsWith c rounds k rks counter offset ds before₁ after₁ r₁ → RunsWith c rounds k rks counter offset ds before₂ after₂ r₂
+      → Same before₁ before₂ after₁ after₂ r₁ r₂
+  runs-same l a b = same (ap (forRun c rounds k (length counter) offset (length ds)) l) l a b

@@ -6,7 +6,7 @@ use Prim.Native.Nat.{ℕ, _-_, _*_, _≤_}
 use mathlib.Core.List.{List, [], _∷_, _++_}
 use mathlib.Core.Bool.{cond}
 use lib.Dec.{eqb}
-use lib.ListN.{length, replicate}
+use lib.ListN.{length, getD, replicate}
 use Rattle.fox_rounds.specs.Rounds.{left, right}
 use Rattle.fox_rounds.specs.Skeleton.{numbered}
 use Rattle.fox_lent.specs.Held.{held64, held128}
@@ -42,6 +42,22 @@ pub record Prepares (c n : ℕ) (bytes : List ℕ) (r : Preparation) : Type 0 wh
   pub refusal : r .answer .refusal ≡ refusalOf (forKey c n (length bytes))
   pub count : r .answer .count ≡ cond (eqb (refusalOf (forKey c n (length bytes))) 0) (blockSize c * n) 0
   pub key : r .key ≡ cond (eqb (refusalOf (forKey c n (length bytes))) 0) (preparedKey c n bytes) noKey
+
+-- a key that was prepared: 0, the count of bytes in use, which is the block size for every round, and the key's own cipher, rounds and length
+pub record PreparedFor (c n keyLen : ℕ) (r : Preparation) : Type 0 where
+  pub refusal : r .answer .refusal ≡ 0
+  pub count : r .answer .count ≡ blockSize c * n
+  pub cipher : r .key .cipher ≡ c
+  pub rounds : r .key .rounds ≡ n
+  pub key-len : r .key .«key_len» ≡ keyLen
+
+-- a key that was refused: count 0, and zeros everywhere
+pub record Empty (r : Preparation) : Type 0 where
+  pub count : r .answer .count ≡ 0
+  pub cipher : r .key .cipher ≡ 0
+  pub rounds : r .key .rounds ≡ 0
+  pub key-len : r .key .«key_len» ≡ 0
+  pub entries : (i : ℕ) → getD (r .key .keys) i 0 ≡ 0
 
 -- the round keys that a prepared key holds, whoever filled it
 unfoldable pub heldKeys : Prepared → List ℕ

@@ -3,23 +3,26 @@
 use mathlib.Core.Path.{_≡_, refl, sym, ap, _∙_}
 use mathlib.Core.Bool.{Bool, not, cond}
 use mathlib.Core.List.{List}
-use Prim.Native.Nat.{ℕ, _+_, _≤_}
+use Prim.Native.Nat.{ℕ, _+_, _/_, _%_, _≤_, _<_}
 use lib.Dec.{eqb}
-use lib.ListN.{length, take, drop}
+use lib.ListN.{length, getD, take, drop}
+use Rattle.fox_layers.specs.Words.{_⊕_}
 use Rattle.fox_calls.specs.Refusals.{Refusal, blockSize, Keyed}
-use Rattle.fox_calls.specs.Reply.{Refused}
+use Rattle.fox_calls.specs.Reply.{Served, Refused, Same}
 use Rattle.fox_calls.specs.Handed.{Handed, answer}
 use Rattle.fox_calls.specs.declared.answer.Answer.{Answer}
 use Rattle.fox_calls.proofs.Laws.Reply.{refused, handed-reply}
 use Rattle.fox_schedule.specs.Schedule.{roundKeys}
-use Rattle.fox_cipher.specs.Block.{BlockOf}
+use Rattle.fox_cipher.specs.Block.{turnBlock, sealBlock, BlockOf}
 use Rattle.fox_cipher.specs.Calls.{TurnedBack}
-use Rattle.fox_cipher.proofs.Undoing.{turned-back-calls}
+use Rattle.fox_cipher.proofs.Undoing.{block-served, blocks-same, turned-back-calls}
+use Rattle.fox_run.specs.Counter.{counterBlock}
 use Rattle.fox_run.specs.Run.{run}
 use Rattle.fox_run.specs.Calls.{Runs}
 use Rattle.fox_run.specs.Cuts.{CallsOf, CutOf}
-use Rattle.fox_run.proofs.Undoing.{opened-sealed}
-use Rattle.fox_run.proofs.Stretches.{stretch-opened-alone, cuts-joined, cuts-agree, cuts-undone, cuts-served, calls-are, cut-is}
+use Rattle.fox_run.proofs.Bytes.{call-byte}
+use Rattle.fox_run.proofs.Undoing.{opened-sealed, runs-same}
+use Rattle.fox_run.proofs.Stretches.{stretch-opened-alone, cuts-joined, cuts-agree, cuts-undone, cuts-opened, stretch-of-cuts}
 use Rattle.fox_station.specs.Exports.{TurnHanded, RunHanded, RunExport}
 
 -- a refused export leaves the output as it was, and its count is 0
@@ -28,10 +31,27 @@ pub export-refused : {rs : List Refusal} {value before after : List ℕ} {n : �
 unfolding answer
 export-refused h isnt = refused (handed-reply h) isnt
 
--- two exports that are lent the same answer the same
-pub exports-agree : {rs : List Refusal} {value before after₁ after₂ : List ℕ} {m n : ℕ} → Handed rs value before after₁ m → Handed rs value before after₂ n
-    → (m ≡ n) × (after₁ ≡ after₂)
-exports-agree g h = (g .refusal ∙ sym (h .refusal), g .output ∙ sym (h .output))
+-- two exports on the same block, or on the same stretch, with outputs of one length, answer the same
+
+pub block-exports-agree : (d : Bool) (c rounds : ℕ) (key block : List ℕ) {before₁ before₂ after₁ after₂ : List ℕ} {m n : ℕ} → length before₁ ≡ length before₂
+    → TurnHanded d c rounds key block before₁ after₁ m → TurnHanded d c rounds key block before₂ after₂ n
+    → Same before₁ before₂ after₁ after₂ (answer m (length before₁)) (answer n (length before₂))
+block-exports-agree d c rounds key block l a b =
+    blocks-same d c rounds (length key) (roundKeys c rounds key) block l (handed-reply a) (handed-reply b)
+
+pub run-exports-agree : (c rounds : ℕ) (key counter : List ℕ) (offset : ℕ) (ds : List ℕ) {before₁ before₂ after₁ after₂ : List ℕ} {m n : ℕ}
+    → length before₁ ≡ length before₂ → RunHanded c rounds key counter offset ds before₁ after₁ m → RunHanded c rounds key counter offset ds before₂ after₂ n
+    → Same before₁ before₂ after₁ after₂ (answer m (length before₁)) (answer n (length before₂))
+run-exports-agree c rounds key counter offset ds l a b =
+    runs-same c rounds (length key) (roundKeys c rounds key) counter offset ds l (handed-reply a) (handed-reply b)
+
+-- a block of the cipher's size is served, and turned
+pub block-export-served : (d : Bool) (c rounds : ℕ) (key block : List ℕ) → Keyed c rounds (length key) → length block ≡ blockSize c → {before after : List ℕ} {n : ℕ}
+    → length before ≡ blockSize c → TurnHanded d c rounds key block before after n → (n ≡ 0) × (after ≡ turnBlock d c rounds key block)
+unfolding answer
+block-export-served d c rounds key block k size room call =
+    let s = block-served d c rounds (length key) (roundKeys c rounds key) block k size room (handed-reply call) in
+    (s .refusal, s .output)
 
 -- a block sealed or opened by one export and turned back by another: both are served, and the block is handed back
 module _ (d : Bool) (c rounds : ℕ) (key block : List ℕ) (k : Keyed c rounds (length key)) (b : BlockOf c block) where
@@ -68,20 +88,34 @@ module _ (c rounds : ℕ) (key counter : List ℕ) where
       let s = stretch-opened-alone c rounds (length key) (roundKeys c rounds key) counter whole k m keyed size long fits short room (handed-reply call) in
       (s .refusal, s .output)
 
-  -- a run cut anywhere, each stretch by some export: all are served, and the outputs, joined, are the run
-  pub exports-served : {n : ℕ} {inputs outputs : List ℕ} → Keyed c rounds (length key) → length counter ≡ blockSize c → n + length inputs ≤ 1073741824
-      → CutOf (RunExport c rounds key counter) n inputs outputs → CallsOf (Runs c rounds key counter) n inputs outputs
-  exports-served k size fits cut = cuts-served c rounds (length key) (roundKeys c rounds key) counter k size fits (cut-is export-runs cut)
+  -- every byte that a served export wrote, as 01 has it
+  pub export-byte : (offset : ℕ) (ds : List ℕ) {before after : List ℕ} → RunHanded c rounds key counter offset ds before after 0 → (i : ℕ) → i < length ds
+      → getD after i 0 ≡ getD (sealBlock c rounds key (counterBlock counter ((offset + i) / blockSize c))) ((offset + i) % blockSize c) 0 ⊕ getD ds i 0
+  unfolding answer
+  export-byte offset ds call i within = call-byte c (roundKeys c rounds key) counter offset ds i within rounds (length key) (handed-reply call) refl
 
+  -- a run cut anywhere, each stretch by some export: the outputs, joined, are the run
   pub exports-joined : {n : ℕ} {inputs outputs : List ℕ} → CallsOf (RunExport c rounds key counter) n inputs outputs → outputs ≡ run c rounds key counter n inputs
-  exports-joined calls = cuts-joined c rounds (length key) (roundKeys c rounds key) counter (calls-are export-runs calls)
+  exports-joined = cuts-joined c rounds (length key) (roundKeys c rounds key) counter (RunExport c rounds key counter) export-runs
 
   -- whatever the cuts and whatever the exports
   pub exports-cut-agree : {n : ℕ} {inputs one other : List ℕ} → CallsOf (RunExport c rounds key counter) n inputs one
       → CallsOf (RunExport c rounds key counter) n inputs other → one ≡ other
-  exports-cut-agree a b = cuts-agree c rounds (length key) (roundKeys c rounds key) counter (calls-are export-runs a) (calls-are export-runs b)
+  exports-cut-agree = cuts-agree c rounds (length key) (roundKeys c rounds key) counter (RunExport c rounds key counter) export-runs
 
   -- sealed in some stretches and opened in others
   pub exports-cut-undone : {n : ℕ} {inputs sealed opened : List ℕ} → CallsOf (RunExport c rounds key counter) n inputs sealed
       → CallsOf (RunExport c rounds key counter) n sealed opened → opened ≡ inputs
-  exports-cut-undone a b = cuts-undone c rounds (length key) (roundKeys c rounds key) counter (calls-are export-runs a) (calls-are export-runs b)
+  exports-cut-undone = cuts-undone c rounds (length key) (roundKeys c rounds key) counter (RunExport c rounds key counter) export-runs
+
+  module _ (k : Keyed c rounds (length key)) (size : length counter ≡ blockSize c) where
+    -- of stretches of which only the lengths are known, all are served, and they give the run
+    pub exports-opened : {n : ℕ} {inputs outputs : List ℕ} → n + length inputs ≤ 1073741824 → CutOf (RunExport c rounds key counter) n inputs outputs
+        → CallsOf (RunExport c rounds key counter) n inputs outputs × (outputs ≡ run c rounds key counter n inputs)
+    exports-opened = cuts-opened c rounds (length key) (roundKeys c rounds key) counter (RunExport c rounds key counter) export-runs k size
+
+    -- a stretch opened alone is that part of what any cuts gave
+    pub stretch-of-exports : (whole : List ℕ) {outputs : List ℕ} (at m : ℕ) {before after : List ℕ} {r : Answer} → length whole ≤ 1073741824
+        → CutOf (RunExport c rounds key counter) 0 whole outputs → at + m ≤ length whole → m ≤ 65536 → length before ≡ m
+        → RunExport c rounds key counter at (take m (drop at whole)) before after r → Served m (take m (drop at outputs)) after r
+    stretch-of-exports = stretch-of-cuts c rounds (length key) (roundKeys c rounds key) counter (RunExport c rounds key counter) export-runs k size

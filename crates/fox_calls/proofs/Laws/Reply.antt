@@ -1,6 +1,6 @@
 -- A reply from its parts, and what it says: the two ways that a call ends. Which one it is, is decided by whether the number of the refusals is 0.
 -- Assumes nothing.
-use mathlib.Core.Path.{_≡_, sym, ap, _∙_}
+use mathlib.Core.Path.{_≡_, sym, ap, ap₂, _∙_}
 use mathlib.Core.Bool.{cond}
 use mathlib.Core.List.{List}
 use Prim.Native.Nat.{ℕ}
@@ -56,10 +56,17 @@ module _ {rs : List Refusal} {value before after : List ℕ} {r : Answer} (call 
         output = call .output ∙ sym (passed-over (refusalOf rs) value before h);
       }
 
--- two calls with the same refusals and the same value, whatever ways they are
-pub same : {rs : List Refusal} {value before after₁ after₂ : List ℕ} {r₁ r₂ : Answer}
-    → Reply rs value before after₁ r₁ → Reply rs value before after₂ r₂ → Same after₁ after₂ r₁ r₂
-same a b = record { refusal = a .refusal ∙ sym (b .refusal); count = a .count ∙ sym (b .count); output = a .output ∙ sym (b .output) }
+-- two calls with the same refusals, the same value and outputs of one length, whichever engines they are and whatever the outputs held
+pub same : {rs₁ rs₂ : List Refusal} {value before₁ before₂ after₁ after₂ : List ℕ} {r₁ r₂ : Answer} → rs₁ ≡ rs₂ → length before₁ ≡ length before₂
+    → Reply rs₁ value before₁ after₁ r₁ → Reply rs₂ value before₂ after₂ r₂ → Same before₁ before₂ after₁ after₂ r₁ r₂
+same {rs₁} {rs₂} {value} e l a b =
+    let number = a .refusal ∙ ap refusalOf e ∙ sym (b .refusal) in
+    record {
+      refusal = number;
+      count = a .count ∙ ap₂ (λ (rs : List Refusal) (n : ℕ). cond (eqb (refusalOf rs) 0) n 0) e l ∙ sym (b .count);
+      served = λ z. served a (sym (a .refusal) ∙ z) .output ∙ sym (served b (sym (b .refusal) ∙ sym number ∙ z) .output);
+      lent-alike = λ q. a .output ∙ ap₂ (λ (rs : List Refusal) (old : List ℕ). cond (eqb (refusalOf rs) 0) value old) e q ∙ sym (b .output);
+    }
 
 -- what a call over the C interface hands back is a reply, with the count that follows from the number
 pub handed-reply : {rs : List Refusal} {value before after : List ℕ} {r : ℕ}

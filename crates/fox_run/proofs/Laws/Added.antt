@@ -3,10 +3,10 @@
 -- Assumes nothing.
 use mathlib.Core.Path.{_≡_, refl, sym, ap, ap₂, _∙_}
 use mathlib.Core.List.{List, [], _∷_, _++_}
-use Prim.Native.Nat.{ℕ, zero, suc, _+_}
+use Prim.Native.Nat.{ℕ, zero, suc, _+_, _<_}
 use native.Mathlib.Nat.{add-zero}
 use native.Mathlib.Omega.{arith}
-use lib.ListN.{length, take, drop}
+use lib.ListN.{length, getD, take, drop}
 use Rattle.fox_layers.specs.Words.{_⊕_}
 use Rattle.fox_layers.proofs.Laws.Xor.{xor-cancel}
 use Rattle.fox_run.specs.Run.{addedFrom}
@@ -28,6 +28,15 @@ module _ (f : ℕ → ℕ) where
   unfolding addedFrom
   length-addedFrom n [] = refl
   length-addedFrom n (d ∷ ds) = ap suc (length-addedFrom (suc n) ds)
+
+  -- one byte of it
+  pub addedFrom-at : (n : ℕ) (ds : List ℕ) (i : ℕ) → i < length ds → getD (addedFrom f n ds) i 0 ≡ f (n + i) ⊕ getD ds i 0
+  unfolding addedFrom
+  addedFrom-at n [] i h = absurd (omega arith)
+  addedFrom-at n (d ∷ ds) zero h = ap (λ (k : ℕ). f k ⊕ d) (sym (add-zero n))
+  addedFrom-at n (d ∷ ds) (suc i) h =
+      let here : suc n + i ≡ n + suc i = omega arith in
+      addedFrom-at (suc n) ds i (omega arith) ∙ ap (λ (k : ℕ). f k ⊕ getD ds i 0) here
 
   pub addedFrom-append : (n : ℕ) (xs ys : List ℕ) → addedFrom f n (xs ++ ys) ≡ addedFrom f n xs ++ addedFrom f (n + length xs) ys
   unfolding addedFrom
