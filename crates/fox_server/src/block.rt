@@ -28,7 +28,7 @@ fn block64(sealing: bool, keys: &[u64; 510], rounds: usize, block: &[u8], out: &
     let s = moved::tbs();
     let t = joined4::tbsm();
     let x = read64(block);
-    let y = turn64(sealing, &s, &t.a, &t.b, &t.c, &t.d, keys, rounds, x);
+    let y = turn64(sealing, &s, &t, keys, rounds, x);
     write64(out, y);
 }
 
@@ -39,21 +39,7 @@ fn block128(sealing: bool, keys: &[u64; 510], rounds: usize, block: &[u8], out: 
     let s = moved::tbs();
     let t = joined8::tbsm();
     let x = read128(block);
-    let y = turn128(
-        sealing,
-        &s,
-        &t.a,
-        &t.b,
-        &t.c,
-        &t.d,
-        &t.e,
-        &t.f,
-        &t.g,
-        &t.h,
-        keys,
-        rounds,
-        x,
-    );
+    let y = turn128(sealing, &s, &t, keys, rounds, x);
     write128(out, y);
 }
 
