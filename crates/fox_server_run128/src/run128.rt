@@ -97,8 +97,15 @@ pub fn run128(
     requires { ⌜ Ready 16 rounds (now counter) n (now input) (now out) ⌝ }
     ensures { λ _. ⌜ now (out .exit) ≡ addedFrom (stream (numbered (held128 (now (keys .entry))) rounds 0) (Of128 (state128 (now (counter .entry))))) n (now (input .entry)) ⌝ }
 {
-    let s = moved::tbs();
-    let t = joined8::tbsm();
     let x = read128(counter);
-    lay128(&s, &t, keys, rounds, x, n, input, out);
+    lay128(
+        &moved::tbs(),
+        &joined8::tbsm(),
+        keys,
+        rounds,
+        x,
+        n,
+        input,
+        out,
+    );
 }

@@ -97,8 +97,15 @@ pub fn run64(
     requires { ⌜ Ready 8 rounds (now counter) n (now input) (now out) ⌝ }
     ensures { λ _. ⌜ now (out .exit) ≡ addedFrom (stream (numbered (held64 (now (keys .entry))) rounds 0) (Of64 (state64 (now (counter .entry))))) n (now (input .entry)) ⌝ }
 {
-    let s = moved::tbs();
-    let t = joined4::tbsm();
     let x = read64(counter);
-    lay64(&s, &t, keys, rounds, x, n, input, out);
+    lay64(
+        &moved::tbs(),
+        &joined4::tbsm(),
+        keys,
+        rounds,
+        x,
+        n,
+        input,
+        out,
+    );
 }

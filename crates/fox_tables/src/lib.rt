@@ -1,5 +1,5 @@
 // Look-ups in tables that the caller lends (001 §2.2.6, §4.2.2). A constant table is built anew wherever it is named, so a caller makes each array
-// of tables a local of its own once, by the functions of moved, joined4 and joined8, and lends it to every look-up.
+// of tables once, by the functions of moved, joined4 and joined8, and lends it to every look-up.
 //
 // A look-up is stated for whatever it is lent. Where that is the TBS tables, or a matrix's TBSM tables, the laws picked-TBS, picked-mu4 and
 // picked-mu8 say that it is sigma, and mu after sigma.
