@@ -7,7 +7,7 @@ use Rattle.fox_layers.specs.Words.{joined, split, summed}
 use Rattle.fox_layers.specs.Field.{product}
 use Rattle.fox_layers.specs.Substitution.{sbox}
 
--- the values of a function at n bytes from i on
+-- the values of a function at n numbers from i on
 unfoldable pub listed : (ℕ → ℕ) → ℕ → ℕ → List ℕ
 listed f zero i = []
 listed f (suc n) i = f i ∷ listed f n (suc i)

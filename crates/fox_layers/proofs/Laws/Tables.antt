@@ -35,17 +35,17 @@ split-sigma n w =
     rw same at (split-joined (map sbox (split n w)) (map-sbox-bytes (split n w) (split-bytes n w)))
 
 -- the entries of tables that stand one after the other
-pub tables-entry : (f : ℕ → ℕ → ℕ) (n i : ℕ) → i < n * 256 → getD (tables f n) i 0 ≡ f (i / 256) (i % 256)
+tables-entry : (f : ℕ → ℕ → ℕ) (n i : ℕ) → i < n * 256 → getD (tables f n) i 0 ≡ f (i / 256) (i % 256)
 unfolding tables
 tables-entry f n i h = listed-at _ (n * 256) 0 i h ∙ ap (λ (k : ℕ). f (k / 256) (k % 256)) (zero-add i)
 
-pub tables-at : (f : ℕ → ℕ → ℕ) (n j x : ℕ) → j < n → x < 256 → getD (tables f n) (j * 256 + x) 0 ≡ f j x
+tables-at : (f : ℕ → ℕ → ℕ) (n j x : ℕ) → j < n → x < 256 → getD (tables f n) (j * 256 + x) 0 ≡ f j x
 tables-at f n j x h l =
     let place : (j * 256 + x) / 256 ≡ j = omega arith in
     let byte : (j * 256 + x) % 256 ≡ x = omega arith in
     rw (tables-entry f n (j * 256 + x) (omega arith), place, byte)
 
-pub length-tables : (f : ℕ → ℕ → ℕ) (n : ℕ) → length (tables f n) ≡ n * 256
+length-tables : (f : ℕ → ℕ → ℕ) (n : ℕ) → length (tables f n) ≡ n * 256
 unfolding tables
 length-tables f n = length-listed _ (n * 256) 0
 
