@@ -2,9 +2,10 @@
 // The round stands here with "or" and without it, for the reason given in four64.
 ghost use mathlib.Core.Path.{_≡_};
 ghost use Prim.Native.Nat.{_+_, _*_, _^_, _≤_};
+ghost use Rattle.fox_layers.specs.Diffusion.{mu8Rows};
 ghost use Rattle.fox_rounds.specs.Skeleton.{numbered};
 ghost use Rattle.fox_lent.specs.Held.{held128};
-ghost use Rattle.fox_lent.specs.Lent.{Lent8};
+ghost use Rattle.fox_lent.specs.Lent.{Lent};
 ghost use Rattle.fox_four.specs.Four.{elmidFour128, orFour128, sealFour128};
 use fox_lent::lent128::elmid128;
 use fox_rounds::fox128::Fox128;
@@ -17,21 +18,8 @@ pub struct Four128 {
 }
 
 // The round of all four with one round key, of two words: the left one k, the right one l.
-fn elmid_four128<'a>(
-    s: &'a [u32; 1024],
-    a: &'a [u64; 256],
-    b: &'a [u64; 256],
-    c: &'a [u64; 256],
-    d: &'a [u64; 256],
-    e: &'a [u64; 256],
-    f: &'a [u64; 256],
-    g: &'a [u64; 256],
-    h: &'a [u64; 256],
-    x: Four128,
-    k: u64,
-    l: u64,
-) -> Four128
-    requires { ⌜ Lent8 (now s) (now a) (now b) (now c) (now d) (now e) (now f) (now g) (now h) ⌝ }
+fn elmid_four128(s: &[u32; 1024], t: &[u64; 2048], x: Four128, k: u64, l: u64) -> Four128
+    requires { ⌜ Lent mu8Rows (now s) (now t) ⌝ }
     ensures { λ r. ⌜ r ≡ elmidFour128 (k * 2 ^ 64 + l) x ⌝ }
 {
     let p = x.first;
@@ -39,29 +27,16 @@ fn elmid_four128<'a>(
     let u = x.third;
     let v = x.fourth;
     Four128 {
-        first: elmid128(s, a, b, c, d, e, f, g, h, p, k, l),
-        second: elmid128(s, a, b, c, d, e, f, g, h, q, k, l),
-        third: elmid128(s, a, b, c, d, e, f, g, h, u, k, l),
-        fourth: elmid128(s, a, b, c, d, e, f, g, h, v, k, l),
+        first: elmid128(s, t, p, k, l),
+        second: elmid128(s, t, q, k, l),
+        third: elmid128(s, t, u, k, l),
+        fourth: elmid128(s, t, v, k, l),
     }
 }
 
 // The round of all four with one round key, and "or" after it.
-fn elmor_four128<'a>(
-    s: &'a [u32; 1024],
-    a: &'a [u64; 256],
-    b: &'a [u64; 256],
-    c: &'a [u64; 256],
-    d: &'a [u64; 256],
-    e: &'a [u64; 256],
-    f: &'a [u64; 256],
-    g: &'a [u64; 256],
-    h: &'a [u64; 256],
-    x: Four128,
-    k: u64,
-    l: u64,
-) -> Four128
-    requires { ⌜ Lent8 (now s) (now a) (now b) (now c) (now d) (now e) (now f) (now g) (now h) ⌝ }
+fn elmor_four128(s: &[u32; 1024], t: &[u64; 2048], x: Four128, k: u64, l: u64) -> Four128
+    requires { ⌜ Lent mu8Rows (now s) (now t) ⌝ }
     ensures { λ r. ⌜ r ≡ orFour128 (elmidFour128 (k * 2 ^ 64 + l) x) ⌝ }
 {
     let p = x.first;
@@ -69,28 +44,21 @@ fn elmor_four128<'a>(
     let u = x.third;
     let v = x.fourth;
     Four128 {
-        first: elmid128(s, a, b, c, d, e, f, g, h, p, k, l).or(),
-        second: elmid128(s, a, b, c, d, e, f, g, h, q, k, l).or(),
-        third: elmid128(s, a, b, c, d, e, f, g, h, u, k, l).or(),
-        fourth: elmid128(s, a, b, c, d, e, f, g, h, v, k, l).or(),
+        first: elmid128(s, t, p, k, l).or(),
+        second: elmid128(s, t, q, k, l).or(),
+        third: elmid128(s, t, u, k, l).or(),
+        fourth: elmid128(s, t, v, k, l).or(),
     }
 }
 
-pub fn seal_four128<'a>(
-    s: &'a [u32; 1024],
-    a: &'a [u64; 256],
-    b: &'a [u64; 256],
-    c: &'a [u64; 256],
-    d: &'a [u64; 256],
-    e: &'a [u64; 256],
-    f: &'a [u64; 256],
-    g: &'a [u64; 256],
-    h: &'a [u64; 256],
+pub fn seal_four128(
+    s: &[u32; 1024],
+    t: &[u64; 2048],
     keys: &[u64; 510],
     rounds: usize,
     x: Four128,
 ) -> Four128
-    requires { ⌜ Lent8 (now s) (now a) (now b) (now c) (now d) (now e) (now f) (now g) (now h) ⌝ }
+    requires { ⌜ Lent mu8Rows (now s) (now t) ⌝ }
     requires { ⌜ 1 ≤ rounds ⌝ }
     requires { ⌜ rounds ≤ 255 ⌝ }
     ensures { λ r. ⌜ r ≡ sealFour128 (numbered (held128 (now (keys .entry))) rounds 0) x ⌝ }
@@ -98,20 +66,7 @@ pub fn seal_four128<'a>(
     let last = rounds - 1;
     let mut y = x;
     for i in 0..last {
-        y = elmor_four128(s, a, b, c, d, e, f, g, h, y, keys[2 * i], keys[2 * i + 1]);
+        y = elmor_four128(s, t, y, keys[2 * i], keys[2 * i + 1]);
     }
-    elmid_four128(
-        s,
-        a,
-        b,
-        c,
-        d,
-        e,
-        f,
-        g,
-        h,
-        y,
-        keys[2 * last],
-        keys[2 * last + 1],
-    )
+    elmid_four128(s, t, y, keys[2 * last], keys[2 * last + 1])
 }

@@ -3,9 +3,10 @@
 // stay in registers.
 ghost use mathlib.Core.Path.{_≡_};
 ghost use Prim.Native.Nat.{_≤_};
+ghost use Rattle.fox_layers.specs.Diffusion.{mu4Rows};
 ghost use Rattle.fox_rounds.specs.Skeleton.{numbered};
 ghost use Rattle.fox_lent.specs.Held.{held64};
-ghost use Rattle.fox_lent.specs.Lent.{Lent4};
+ghost use Rattle.fox_lent.specs.Lent.{Lent};
 ghost use Rattle.fox_four.specs.Four.{lmidFour64, orFour64, sealFour64};
 use fox_lent::lent64::lmid64;
 use fox_rounds::fox64::Fox64;
@@ -18,16 +19,8 @@ pub struct Four64 {
 }
 
 // The round of all four with one round key.
-fn lmid_four64<'a>(
-    s: &'a [u32; 1024],
-    a: &'a [u32; 256],
-    b: &'a [u32; 256],
-    c: &'a [u32; 256],
-    d: &'a [u32; 256],
-    x: Four64,
-    rk: u64,
-) -> Four64
-    requires { ⌜ Lent4 (now s) (now a) (now b) (now c) (now d) ⌝ }
+fn lmid_four64(s: &[u32; 1024], t: &[u32; 1024], x: Four64, rk: u64) -> Four64
+    requires { ⌜ Lent mu4Rows (now s) (now t) ⌝ }
     ensures { λ r. ⌜ r ≡ lmidFour64 rk x ⌝ }
 {
     let p = x.first;
@@ -35,24 +28,16 @@ fn lmid_four64<'a>(
     let u = x.third;
     let v = x.fourth;
     Four64 {
-        first: lmid64(s, a, b, c, d, p, rk),
-        second: lmid64(s, a, b, c, d, q, rk),
-        third: lmid64(s, a, b, c, d, u, rk),
-        fourth: lmid64(s, a, b, c, d, v, rk),
+        first: lmid64(s, t, p, rk),
+        second: lmid64(s, t, q, rk),
+        third: lmid64(s, t, u, rk),
+        fourth: lmid64(s, t, v, rk),
     }
 }
 
 // The round of all four with one round key, and "or" after it.
-fn lmor_four64<'a>(
-    s: &'a [u32; 1024],
-    a: &'a [u32; 256],
-    b: &'a [u32; 256],
-    c: &'a [u32; 256],
-    d: &'a [u32; 256],
-    x: Four64,
-    rk: u64,
-) -> Four64
-    requires { ⌜ Lent4 (now s) (now a) (now b) (now c) (now d) ⌝ }
+fn lmor_four64(s: &[u32; 1024], t: &[u32; 1024], x: Four64, rk: u64) -> Four64
+    requires { ⌜ Lent mu4Rows (now s) (now t) ⌝ }
     ensures { λ r. ⌜ r ≡ orFour64 (lmidFour64 rk x) ⌝ }
 {
     let p = x.first;
@@ -60,24 +45,21 @@ fn lmor_four64<'a>(
     let u = x.third;
     let v = x.fourth;
     Four64 {
-        first: lmid64(s, a, b, c, d, p, rk).or(),
-        second: lmid64(s, a, b, c, d, q, rk).or(),
-        third: lmid64(s, a, b, c, d, u, rk).or(),
-        fourth: lmid64(s, a, b, c, d, v, rk).or(),
+        first: lmid64(s, t, p, rk).or(),
+        second: lmid64(s, t, q, rk).or(),
+        third: lmid64(s, t, u, rk).or(),
+        fourth: lmid64(s, t, v, rk).or(),
     }
 }
 
-pub fn seal_four64<'a>(
-    s: &'a [u32; 1024],
-    a: &'a [u32; 256],
-    b: &'a [u32; 256],
-    c: &'a [u32; 256],
-    d: &'a [u32; 256],
+pub fn seal_four64(
+    s: &[u32; 1024],
+    t: &[u32; 1024],
     keys: &[u64; 510],
     rounds: usize,
     x: Four64,
 ) -> Four64
-    requires { ⌜ Lent4 (now s) (now a) (now b) (now c) (now d) ⌝ }
+    requires { ⌜ Lent mu4Rows (now s) (now t) ⌝ }
     requires { ⌜ 1 ≤ rounds ⌝ }
     requires { ⌜ rounds ≤ 510 ⌝ }
     ensures { λ r. ⌜ r ≡ sealFour64 (numbered (held64 (now (keys .entry))) rounds 0) x ⌝ }
@@ -85,7 +67,7 @@ pub fn seal_four64<'a>(
     let last = rounds - 1;
     let mut y = x;
     for i in 0..last {
-        y = lmor_four64(s, a, b, c, d, y, keys[i]);
+        y = lmor_four64(s, t, y, keys[i]);
     }
-    lmid_four64(s, a, b, c, d, y, keys[last])
+    lmid_four64(s, t, y, keys[last])
 }

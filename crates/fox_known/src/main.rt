@@ -44,21 +44,14 @@ fn next(w: u64) -> u64 {
 }
 
 // 1 where both ways substitute and diffuse the word alike.
-fn same4<'a>(
-    s: &'a [u32; 1024],
-    a: &'a [u32; 256],
-    b: &'a [u32; 256],
-    c: &'a [u32; 256],
-    d: &'a [u32; 256],
-    w: u32,
-) -> u32
+fn same4(s: &[u32; 1024], t: &[u32; 1024], w: u32) -> u32
     ensures { λ r. ⌜ r ≤ 1 ⌝ }
 {
     let x = small_boxes::sigma4(w);
-    if x != fox_tables::sigma4(s, w) {
+    if x != fox_tables::pick4(s, w) {
         return 0;
     }
-    if diffusion::mu4(x) != fox_tables::sigma_mu4(a, b, c, d, w) {
+    if diffusion::mu4(x) != fox_tables::pick4(t, w) {
         return 0;
     }
     1
@@ -71,33 +64,22 @@ fn alike4() -> u32 {
     let mut w: u64 = 0x0123_4567_89AB_CDEF;
     for i in 0..WORDS {
         w = next(w);
-        alike += same4(&s, &t.a, &t.b, &t.c, &t.d, (w % 0x1_0000_0000) as u32);
+        alike += same4(&s, &t, (w % 0x1_0000_0000) as u32);
     }
     alike
 }
 
 // 1 where both ways substitute and diffuse the word alike.
-fn same8<'a>(
-    s: &'a [u32; 1024],
-    a: &'a [u64; 256],
-    b: &'a [u64; 256],
-    c: &'a [u64; 256],
-    d: &'a [u64; 256],
-    e: &'a [u64; 256],
-    f: &'a [u64; 256],
-    g: &'a [u64; 256],
-    h: &'a [u64; 256],
-    w: u64,
-) -> u32
+fn same8(s: &[u32; 1024], t: &[u64; 2048], w: u64) -> u32
     ensures { λ r. ⌜ r ≤ 1 ⌝ }
 {
     let x = small_boxes::sigma8(w);
-    let l = fox_tables::sigma4(s, (w / 0x1_0000_0000) as u32);
-    let r = fox_tables::sigma4(s, (w % 0x1_0000_0000) as u32);
+    let l = fox_tables::pick4(s, (w / 0x1_0000_0000) as u32);
+    let r = fox_tables::pick4(s, (w % 0x1_0000_0000) as u32);
     if x != (l as u64) * 0x1_0000_0000 + r as u64 {
         return 0;
     }
-    if diffusion::mu8(x) != fox_tables::sigma_mu8(a, b, c, d, e, f, g, h, w) {
+    if diffusion::mu8(x) != fox_tables::pick8(t, w) {
         return 0;
     }
     1
@@ -110,7 +92,7 @@ fn alike8() -> u32 {
     let mut w: u64 = 0x0123_4567_89AB_CDEF;
     for i in 0..WORDS {
         w = next(w);
-        alike += same8(&s, &t.a, &t.b, &t.c, &t.d, &t.e, &t.f, &t.g, &t.h, w);
+        alike += same8(&s, &t, w);
     }
     alike
 }

@@ -2,12 +2,12 @@
 -- Assumes nothing.
 use Prim.Native.Nat.{ℕ, zero, suc, _+_, _*_, _-_, _/_, _%_, _^_}
 use mathlib.Core.List.{List, [], _∷_, map}
-use lib.ListN.{getD}
+use lib.ListN.{length, getD}
 use Rattle.fox_layers.specs.Words.{joined, split, summed}
 use Rattle.fox_layers.specs.Field.{product}
 use Rattle.fox_layers.specs.Substitution.{sbox}
 
--- the values of a function at n bytes from i on
+-- the values of a function at n numbers from i on
 unfoldable pub listed : (ℕ → ℕ) → ℕ → ℕ → List ℕ
 listed f zero i = []
 listed f (suc n) i = f i ∷ listed f n (suc i)
@@ -21,9 +21,13 @@ table f = listed f 256 0
 unfoldable pub box : List ℕ
 box = table sbox
 
--- §4.2.2: the n TBS tables, one after the other: at 256·j + x the box's value at x, moved to byte number j of a word of n bytes
+-- n tables of 256 entries, one after the other: at 256·j + x table number j has f j x
+unfoldable pub tables : (ℕ → ℕ → ℕ) → ℕ → List ℕ
+tables f n = listed (λ (i : ℕ). f (i / 256) (i % 256)) (n * 256) 0
+
+-- §4.2.2: the n TBS tables: number j has the box's value, moved to byte number j of a word of n bytes
 unfoldable pub TBS : ℕ → List ℕ
-TBS n = listed (λ (i : ℕ). sbox (i % 256) * 2 ^ (8 * (n - 1 - i / 256))) (n * 256) 0
+TBS n = tables (λ (j x : ℕ). sbox x * 2 ^ (8 * (n - 1 - j))) n
 
 -- column number j of a matrix given by its rows
 unfoldable pub column : ℕ → List (List ℕ) → List ℕ
@@ -33,14 +37,14 @@ column j rows = map (λ (row : List ℕ). getD row j 0) rows
 unfoldable pub scaled : List ℕ → ℕ → ℕ
 scaled ms x = joined (map (λ (m : ℕ). product m x) ms)
 
--- §4.2.2: TBSM number j of a matrix has at each byte column j times the box's value
-unfoldable pub TBSM : List (List ℕ) → ℕ → List ℕ
-TBSM rows j = table (λ (x : ℕ). scaled (column j rows) (sbox x))
+-- §4.2.2: what TBSM number j of a matrix has at a byte: column j times the box's value
+unfoldable pub boxed : List (List ℕ) → ℕ → ℕ → ℕ
+boxed rows j x = scaled (column j rows) (sbox x)
 
--- the sum of the entries that bytes pick, each from a table of its own
-unfoldable pub gathered : List (List ℕ) → List ℕ → ℕ
-gathered ts xs = summed (λ (t : List ℕ) (x : ℕ). getD t x 0) ts xs
+-- §4.2.2: the TBSM tables of a matrix that has as many columns as rows
+unfoldable pub TBSM : List (List ℕ) → List ℕ
+TBSM rows = tables (boxed rows) (length rows)
 
--- the same where the tables stand in one list, each by its number
-unfoldable pub picked : List ℕ → List ℕ → List ℕ → ℕ
-picked t js xs = summed (λ (j x : ℕ). getD t (j * 256 + x) 0) js xs
+-- what a word of n bytes picks from n tables that stand one after the other: the sum of the entries, each byte's from the table of its number
+unfoldable pub picked : ℕ → List ℕ → ℕ → ℕ
+picked n t w = summed (λ (j x : ℕ). getD t (j * 256 + x) 0) (listed (λ (j : ℕ). j) n 0) (split n w)

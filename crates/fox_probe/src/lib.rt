@@ -1,9 +1,7 @@
 // Exported functions whose instructions the gate counts (tests/instructions.sh, tests/measure.c), and the bench sheet for a fuzzer to call
 // (tests/fuzz.sh). No product uses this crate.
 ghost use mathlib.Core.Path.{_≡_};
-ghost use mathlib.Core.List.{[], _∷_};
-ghost use Rattle.fox_layers.specs.Words.{split};
-ghost use Rattle.fox_layers.specs.Tables.{gathered};
+ghost use Rattle.fox_layers.specs.Tables.{picked};
 ghost use Rattle.fox_rounds.specs.Skeleton.{numbered, seal64, seal128};
 ghost use Rattle.fox_lent.specs.Held.{held64, held128};
 ghost use Rattle.fox_register.specs.Register.{iterate};
@@ -18,33 +16,17 @@ use fox_tables::joined8;
 use fox_tables::moved;
 
 #[no_mangle]
-pub extern "C" fn fox_probe_sigma_mu4<'a>(
-    a: &'a [u32; 256],
-    b: &'a [u32; 256],
-    c: &'a [u32; 256],
-    d: &'a [u32; 256],
-    w: u32,
-) -> u32
-    ensures { λ r. ⌜ r ≡ gathered (now (a .entry) ∷ now (b .entry) ∷ now (c .entry) ∷ now (d .entry) ∷ []) (split 4 w) ⌝ }
+pub extern "C" fn fox_probe_pick4(t: &[u32; 1024], w: u32) -> u32
+    ensures { λ r. ⌜ r ≡ picked 4 (now (t .entry)) w ⌝ }
 {
-    fox_tables::sigma_mu4(a, b, c, d, w)
+    fox_tables::pick4(t, w)
 }
 
 #[no_mangle]
-pub extern "C" fn fox_probe_sigma_mu8<'a>(
-    a: &'a [u64; 256],
-    b: &'a [u64; 256],
-    c: &'a [u64; 256],
-    d: &'a [u64; 256],
-    e: &'a [u64; 256],
-    f: &'a [u64; 256],
-    g: &'a [u64; 256],
-    h: &'a [u64; 256],
-    w: u64,
-) -> u64
-    ensures { λ r. ⌜ r ≡ gathered (now (a .entry) ∷ now (b .entry) ∷ now (c .entry) ∷ now (d .entry) ∷ now (e .entry) ∷ now (f .entry) ∷ now (g .entry) ∷ now (h .entry) ∷ []) (split 8 w) ⌝ }
+pub extern "C" fn fox_probe_pick8(t: &[u64; 2048], w: u64) -> u64
+    ensures { λ r. ⌜ r ≡ picked 8 (now (t .entry)) w ⌝ }
 {
-    fox_tables::sigma_mu8(a, b, c, d, e, f, g, h, w)
+    fox_tables::pick8(t, w)
 }
 
 // One block sealed so many times by the first 16 round keys of those lent: the left word.
@@ -56,7 +38,7 @@ pub extern "C" fn fox_probe_again64(keys: &[u64; 510], blocks: u32, l: u32, r: u
     let t = joined4::tbsm();
     let mut y = Fox64::new(l, r);
     for i in 0..blocks {
-        y = lent64::turn64(true, &s, &t.a, &t.b, &t.c, &t.d, keys, 16, y);
+        y = lent64::turn64(true, &s, &t, keys, 16, y);
     }
     y.l
 }
@@ -76,21 +58,7 @@ pub extern "C" fn fox_probe_again128(
     let t = joined8::tbsm();
     let mut y = Fox128::new(a, b, c, d);
     for i in 0..blocks {
-        y = lent128::turn128(
-            true,
-            &s,
-            &t.a,
-            &t.b,
-            &t.c,
-            &t.d,
-            &t.e,
-            &t.f,
-            &t.g,
-            &t.h,
-            keys,
-            16,
-            y,
-        );
+        y = lent128::turn128(true, &s, &t, keys, 16, y);
     }
     y.ll
 }

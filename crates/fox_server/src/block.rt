@@ -25,10 +25,8 @@ fn block64(sealing: bool, keys: &[u64; 510], rounds: usize, block: &[u8], out: &
     requires { ⌜ Ready 8 rounds (now block) (now out) ⌝ }
     ensures { λ _. ⌜ now (out .exit) ≡ bytes (turned sealing (numbered (held64 (now (keys .entry))) rounds 0) (Of64 (state64 (now (block .entry))))) ⌝ }
 {
-    let s = moved::tbs();
-    let t = joined4::tbsm();
     let x = read64(block);
-    let y = turn64(sealing, &s, &t.a, &t.b, &t.c, &t.d, keys, rounds, x);
+    let y = turn64(sealing, &moved::tbs(), &joined4::tbsm(), keys, rounds, x);
     write64(out, y);
 }
 
@@ -36,24 +34,8 @@ fn block128(sealing: bool, keys: &[u64; 510], rounds: usize, block: &[u8], out: 
     requires { ⌜ Ready 16 rounds (now block) (now out) ⌝ }
     ensures { λ _. ⌜ now (out .exit) ≡ bytes (turned sealing (numbered (held128 (now (keys .entry))) rounds 0) (Of128 (state128 (now (block .entry))))) ⌝ }
 {
-    let s = moved::tbs();
-    let t = joined8::tbsm();
     let x = read128(block);
-    let y = turn128(
-        sealing,
-        &s,
-        &t.a,
-        &t.b,
-        &t.c,
-        &t.d,
-        &t.e,
-        &t.f,
-        &t.g,
-        &t.h,
-        keys,
-        rounds,
-        x,
-    );
+    let y = turn128(sealing, &moved::tbs(), &joined8::tbsm(), keys, rounds, x);
     write128(out, y);
 }
 

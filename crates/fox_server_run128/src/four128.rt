@@ -4,10 +4,11 @@ ghost use mathlib.Core.List.{_++_};
 ghost use Prim.Native.Nat.{_+_, _%_, _≤_};
 ghost use lib.ListN.{length, drop};
 ghost use Rattle.fox_layers.specs.Words.{sum};
+ghost use Rattle.fox_layers.specs.Diffusion.{mu8Rows};
 ghost use Rattle.fox_rounds.specs.Skeleton.{numbered};
 ghost use Rattle.fox_rounds.specs.declared.state.State.the-variants.{Of128};
 ghost use Rattle.fox_lent.specs.Held.{held128};
-ghost use Rattle.fox_lent.specs.Lent.{Lent8};
+ghost use Rattle.fox_lent.specs.Lent.{Lent};
 ghost use Rattle.fox_cipher.specs.Block.{bytes128};
 ghost use Rattle.fox_run.specs.States.{counted128, stream};
 ghost use Rattle.fox_run.specs.Steps.{Laid};
@@ -50,16 +51,9 @@ fn counted_four128(x: Fox128, i: u32) -> Four128
 }
 
 // The four blocks from the run's byte n on, which begins a block.
-pub(crate) fn four128<'a>(
-    s: &'a [u32; 1024],
-    a: &'a [u64; 256],
-    b: &'a [u64; 256],
-    c: &'a [u64; 256],
-    d: &'a [u64; 256],
-    e: &'a [u64; 256],
-    f: &'a [u64; 256],
-    g: &'a [u64; 256],
-    h: &'a [u64; 256],
+pub(crate) fn four128(
+    s: &[u32; 1024],
+    t: &[u64; 2048],
     keys: &[u64; 510],
     rounds: usize,
     x: Fox128,
@@ -67,11 +61,11 @@ pub(crate) fn four128<'a>(
     input: &[u8],
     out: &mut [u8],
 )
-    requires { ⌜ Lent8 (now s) (now a) (now b) (now c) (now d) (now e) (now f) (now g) (now h) ⌝ }
+    requires { ⌜ Lent mu8Rows (now s) (now t) ⌝ }
     requires { ⌜ (1 ≤ rounds) × (rounds ≤ 255) × (n % 16 ≡ 0) × (n + 64 ≤ 1073741824) × (64 ≤ length (now input)) × (64 ≤ length (now out)) ⌝ }
     ensures { λ _. ⌜ Laid (stream (numbered (held128 (now (keys .entry))) rounds 0) (Of128 x)) n (now (input .entry)) (now (out .entry)) 64 (now (out .exit)) ⌝ }
 {
     let blocks = counted_four128(x, (n / 16) as u32);
-    let sealed = seal_four128(s, a, b, c, d, e, f, g, h, keys, rounds, blocks);
+    let sealed = seal_four128(s, t, keys, rounds, blocks);
     add_four128(sealed, input, out);
 }

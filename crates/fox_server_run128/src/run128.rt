@@ -2,10 +2,11 @@
 ghost use mathlib.Core.Path.{_≡_};
 ghost use Prim.Native.Nat.{_+_, _≤_};
 ghost use lib.ListN.{length};
+ghost use Rattle.fox_layers.specs.Diffusion.{mu8Rows};
 ghost use Rattle.fox_rounds.specs.Skeleton.{numbered};
 ghost use Rattle.fox_rounds.specs.declared.state.State.the-variants.{Of128};
 ghost use Rattle.fox_lent.specs.Held.{held128};
-ghost use Rattle.fox_lent.specs.Lent.{Lent8};
+ghost use Rattle.fox_lent.specs.Lent.{Lent};
 ghost use Rattle.fox_cipher.specs.Block.{state128};
 ghost use Rattle.fox_run.specs.Run.{addedFrom};
 ghost use Rattle.fox_run.specs.States.{stream};
@@ -20,16 +21,9 @@ use fox_tables::joined8;
 use fox_tables::moved;
 
 // The block that the run's byte n is in, from that byte on.
-fn step128<'a>(
-    s: &'a [u32; 1024],
-    a: &'a [u64; 256],
-    b: &'a [u64; 256],
-    c: &'a [u64; 256],
-    d: &'a [u64; 256],
-    e: &'a [u64; 256],
-    f: &'a [u64; 256],
-    g: &'a [u64; 256],
-    h: &'a [u64; 256],
+fn step128(
+    s: &[u32; 1024],
+    t: &[u64; 2048],
     keys: &[u64; 510],
     rounds: usize,
     x: Fox128,
@@ -37,26 +31,19 @@ fn step128<'a>(
     input: &[u8],
     out: &mut [u8],
 ) -> usize
-    requires { ⌜ Lent8 (now s) (now a) (now b) (now c) (now d) (now e) (now f) (now g) (now h) ⌝ }
+    requires { ⌜ Lent mu8Rows (now s) (now t) ⌝ }
     requires { ⌜ (1 ≤ rounds) × (rounds ≤ 255) × (n ≤ 1073741824) × (length (now out) ≡ length (now input)) ⌝ }
     ensures { λ r. ⌜ Part (stream (numbered (held128 (now (keys .entry))) rounds 0) (Of128 x)) n (now (input .entry)) (now (out .entry)) (now (out .exit)) r ⌝ }
 {
     let block = counted128(x, (n / 16) as u32);
-    let sealed = turn128(true, s, a, b, c, d, e, f, g, h, keys, rounds, block);
+    let sealed = turn128(true, s, t, keys, rounds, block);
     add_part128(sealed, n % 16, input, out)
 }
 
 // Four whole blocks where byte n begins one and there are so many; else as far as its block goes.
-fn part128<'a>(
-    s: &'a [u32; 1024],
-    a: &'a [u64; 256],
-    b: &'a [u64; 256],
-    c: &'a [u64; 256],
-    d: &'a [u64; 256],
-    e: &'a [u64; 256],
-    f: &'a [u64; 256],
-    g: &'a [u64; 256],
-    h: &'a [u64; 256],
+fn part128(
+    s: &[u32; 1024],
+    t: &[u64; 2048],
     keys: &[u64; 510],
     rounds: usize,
     x: Fox128,
@@ -64,30 +51,23 @@ fn part128<'a>(
     input: &[u8],
     out: &mut [u8],
 ) -> usize
-    requires { ⌜ Lent8 (now s) (now a) (now b) (now c) (now d) (now e) (now f) (now g) (now h) ⌝ }
+    requires { ⌜ Lent mu8Rows (now s) (now t) ⌝ }
     requires { ⌜ (1 ≤ rounds) × (rounds ≤ 255) × (n + length (now input) ≤ 1073741824) × (length (now out) ≡ length (now input)) ⌝ }
     ensures { λ r. ⌜ Part (stream (numbered (held128 (now (keys .entry))) rounds 0) (Of128 x)) n (now (input .entry)) (now (out .entry)) (now (out .exit)) r ⌝ }
 {
     if input.len() >= 64 {
         if n % 16 == 0 {
-            four128(s, a, b, c, d, e, f, g, h, keys, rounds, x, n, input, out);
+            four128(s, t, keys, rounds, x, n, input, out);
             return 64;
         }
     }
-    step128(s, a, b, c, d, e, f, g, h, keys, rounds, x, n, input, out)
+    step128(s, t, keys, rounds, x, n, input, out)
 }
 
 // Part after part.
-fn lay128<'a>(
-    s: &'a [u32; 1024],
-    a: &'a [u64; 256],
-    b: &'a [u64; 256],
-    c: &'a [u64; 256],
-    d: &'a [u64; 256],
-    e: &'a [u64; 256],
-    f: &'a [u64; 256],
-    g: &'a [u64; 256],
-    h: &'a [u64; 256],
+fn lay128(
+    s: &[u32; 1024],
+    t: &[u64; 2048],
     keys: &[u64; 510],
     rounds: usize,
     x: Fox128,
@@ -95,29 +75,13 @@ fn lay128<'a>(
     input: &[u8],
     out: &mut [u8],
 )
-    requires { ⌜ Lent8 (now s) (now a) (now b) (now c) (now d) (now e) (now f) (now g) (now h) ⌝ }
+    requires { ⌜ Lent mu8Rows (now s) (now t) ⌝ }
     requires { ⌜ (1 ≤ rounds) × (rounds ≤ 255) × (n + length (now input) ≤ 1073741824) × (length (now out) ≡ length (now input)) ⌝ }
     ensures { λ _. ⌜ now (out .exit) ≡ addedFrom (stream (numbered (held128 (now (keys .entry))) rounds 0) (Of128 x)) n (now (input .entry)) ⌝ }
 {
     let mut at = 0;
     while at < input.len() {
-        let added = part128(
-            s,
-            a,
-            b,
-            c,
-            d,
-            e,
-            f,
-            g,
-            h,
-            keys,
-            rounds,
-            x,
-            n + at,
-            &input[at..],
-            &mut out[at..],
-        );
+        let added = part128(s, t, keys, rounds, x, n + at, &input[at..], &mut out[at..]);
         at = at + added;
     }
 }
@@ -133,19 +97,10 @@ pub fn run128(
     requires { ⌜ Ready 16 rounds (now counter) n (now input) (now out) ⌝ }
     ensures { λ _. ⌜ now (out .exit) ≡ addedFrom (stream (numbered (held128 (now (keys .entry))) rounds 0) (Of128 (state128 (now (counter .entry))))) n (now (input .entry)) ⌝ }
 {
-    let s = moved::tbs();
-    let t = joined8::tbsm();
     let x = read128(counter);
     lay128(
-        &s,
-        &t.a,
-        &t.b,
-        &t.c,
-        &t.d,
-        &t.e,
-        &t.f,
-        &t.g,
-        &t.h,
+        &moved::tbs(),
+        &joined8::tbsm(),
         keys,
         rounds,
         x,

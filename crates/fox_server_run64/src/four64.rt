@@ -4,10 +4,11 @@ ghost use mathlib.Core.List.{_++_};
 ghost use Prim.Native.Nat.{_+_, _%_, _≤_};
 ghost use lib.ListN.{length, drop};
 ghost use Rattle.fox_layers.specs.Words.{sum};
+ghost use Rattle.fox_layers.specs.Diffusion.{mu4Rows};
 ghost use Rattle.fox_rounds.specs.Skeleton.{numbered};
 ghost use Rattle.fox_rounds.specs.declared.state.State.the-variants.{Of64};
 ghost use Rattle.fox_lent.specs.Held.{held64};
-ghost use Rattle.fox_lent.specs.Lent.{Lent4};
+ghost use Rattle.fox_lent.specs.Lent.{Lent};
 ghost use Rattle.fox_cipher.specs.Block.{bytes64};
 ghost use Rattle.fox_run.specs.States.{counted64, stream};
 ghost use Rattle.fox_run.specs.Steps.{Laid};
@@ -50,12 +51,9 @@ fn counted_four64(x: Fox64, i: u32) -> Four64
 }
 
 // The four blocks from the run's byte n on, which begins a block.
-pub(crate) fn four64<'a>(
-    s: &'a [u32; 1024],
-    a: &'a [u32; 256],
-    b: &'a [u32; 256],
-    c: &'a [u32; 256],
-    d: &'a [u32; 256],
+pub(crate) fn four64(
+    s: &[u32; 1024],
+    t: &[u32; 1024],
     keys: &[u64; 510],
     rounds: usize,
     x: Fox64,
@@ -63,11 +61,11 @@ pub(crate) fn four64<'a>(
     input: &[u8],
     out: &mut [u8],
 )
-    requires { ⌜ Lent4 (now s) (now a) (now b) (now c) (now d) ⌝ }
+    requires { ⌜ Lent mu4Rows (now s) (now t) ⌝ }
     requires { ⌜ (1 ≤ rounds) × (rounds ≤ 255) × (n % 8 ≡ 0) × (n + 32 ≤ 1073741824) × (32 ≤ length (now input)) × (32 ≤ length (now out)) ⌝ }
     ensures { λ _. ⌜ Laid (stream (numbered (held64 (now (keys .entry))) rounds 0) (Of64 x)) n (now (input .entry)) (now (out .entry)) 32 (now (out .exit)) ⌝ }
 {
     let blocks = counted_four64(x, (n / 8) as u32);
-    let sealed = seal_four64(s, a, b, c, d, keys, rounds, blocks);
+    let sealed = seal_four64(s, t, keys, rounds, blocks);
     add_four64(sealed, input, out);
 }

@@ -2,10 +2,11 @@
 ghost use mathlib.Core.Path.{_≡_};
 ghost use Prim.Native.Nat.{_+_, _≤_};
 ghost use lib.ListN.{length};
+ghost use Rattle.fox_layers.specs.Diffusion.{mu4Rows};
 ghost use Rattle.fox_rounds.specs.Skeleton.{numbered};
 ghost use Rattle.fox_rounds.specs.declared.state.State.the-variants.{Of64};
 ghost use Rattle.fox_lent.specs.Held.{held64};
-ghost use Rattle.fox_lent.specs.Lent.{Lent4};
+ghost use Rattle.fox_lent.specs.Lent.{Lent};
 ghost use Rattle.fox_cipher.specs.Block.{state64};
 ghost use Rattle.fox_run.specs.Run.{addedFrom};
 ghost use Rattle.fox_run.specs.States.{stream};
@@ -20,12 +21,9 @@ use fox_tables::joined4;
 use fox_tables::moved;
 
 // The block that the run's byte n is in, from that byte on.
-fn step64<'a>(
-    s: &'a [u32; 1024],
-    a: &'a [u32; 256],
-    b: &'a [u32; 256],
-    c: &'a [u32; 256],
-    d: &'a [u32; 256],
+fn step64(
+    s: &[u32; 1024],
+    t: &[u32; 1024],
     keys: &[u64; 510],
     rounds: usize,
     x: Fox64,
@@ -33,22 +31,19 @@ fn step64<'a>(
     input: &[u8],
     out: &mut [u8],
 ) -> usize
-    requires { ⌜ Lent4 (now s) (now a) (now b) (now c) (now d) ⌝ }
+    requires { ⌜ Lent mu4Rows (now s) (now t) ⌝ }
     requires { ⌜ (1 ≤ rounds) × (rounds ≤ 255) × (n ≤ 1073741824) × (length (now out) ≡ length (now input)) ⌝ }
     ensures { λ r. ⌜ Part (stream (numbered (held64 (now (keys .entry))) rounds 0) (Of64 x)) n (now (input .entry)) (now (out .entry)) (now (out .exit)) r ⌝ }
 {
     let block = counted64(x, (n / 8) as u32);
-    let sealed = turn64(true, s, a, b, c, d, keys, rounds, block);
+    let sealed = turn64(true, s, t, keys, rounds, block);
     add_part64(sealed, n % 8, input, out)
 }
 
 // Four whole blocks where byte n begins one and there are so many; else as far as its block goes.
-fn part64<'a>(
-    s: &'a [u32; 1024],
-    a: &'a [u32; 256],
-    b: &'a [u32; 256],
-    c: &'a [u32; 256],
-    d: &'a [u32; 256],
+fn part64(
+    s: &[u32; 1024],
+    t: &[u32; 1024],
     keys: &[u64; 510],
     rounds: usize,
     x: Fox64,
@@ -56,26 +51,23 @@ fn part64<'a>(
     input: &[u8],
     out: &mut [u8],
 ) -> usize
-    requires { ⌜ Lent4 (now s) (now a) (now b) (now c) (now d) ⌝ }
+    requires { ⌜ Lent mu4Rows (now s) (now t) ⌝ }
     requires { ⌜ (1 ≤ rounds) × (rounds ≤ 255) × (n + length (now input) ≤ 1073741824) × (length (now out) ≡ length (now input)) ⌝ }
     ensures { λ r. ⌜ Part (stream (numbered (held64 (now (keys .entry))) rounds 0) (Of64 x)) n (now (input .entry)) (now (out .entry)) (now (out .exit)) r ⌝ }
 {
     if input.len() >= 32 {
         if n % 8 == 0 {
-            four64(s, a, b, c, d, keys, rounds, x, n, input, out);
+            four64(s, t, keys, rounds, x, n, input, out);
             return 32;
         }
     }
-    step64(s, a, b, c, d, keys, rounds, x, n, input, out)
+    step64(s, t, keys, rounds, x, n, input, out)
 }
 
 // Part after part.
-fn lay64<'a>(
-    s: &'a [u32; 1024],
-    a: &'a [u32; 256],
-    b: &'a [u32; 256],
-    c: &'a [u32; 256],
-    d: &'a [u32; 256],
+fn lay64(
+    s: &[u32; 1024],
+    t: &[u32; 1024],
     keys: &[u64; 510],
     rounds: usize,
     x: Fox64,
@@ -83,25 +75,13 @@ fn lay64<'a>(
     input: &[u8],
     out: &mut [u8],
 )
-    requires { ⌜ Lent4 (now s) (now a) (now b) (now c) (now d) ⌝ }
+    requires { ⌜ Lent mu4Rows (now s) (now t) ⌝ }
     requires { ⌜ (1 ≤ rounds) × (rounds ≤ 255) × (n + length (now input) ≤ 1073741824) × (length (now out) ≡ length (now input)) ⌝ }
     ensures { λ _. ⌜ now (out .exit) ≡ addedFrom (stream (numbered (held64 (now (keys .entry))) rounds 0) (Of64 x)) n (now (input .entry)) ⌝ }
 {
     let mut at = 0;
     while at < input.len() {
-        let added = part64(
-            s,
-            a,
-            b,
-            c,
-            d,
-            keys,
-            rounds,
-            x,
-            n + at,
-            &input[at..],
-            &mut out[at..],
-        );
+        let added = part64(s, t, keys, rounds, x, n + at, &input[at..], &mut out[at..]);
         at = at + added;
     }
 }
@@ -117,8 +97,15 @@ pub fn run64(
     requires { ⌜ Ready 8 rounds (now counter) n (now input) (now out) ⌝ }
     ensures { λ _. ⌜ now (out .exit) ≡ addedFrom (stream (numbered (held64 (now (keys .entry))) rounds 0) (Of64 (state64 (now (counter .entry))))) n (now (input .entry)) ⌝ }
 {
-    let s = moved::tbs();
-    let t = joined4::tbsm();
     let x = read64(counter);
-    lay64(&s, &t.a, &t.b, &t.c, &t.d, keys, rounds, x, n, input, out);
+    lay64(
+        &moved::tbs(),
+        &joined4::tbsm(),
+        keys,
+        rounds,
+        x,
+        n,
+        input,
+        out,
+    );
 }

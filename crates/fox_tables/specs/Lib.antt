@@ -1,2 +1,2 @@
 -- What the promises of fox_tables cite besides the definitions of fox_layers.
-pub mod Structs
+pub mod Filled

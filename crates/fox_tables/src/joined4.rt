@@ -1,5 +1,9 @@
-// The joined tables of mu4 as constants (001 §4.2.2): table number j holds, at each byte, column j of the matrix times the box's value.
-ghost use Rattle.fox_tables.specs.Structs.{Joined4};
+// The joined tables of mu4 (001 §4.2.2), made from four constants: table number j holds, at each byte, column j of the matrix times the box's value.
+ghost use mathlib.Core.Path.{_≡_};
+ghost use Prim.Native.Nat.{_+_, _<_};
+ghost use Rattle.fox_layers.specs.Diffusion.{mu4Rows};
+ghost use Rattle.fox_layers.specs.Tables.{table, boxed, TBSM};
+ghost use Rattle.fox_tables.specs.Filled.{Begun};
 
 const TBSM0: [u32; 256] = [
     0x5d5d_8fba,
@@ -1037,21 +1041,39 @@ const TBSM3: [u32; 256] = [
     0xc261_6161,
 ];
 
-// Table number 0 is a, number 1 is b, and so on.
-pub struct Tables4 {
-    pub a: [u32; 256],
-    pub b: [u32; 256],
-    pub c: [u32; 256],
-    pub d: [u32; 256],
+// Table number j.
+fn constant(j: usize) -> [u32; 256]
+    requires { ⌜ j < 4 ⌝ }
+    ensures { λ r. ⌜ r ≡ table (boxed mu4Rows j) ⌝ }
+{
+    match j {
+        0 => TBSM0,
+        1 => TBSM1,
+        2 => TBSM2,
+        _ => TBSM3,
+    }
 }
 
-pub fn tbsm() -> Tables4
-    ensures { λ r. ⌜ Joined4 r ⌝ }
+// Sets table number j in its place, behind those before it.
+fn lay(t: &mut [u32; 1024], j: usize)
+    requires { ⌜ j < 4 ⌝ }
+    requires { ⌜ Begun (TBSM mu4Rows) j (now t) ⌝ }
+    ensures { λ _. ⌜ Begun (TBSM mu4Rows) (j + 1) (now (t .exit)) ⌝ }
 {
-    Tables4 {
-        a: TBSM0,
-        b: TBSM1,
-        c: TBSM2,
-        d: TBSM3,
+    let a = constant(j);
+    for x in 0..256 {
+        t[j * 256 + x] = a[x];
     }
+}
+
+// The tables, one after the other.
+pub fn tbsm() -> [u32; 1024]
+    ensures { λ r. ⌜ r ≡ TBSM mu4Rows ⌝ }
+{
+    let mut t = [0; 1024];
+    lay(&mut t, 0);
+    lay(&mut t, 1);
+    lay(&mut t, 2);
+    lay(&mut t, 3);
+    t
 }

@@ -1,5 +1,9 @@
-// The joined tables of mu8 as constants (001 §4.2.2): table number j holds, at each byte, column j of the matrix times the box's value.
-ghost use Rattle.fox_tables.specs.Structs.{Joined8};
+// The joined tables of mu8 (001 §4.2.2), made from eight constants: table number j holds, at each byte, column j of the matrix times the box's value.
+ghost use mathlib.Core.Path.{_≡_};
+ghost use Prim.Native.Nat.{_+_, _<_};
+ghost use Rattle.fox_layers.specs.Diffusion.{mu8Rows};
+ghost use Rattle.fox_layers.specs.Tables.{table, boxed, TBSM};
+ghost use Rattle.fox_tables.specs.Filled.{Begun};
 
 const TBSM0: [u64; 256] = [
     0x5d5d_e7bb_ba8d_d269,
@@ -2073,29 +2077,47 @@ const TBSM7: [u64; 256] = [
     0xa361_6161_6161_6161,
 ];
 
-// Table number 0 is a, number 1 is b, and so on.
-pub struct Tables8 {
-    pub a: [u64; 256],
-    pub b: [u64; 256],
-    pub c: [u64; 256],
-    pub d: [u64; 256],
-    pub e: [u64; 256],
-    pub f: [u64; 256],
-    pub g: [u64; 256],
-    pub h: [u64; 256],
+// Table number j.
+fn constant(j: usize) -> [u64; 256]
+    requires { ⌜ j < 8 ⌝ }
+    ensures { λ r. ⌜ r ≡ table (boxed mu8Rows j) ⌝ }
+{
+    match j {
+        0 => TBSM0,
+        1 => TBSM1,
+        2 => TBSM2,
+        3 => TBSM3,
+        4 => TBSM4,
+        5 => TBSM5,
+        6 => TBSM6,
+        _ => TBSM7,
+    }
 }
 
-pub fn tbsm() -> Tables8
-    ensures { λ r. ⌜ Joined8 r ⌝ }
+// Sets table number j in its place, behind those before it.
+fn lay(t: &mut [u64; 2048], j: usize)
+    requires { ⌜ j < 8 ⌝ }
+    requires { ⌜ Begun (TBSM mu8Rows) j (now t) ⌝ }
+    ensures { λ _. ⌜ Begun (TBSM mu8Rows) (j + 1) (now (t .exit)) ⌝ }
 {
-    Tables8 {
-        a: TBSM0,
-        b: TBSM1,
-        c: TBSM2,
-        d: TBSM3,
-        e: TBSM4,
-        f: TBSM5,
-        g: TBSM6,
-        h: TBSM7,
+    let a = constant(j);
+    for x in 0..256 {
+        t[j * 256 + x] = a[x];
     }
+}
+
+// The tables, one after the other.
+pub fn tbsm() -> [u64; 2048]
+    ensures { λ r. ⌜ r ≡ TBSM mu8Rows ⌝ }
+{
+    let mut t = [0; 2048];
+    lay(&mut t, 0);
+    lay(&mut t, 1);
+    lay(&mut t, 2);
+    lay(&mut t, 3);
+    lay(&mut t, 4);
+    lay(&mut t, 5);
+    lay(&mut t, 6);
+    lay(&mut t, 7);
+    t
 }

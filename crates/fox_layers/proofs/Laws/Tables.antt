@@ -1,5 +1,5 @@
--- What look-ups give where the lent arrays are the tables: the moved boxes' entries, added, substitute, since each has a byte of its own; and the joined tables'
--- entries, added, substitute and diffuse, since their sum is the sum of the matrix's columns.
+-- What look-ups give where the lent array holds the tables: the moved boxes' entries, added, substitute, since each has a byte of its own; and the joined
+-- tables' entries, added, substitute and diffuse, since their sum is the sum of the matrix's columns.
 -- Assumes nothing.
 use mathlib.Core.Path.{_≡_, refl, sym, ap, _∙_}
 use mathlib.Core.List.{List, [], _∷_, map}
@@ -12,7 +12,7 @@ use Rattle.fox_layers.specs.Words.{_⊕_, joined, split, Bytes, sum, sum
 use Rattle.fox_layers.specs.Field.{product}
 use Rattle.fox_layers.specs.Substitution.{S₁, S₂, S₃, halves, whole, or4, lmid4, lmor4, sbox, sigma}
 use Rattle.fox_layers.specs.Diffusion.{times, diffused, mu4Rows, mu8Rows, mu4, mu8}
-use Rattle.fox_layers.specs.Tables.{table, box, column, scaled, TBSM, TBS, listed, picked, gathered}
+use Rattle.fox_layers.specs.Tables.{listed, table, box, tables, TBS, column, scaled, boxed, TBSM, picked}
 use Rattle.fox_layers.proofs.Laws.Words.{length-split, split-bytes, split-above, split-joined, joined-sum, joined-lt, map-bytes}
 use Rattle.fox_layers.proofs.Laws.Field.{product-lt}
 use Rattle.fox_layers.proofs.Laws.Bytewise.{below, listed-at, length-listed, table-at}
@@ -34,47 +34,73 @@ split-sigma n w =
     let same : length (map sbox (split n w)) ≡ n = simp (length-map, length-split) in
     rw same at (split-joined (map sbox (split n w)) (map-sbox-bytes (split n w) (split-bytes n w)))
 
--- the entries of the TBS tables
-pub TBS-entry : (n i : ℕ) → i < n * 256 → getD (TBS n) i 0 ≡ sbox (i % 256) * 2 ^ (8 * (n - 1 - i / 256))
-unfolding TBS
-TBS-entry n i h = listed-at _ (n * 256) 0 i h ∙ ap (λ (k : ℕ). sbox (k % 256) * 2 ^ (8 * (n - 1 - k / 256))) (zero-add i)
+-- the entries of tables that stand one after the other
+tables-entry : (f : ℕ → ℕ → ℕ) (n i : ℕ) → i < n * 256 → getD (tables f n) i 0 ≡ f (i / 256) (i % 256)
+unfolding tables
+tables-entry f n i h = listed-at _ (n * 256) 0 i h ∙ ap (λ (k : ℕ). f (k / 256) (k % 256)) (zero-add i)
 
-TBS-at : (n j x : ℕ) → j < n → x < 256 → getD (TBS n) (j * 256 + x) 0 ≡ sbox x * 2 ^ (8 * (n - 1 - j))
-TBS-at n j x h l =
+tables-at : (f : ℕ → ℕ → ℕ) (n j x : ℕ) → j < n → x < 256 → getD (tables f n) (j * 256 + x) 0 ≡ f j x
+tables-at f n j x h l =
     let place : (j * 256 + x) / 256 ≡ j = omega arith in
     let byte : (j * 256 + x) % 256 ≡ x = omega arith in
-    rw (TBS-entry n (j * 256 + x) (omega arith), place, byte)
+    rw (tables-entry f n (j * 256 + x) (omega arith), place, byte)
+
+length-tables : (f : ℕ → ℕ → ℕ) (n : ℕ) → length (tables f n) ≡ n * 256
+unfolding tables
+length-tables f n = length-listed _ (n * 256) 0
+
+pub TBS-entry : (n i : ℕ) → i < n * 256 → getD (TBS n) i 0 ≡ sbox (i % 256) * 2 ^ (8 * (n - 1 - i / 256))
+unfolding TBS
+TBS-entry n i h = tables-entry _ n i h
 
 pub length-TBS : (n : ℕ) → length (TBS n) ≡ n * 256
 unfolding TBS
-length-TBS n = length-listed _ (n * 256) 0
+length-TBS n = length-tables _ n
+
+pub TBSM-at : (rows : List (List ℕ)) (j x : ℕ) → j < length rows → x < 256 → getD (TBSM rows) (j * 256 + x) 0 ≡ boxed rows j x
+unfolding TBSM
+TBSM-at rows j x h l = tables-at (boxed rows) (length rows) j x h l
+
+pub length-TBSM : (rows : List (List ℕ)) → length (TBSM rows) ≡ length rows * 256
+unfolding TBSM
+length-TBSM rows = length-tables (boxed rows) (length rows)
 
 pub box-entry : (x : ℕ) → x < 256 → getD box x 0 ≡ sbox x
 unfolding box
 box-entry x h = table-at sbox x h
 
--- numbers from j on
-unfoldable pub from : ℕ → ℕ → List ℕ
-from zero j = []
-from (suc n) j = j ∷ from n (suc j)
+-- n numbers from j on
+abbrev from : ℕ → ℕ → List ℕ
+from n j = listed (λ (i : ℕ). i) n j
 
-picked-from : (n j : ℕ) (xs : List ℕ) → Bytes xs → j + length xs ≡ n → picked (TBS n) (from (length xs) j) xs ≡ joined (map sbox xs)
-unfolding picked summed joined from
-picked-from n j [] h e = refl
-picked-from n j (x ∷ xs) h e =
+-- what bytes pick from tables is the sum of what these have, from table number j on
+picked-from : (f : ℕ → ℕ → ℕ) (n j : ℕ) (xs : List ℕ) → Bytes xs → j + length xs ≡ n
+    → summed (λ (j x : ℕ). getD (tables f n) (j * 256 + x) 0) (from (length xs) j) xs ≡ summed f (from (length xs) j) xs
+unfolding summed listed
+picked-from f n j [] h e = refl
+picked-from f n j (x ∷ xs) h e = rw (tables-at f n j x (omega arith) (h 0), picked-from f n (suc j) xs (λ i. h (suc i)) (omega arith))
+
+picked-tables : (f : ℕ → ℕ → ℕ) (n w : ℕ) → picked n (tables f n) w ≡ summed f (from n 0) (split n w)
+unfolding picked
+picked-tables f n w =
+    rw (length-split n w) at (picked-from f n 0 (split n w) (split-bytes n w) (zero-add (length (split n w)) ∙ length-split n w))
+
+-- boxes moved to bytes of their own
+moved-joined : (n j : ℕ) (xs : List ℕ) → Bytes xs → j + length xs ≡ n
+    → summed (λ (j x : ℕ). sbox x * 2 ^ (8 * (n - 1 - j))) (from (length xs) j) xs ≡ joined (map sbox xs)
+unfolding summed listed joined
+moved-joined n j [] h e = refl
+moved-joined n j (x ∷ xs) h e =
     let left : n - 1 - j ≡ length (map sbox xs) = omega (arith, length-map xs sbox) in
-    rw (TBS-at n j x (omega arith) (h 0), left, picked-from n (suc j) xs (λ i. h (suc i)) (omega arith))
+    rw (left, moved-joined n (suc j) xs (λ i. h (suc i)) (omega arith))
     (xor-shifted (sbox x) (8 * length (map sbox xs)) (joined (map sbox xs)) (joined-lt (map sbox xs) (map-sbox-bytes xs (λ i. h (suc i)))))
 
 -- the lent list is the TBS tables: substitution
-pub picked-TBS : (n w : ℕ) → picked (TBS n) (from n 0) (split n w) ≡ sigma n w
-unfolding sigma
+pub picked-TBS : (n w : ℕ) → picked n (TBS n) w ≡ sigma n w
+unfolding TBS sigma
 picked-TBS n w =
-    rw (length-split n w) at (picked-from n 0 (split n w) (split-bytes n w) (zero-add (length (split n w)) ∙ length-split n w))
-
-pub picked-4 : (w : ℕ) → picked (TBS 4) (0 ∷ 1 ∷ 2 ∷ 3 ∷ []) (split 4 w) ≡ sigma 4 w
-unfolding from
-picked-4 w = picked-TBS 4 w
+    picked-tables _ n w
+    ∙ rw (length-split n w) at (moved-joined n 0 (split n w) (split-bytes n w) (zero-add (length (split n w)) ∙ length-split n w))
 
 -- substitution of a word in two halves
 low-half : (w : ℕ) → sigma 4 (w % 2 ^ 32) ≡ sigma 4 w
@@ -92,46 +118,39 @@ both-halves w =
 pub sigma-halves : (w : ℕ) → sigma 4 (w / 2 ^ 32) * 2 ^ 32 + sigma 4 (w % 2 ^ 32) ≡ sigma 8 w
 sigma-halves w = rw (low-half w) (both-halves w)
 
--- the n joined tables of a matrix from number j on
-unfoldable pub TBSMs : List (List ℕ) → ℕ → ℕ → List (List ℕ)
-TBSMs rows zero j = []
-TBSMs rows (suc n) j = TBSM rows j ∷ TBSMs rows n (suc j)
-
 joined-zeros : (rows : List (List ℕ)) → joined (map (λ (row : List ℕ). 0) rows) ≡ 0
 unfolding joined
 joined-zeros [] = refl
 joined-zeros (row ∷ rows) = omega (arith, joined-zeros rows)
 
-gathered-columns : (rows : List (List ℕ)) (j : ℕ) (xs : List ℕ) → Bytes xs
-    → gathered (TBSMs rows (length xs) j) xs ≡ joined (columns rows j (map sbox xs))
-unfolding gathered summed TBSMs TBSM scaled column columns
-gathered-columns rows j [] h = sym (joined-zeros rows)
-gathered-columns rows j (x ∷ xs) h =
+boxed-columns : (rows : List (List ℕ)) (j : ℕ) (xs : List ℕ) → Bytes xs
+    → summed (boxed rows) (from (length xs) j) xs ≡ joined (columns rows j (map sbox xs))
+unfolding summed listed boxed scaled column columns
+boxed-columns rows j [] h = sym (joined-zeros rows)
+boxed-columns rows j (x ∷ xs) h =
     let ms = multiple (column j rows) (sbox x) in
     let rest = columns rows (suc j) (map sbox xs) in
     let same : length ms ≡ length rest = simp (length-map, length-columns) in
     let bytes = map-bytes (λ (m : ℕ). product m (sbox x)) (λ m. product-lt m (sbox x) (sbox-lt x (h 0))) (column j rows) in
     let more = columns-bytes rows (suc j) (map sbox xs) (map-sbox-bytes xs (λ i. h (suc i))) in
-    rw (table-at (λ (x : ℕ). scaled (column j rows) (sbox x)) x (h 0), gathered-columns rows (suc j) xs (λ i. h (suc i)), joined-sum ms rest bytes more same)
+    rw (boxed-columns rows (suc j) xs (λ i. h (suc i)), joined-sum ms rest bytes more same)
 
--- the lent tables are a matrix's joined tables: substitution, then diffusion
-pub gathered-diffused : (rows : List (List ℕ)) → Wide (length rows) rows → (w : ℕ)
-    → gathered (TBSMs rows (length rows) 0) (split (length rows) w) ≡ diffused rows (sigma (length rows) w)
-unfolding diffused
-gathered-diffused rows wide w =
+-- the lent list is a matrix's TBSM tables: substitution, then diffusion
+pub picked-TBSM : (rows : List (List ℕ)) → Wide (length rows) rows → (w : ℕ)
+    → picked (length rows) (TBSM rows) w ≡ diffused rows (sigma (length rows) w)
+unfolding TBSM diffused
+picked-TBSM rows wide w =
     let n = length rows in
     let bs = split n w in
     let many : length (map sbox bs) ≡ n = simp (length-map, length-split) in
-    rw (split-sigma n w, times-columns rows n (map sbox bs) wide many)
-    (rw (length-split n w) at (gathered-columns rows 0 bs (split-bytes n w)))
+    picked-tables (boxed rows) n w
+    ∙ rw (split-sigma n w, times-columns rows n (map sbox bs) wide many)
+    (rw (length-split n w) at (boxed-columns rows 0 bs (split-bytes n w)))
 
-pub gathered-mu4 : (w : ℕ)
-    → gathered (TBSM mu4Rows 0 ∷ TBSM mu4Rows 1 ∷ TBSM mu4Rows 2 ∷ TBSM mu4Rows 3 ∷ []) (split 4 w) ≡ mu4 (sigma 4 w)
-unfolding mu4 mu4Rows TBSMs
-gathered-mu4 w = gathered-diffused mu4Rows (refl, (refl, (refl, (refl, tt)))) w
+pub picked-mu4 : (w : ℕ) → picked 4 (TBSM mu4Rows) w ≡ mu4 (sigma 4 w)
+unfolding mu4 mu4Rows
+picked-mu4 w = picked-TBSM mu4Rows (refl, (refl, (refl, (refl, tt)))) w
 
-pub gathered-mu8 : (w : ℕ)
-    → gathered (TBSM mu8Rows 0 ∷ TBSM mu8Rows 1 ∷ TBSM mu8Rows 2 ∷ TBSM mu8Rows 3
-    ∷ TBSM mu8Rows 4 ∷ TBSM mu8Rows 5 ∷ TBSM mu8Rows 6 ∷ TBSM mu8Rows 7 ∷ []) (split 8 w) ≡ mu8 (sigma 8 w)
-unfolding mu8 mu8Rows TBSMs
-gathered-mu8 w = gathered-diffused mu8Rows (refl, (refl, (refl, (refl, (refl, (refl, (refl, (refl, tt)))))))) w
+pub picked-mu8 : (w : ℕ) → picked 8 (TBSM mu8Rows) w ≡ mu8 (sigma 8 w)
+unfolding mu8 mu8Rows
+picked-mu8 w = picked-TBSM mu8Rows (refl, (refl, (refl, (refl, (refl, (refl, (refl, (refl, tt)))))))) w

@@ -24,15 +24,12 @@ loop-holds c = (search needs, refl)
 
 turn128-requires : tie.Need-turn128-requires Inv-loop μ-loop
 turn128-requires c κs =
-    let tables = c .before .before .before .before .before .before .before .before .before .before .before .before .before in
-    let t = tables .tbsm .ensures in (
-      record { s = tables .before .tbs .ensures; a = t .a; b = t .b; c = t .c; d = t .d; e = t .e; f = t .f; g = t .g; h = t .h },
-      (search needs, search needs),
-    )
+    let tables = c .before .before .before .before .before in
+    (record { s = tables .before .tbs .ensures; t = tables .tbsm .ensures }, (search needs, search needs))
 
 loop-again : tie.Need-loop-again Inv-loop μ-loop
 loop-again c =
-    let turn = c .before .before .before .before .before .before .before .before .before .before .before in
+    let turn = c .before .before .before in
     let at = turn .before in
     let start = at .before .before .before .before in
     let ks = numbered (held128 (start .args .keys .now)) 16 0 in

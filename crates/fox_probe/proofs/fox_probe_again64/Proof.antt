@@ -24,13 +24,12 @@ loop-holds c = (search needs, refl)
 
 turn64-requires : tie.Need-turn64-requires Inv-loop μ-loop
 turn64-requires c κs =
-    let tables = c .before .before .before .before .before .before .before .before .before in
-    let t = tables .tbsm .ensures in
-    (record { s = tables .before .tbs .ensures; a = t .a; b = t .b; c = t .c; d = t .d }, (search needs, search needs))
+    let tables = c .before .before .before .before .before in
+    (record { s = tables .before .tbs .ensures; t = tables .tbsm .ensures }, (search needs, search needs))
 
 loop-again : tie.Need-loop-again Inv-loop μ-loop
 loop-again c =
-    let turn = c .before .before .before .before .before .before .before in
+    let turn = c .before .before .before in
     let at = turn .before in
     let start = at .before .before .before .before in
     let ks = numbered (held64 (start .args .keys .now)) 16 0 in

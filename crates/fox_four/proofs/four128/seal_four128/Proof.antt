@@ -13,11 +13,11 @@ use Rattle.fox_four.proofs.four128.seal_four128.Statement.{statement}
 use Rattle.fox_four.proofs.four128.seal_four128.Tie as tie
 
 abbrev Inv-loop : tie.InvT-loop
-Inv-loop s a b c d e f g h keys rounds last y₀ i₀ y i =
+Inv-loop s t keys rounds last y₀ i₀ y i =
     (i ≤ last) × Going elmidFour128 orFour128 (held128 keys) last y₀ i y
 
 abbrev μ-loop : tie.MeasureT-loop
-μ-loop s a b c d e f g h keys rounds last y₀ i₀ y i = last - i
+μ-loop s t keys rounds last y₀ i₀ y i = last - i
 
 loop-holds : tie.Need-loop-holds Inv-loop μ-loop
 loop-holds c =

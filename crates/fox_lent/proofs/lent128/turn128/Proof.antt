@@ -14,11 +14,11 @@ use Rattle.fox_lent.proofs.lent128.turn128.Statement.{statement}
 use Rattle.fox_lent.proofs.lent128.turn128.Tie as tie
 
 abbrev Inv-loop : tie.InvT-loop
-Inv-loop sealing s a b c d e f g h keys rounds last y₀ i₀ y i =
+Inv-loop sealing s t keys rounds last y₀ i₀ y i =
     (i ≤ last) × Turning sealing (held128 keys) rounds (Of128 y₀) i (Of128 y)
 
 abbrev μ-loop : tie.MeasureT-loop
-μ-loop sealing s a b c d e f g h keys rounds last y₀ i₀ y i = last - i
+μ-loop sealing s t keys rounds last y₀ i₀ y i = last - i
 
 loop-holds : tie.Need-loop-holds Inv-loop μ-loop
 loop-holds c =

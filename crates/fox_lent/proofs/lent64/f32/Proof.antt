@@ -17,8 +17,8 @@ returns c =
     let c1 = c .before in
     let c2 = c1 .before in
     let rk = c2 .args .rk in
-    f-made 4 mu4 (c2 .args .x) rk (left-div 32 rk (c2 .fits .rk .fits)) refl (c1 .sigma-mu4 .ensures ∙ lent-mu4 (c2 .pre) _)
-    (c .sigma4 .ensures ∙ lent-sigma4 (c2 .pre) _)
+    f-made 4 mu4 (c2 .args .x) rk (left-div 32 rk (c2 .fits .rk .fits)) refl (c1 .pick4 .ensures ∙ lent-mu4 (c2 .pre) _)
+    (c .pick42 .ensures ∙ lent-sigma4 (c2 .pre) _)
 
 pub f32-spec : {M : Type 1} → statement M
 f32-spec = tie.close (tie.spec (λ c. search needs) (λ c. search needs) (λ c κs. search needs) (λ c κs. search needs) returns)

@@ -14,11 +14,11 @@ use Rattle.fox_lent.proofs.lent64.turn64.Statement.{statement}
 use Rattle.fox_lent.proofs.lent64.turn64.Tie as tie
 
 abbrev Inv-loop : tie.InvT-loop
-Inv-loop sealing s a b c d keys rounds last y₀ i₀ y i =
+Inv-loop sealing s t keys rounds last y₀ i₀ y i =
     (i ≤ last) × Turning sealing (held64 keys) rounds (Of64 y₀) i (Of64 y)
 
 abbrev μ-loop : tie.MeasureT-loop
-μ-loop sealing s a b c d keys rounds last y₀ i₀ y i = last - i
+μ-loop sealing s t keys rounds last y₀ i₀ y i = last - i
 
 loop-holds : tie.Need-loop-holds Inv-loop μ-loop
 loop-holds c =

@@ -15,8 +15,8 @@ unfolding bytes
 returns c =
     let w = c .before .before in
     let s = w .before .before in
-    let r = s .before .before .before .before .before .before .before .before .before .before .before in
-    let a = r .before .before .before .before .before .args in
+    let r = s .before .before .before .before .before in
+    let a = r .before .before .before .args in
     w .write128 .ensures
     ∙ ap bytes (s .turn128 .ensures ∙ ap (λ (x : Fox128). turned (a .sealing) (numbered (held128 (a .keys .now)) (a .rounds) 0) (Of128 x)) (r .read128 .ensures))
 

@@ -15,8 +15,8 @@ unfolding bytes
 returns c =
     let w = c .before .before in
     let s = w .before .before in
-    let r = s .before .before .before .before .before .before .before in
-    let a = r .before .before .before .before .before .args in
+    let r = s .before .before .before .before .before in
+    let a = r .before .before .before .args in
     w .write64 .ensures
     ∙ ap bytes (s .turn64 .ensures ∙ ap (λ (x : Fox64). turned (a .sealing) (numbered (held64 (a .keys .now)) (a .rounds) 0) (Of64 x)) (r .read64 .ensures))
 

@@ -14,8 +14,8 @@ use Rattle.fox_server_run128.proofs.run128.run128.Tie as tie
 returns : tie.Need-returns
 returns c =
     let laid = c .before .before in
-    let x = laid .before .before .before .before .before .before .before .before .before .before .before .before in
-    let a = x .before .before .before .before .before .before .args in
+    let x = laid .before .before .before .before .before .before in
+    let a = x .before .before .before .before .args in
     laid .lay128 .ensures
     ∙ ap (λ (y : Fox128). addedFrom (stream (numbered (held128 (a .keys .now)) (a .rounds) 0) (Of128 y)) (a .n) (a .input .now)) (x .read128 .ensures)
 

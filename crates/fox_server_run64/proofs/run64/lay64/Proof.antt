@@ -17,11 +17,11 @@ use Rattle.fox_server_run64.proofs.run64.lay64.Statement.{statement}
 use Rattle.fox_server_run64.proofs.run64.lay64.Tie as tie
 
 abbrev Inv-loop : tie.InvT-loop
-Inv-loop s a b c d keys rounds x n input out₀ at₀ out at =
+Inv-loop s t keys rounds x n input out₀ at₀ out at =
     (at ≤ length input) × (length out ≡ length input) × Laid (stream (numbered (held64 keys) rounds 0) (Of64 x)) n input out₀ at out
 
 abbrev μ-loop : tie.MeasureT-loop
-μ-loop s a b c d keys rounds x n input out₀ at₀ out at = length input - at
+μ-loop s t keys rounds x n input out₀ at₀ out at = length input - at
 
 loop-holds : tie.Need-loop-holds Inv-loop μ-loop
 loop-holds c =

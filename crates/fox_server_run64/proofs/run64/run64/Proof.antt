@@ -14,8 +14,8 @@ use Rattle.fox_server_run64.proofs.run64.run64.Tie as tie
 returns : tie.Need-returns
 returns c =
     let laid = c .before .before in
-    let x = laid .before .before .before .before .before .before .before .before in
-    let a = x .before .before .before .before .before .before .args in
+    let x = laid .before .before .before .before .before .before in
+    let a = x .before .before .before .before .args in
     laid .lay64 .ensures
     ∙ ap (λ (y : Fox64). addedFrom (stream (numbered (held64 (a .keys .now)) (a .rounds) 0) (Of64 y)) (a .n) (a .input .now)) (x .read64 .ensures)
 

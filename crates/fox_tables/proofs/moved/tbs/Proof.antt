@@ -1,24 +1,16 @@
 -- `moved::tbs` meets its contract: whenever the loop's test is reached, the first i entries are those of the TBS tables.
 -- Assumes nothing.
-use mathlib.Core.Path.{_≡_, refl, _∙_}
-use mathlib.Core.List.{List}
-use Prim.Native.Nat.{ℕ, _+_, _-_, _%_, _≤_, _<_}
+use mathlib.Core.Path.{_≡_, refl, sym, _∙_}
+use Prim.Native.Nat.{_-_, _%_, _≤_, _<_}
 use native.Mathlib.Nat.{div-add-mod'}
-use native.Mathlib.Numerals.{add-one}
 use native.Mathlib.Omega.{arith}
-use lib.ListN.{length, take, getD, set, length-set}
-use lib.Seq.{take-suc, take-suc-set, take-all}
+use lib.ListN.{length, take, getD, length-set}
 use borrow.Author.Needs.{needs}
 use Rattle.fox_layers.specs.Tables.{TBS}
 use Rattle.fox_layers.proofs.Laws.Tables.{TBS-entry, length-TBS, box-entry}
+use Rattle.fox_tables.proofs.Laws.Filled.{entered, filled}
 use Rattle.fox_tables.proofs.moved.tbs.Statement.{statement}
 use Rattle.fox_tables.proofs.moved.tbs.Tie as tie
-
--- one entry more
-entered : (t : List ℕ) (i v : ℕ) → i < 1024 → length t ≡ 1024 → v ≡ getD (TBS 4) i 0 → take i t ≡ take i (TBS 4)
-    → take (i + 1) (set t i v) ≡ take (i + 1) (TBS 4)
-entered t i v h l e same =
-    rw (add-one, take-suc-set t i v (omega arith), take-suc (TBS 4) i 0 (omega (arith, length-TBS 4)), same, e)
 
 abbrev Inv-loop : tie.InvT-loop
 Inv-loop s t₀ i₀ t i = (i ≤ 1024) × (length t ≡ 1024) × (take i t ≡ take i (TBS 4))
@@ -36,14 +28,14 @@ loop-again c =
     let inv = at .loop .inv in
     let here : i < 1024 = search needs in
     let value : c .placed .result ≡ getD (TBS 4) i 0 = cc (box-entry (i % 256) (omega arith), TBS-entry 4 i here) in
-    (search needs, length-set (at .loop .t) i _ ∙ inv .1, entered (at .loop .t) i _ here (inv .1) value (inv .2))
+    (search needs, length-set (at .loop .t) i _ ∙ inv .1, entered (TBS 4) (at .loop .t) i _ (omega (arith, length-TBS 4)) (inv .1 ∙ sym (length-TBS 4)) value (inv .2))
 
 returns : tie.Need-returns Inv-loop μ-loop
 returns c =
     let at = c .before in
     let inv = at .loop .inv in
     let done : 1024 ≤ at .loop .i = search needs in
-    cc (take-all (at .loop .i) (at .loop .t) (omega (arith, inv .1)), take-all (at .loop .i) (TBS 4) (omega (arith, length-TBS 4)))
+    filled (TBS 4) (at .loop .t) (at .loop .i) (omega (arith, length-TBS 4)) (inv .1 ∙ sym (length-TBS 4)) (inv .2)
 
 pub tbs-spec : {M : Type 1} → statement M
 tbs-spec =
