@@ -16,6 +16,11 @@ unfoldable pub refusalOf : List Refusal → ℕ
 refusalOf [] = 0
 refusalOf (x ∷ xs) = cond (x .applies) (x .number) (refusalOf xs)
 
+-- n is the number of the first refusal of a list that applies
+pub data First (n : ℕ) : List Refusal → Type 0 where
+  here : {x : Refusal} {xs : List Refusal} → x .applies ≡ true → x .number ≡ n → First n (x ∷ xs)
+  later : {x : Refusal} {xs : List Refusal} → x .applies ≡ false → First n xs → First n (x ∷ xs)
+
 -- the two forms that most tests have: a number is above a limit, and two numbers differ
 abbrev pub above : ℕ → ℕ → Bool
 above limit n = ltb limit n

@@ -1,4 +1,4 @@
--- Counting starts at the counter block that is given, and no counter block of a run comes twice: within a run fewer than 2 ^ 32 blocks are counted, so the lowest 32 bits, which count, do not come round.
+-- Counting starts at the counter block that is given, its lowest 32 bits count and the others stay, and no counter block of a run comes twice: within a run fewer than 2 ^ 32 blocks are counted, so the lowest 32 bits, which count, do not come round.
 -- Assumes nothing.
 use mathlib.Core.Path.{_≡_, refl, sym, ap, _∙_}
 use mathlib.Core.Logic.{⊎-elim}
@@ -7,20 +7,29 @@ use Prim.Native.Nat.{ℕ, _+_, _*_, _-_, _/_, _%_, _^_, _≤_, _<_}
 use native.Mathlib.Nat.{add-zero, mod-lt, mod-eq-of-lt, zero-lt-suc, div-mul-le-self, mul-le-mul-left, eq-zero-or-pos}
 use native.Mathlib.Omega.{arith}
 use lib.ListN.{length, take, drop, length-drop, take-append-drop}
-use lib.Seq.{length-take-le, drop-at}
+use lib.Seq.{length-take-le, take-append-seam, drop-at}
 use Rattle.fox_layers.specs.Words.{joined, split, Bytes}
 use Rattle.fox_layers.proofs.Laws.Words.{joined-lt, joined-split, split-joined, drop-bytes}
 use Rattle.fox_calls.specs.Refusals.{blockSize}
 use Rattle.fox_cipher.proofs.Laws.Block.{by-cipher, size-64, size-128}
 use Rattle.fox_run.specs.Counter.{counterBlock}
 
--- the number that counts, read back from a counter block
-counting : (counter : List ℕ) (i : ℕ)
+-- the lowest 32 bits count and wrap
+pub counting : (counter : List ℕ) (i : ℕ)
     → joined (drop (length counter - 4) (counterBlock counter i)) ≡ (joined (drop (length counter - 4) counter) + i) % 2 ^ 32
 unfolding counterBlock
 counting counter i =
     let kept = length counter - 4 in
     ap joined (drop-at (take kept counter) _ kept (length-take-le kept counter (omega arith))) ∙ joined-split 4 _ (mod-lt _ (zero-lt-suc 4294967295))
+
+-- the others stay
+pub staying : (counter : List ℕ) (i : ℕ) → take (length counter - 4) (counterBlock counter i) ≡ take (length counter - 4) counter
+unfolding counterBlock
+staying counter i =
+    let kept = length counter - 4 in
+    let front = take kept counter in
+    let low = split 4 ((joined (drop kept counter) + i) % 2 ^ 32) in
+    ap (λ (k : ℕ). take k (front ++ low)) (sym (length-take-le kept counter (omega arith))) ∙ take-append-seam front low
 
 -- the whole circle of 2 ^ 32 counts, for any first block that has room for them
 pub counters-apart : (counter : List ℕ) (i j : ℕ) → 4 ≤ length counter → i < j → j < 2 ^ 32 → counterBlock counter i ≡ counterBlock counter j → ⊥
@@ -60,8 +69,8 @@ counter-first counter bytes size =
     ∙ ap (λ (bs : List ℕ). take kept counter ++ bs) same
     ∙ take-append-drop kept counter
 
--- known values, of 8 and of 16 bytes: the lowest 32 bits count and wrap, and no bit of them reaches what stands before
-pub counter-wraps : counterBlock (0 ∷ 0 ∷ 0 ∷ 0 ∷ 255 ∷ 255 ∷ 255 ∷ 255 ∷ []) 1
+-- known values, of 8 and of 16 bytes: no bit of the lowest 32 reaches what stands before, and a byte that is full carries into the next
+pub counter-values : counterBlock (0 ∷ 0 ∷ 0 ∷ 0 ∷ 255 ∷ 255 ∷ 255 ∷ 255 ∷ []) 1
     ∷ counterBlock (1 ∷ 2 ∷ 3 ∷ 4 ∷ 255 ∷ 255 ∷ 255 ∷ 254 ∷ []) 3
     ∷ counterBlock (1 ∷ 2 ∷ 3 ∷ 4 ∷ 5 ∷ 6 ∷ 7 ∷ 8 ∷ 9 ∷ 10 ∷ 11 ∷ 12 ∷ 255 ∷ 255 ∷ 255 ∷ 255 ∷ []) 1
     ∷ counterBlock (255 ∷ 255 ∷ 255 ∷ 255 ∷ 255 ∷ 255 ∷ 255 ∷ 255 ∷ 255 ∷ 255 ∷ 255 ∷ 255 ∷ 0 ∷ 0 ∷ 0 ∷ 255 ∷ []) 1
@@ -72,4 +81,4 @@ pub counter-wraps : counterBlock (0 ∷ 0 ∷ 0 ∷ 0 ∷ 255 ∷ 255 ∷ 255 �
     ∷ (255 ∷ 255 ∷ 255 ∷ 255 ∷ 255 ∷ 255 ∷ 255 ∷ 255 ∷ 255 ∷ 255 ∷ 255 ∷ 255 ∷ 0 ∷ 0 ∷ 1 ∷ 0 ∷ [])
     ∷ []
 unfolding counterBlock joined split
-counter-wraps = refl
+counter-values = refl

@@ -1,5 +1,6 @@
 -- Facts of the bench sheet and its answer.
 pub mod Laws
 pub mod Prefix
+pub mod Answered
 pub mod Written
 pub mod Known

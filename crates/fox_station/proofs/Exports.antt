@@ -7,10 +7,11 @@ use Prim.Native.Nat.{ℕ, _+_, _/_, _%_, _≤_, _<_}
 use lib.Dec.{eqb}
 use lib.ListN.{length, getD, take, drop}
 use Rattle.fox_layers.specs.Words.{_⊕_}
-use Rattle.fox_calls.specs.Refusals.{Refusal, blockSize, Keyed}
+use Rattle.fox_calls.specs.Refusals.{Refusal, First, blockSize, Keyed, Stretched}
 use Rattle.fox_calls.specs.Reply.{Served, Refused, Same}
 use Rattle.fox_calls.specs.Handed.{Handed, answer}
 use Rattle.fox_calls.specs.declared.answer.Answer.{Answer}
+use Rattle.fox_calls.proofs.Laws.Refusals.{first-given}
 use Rattle.fox_calls.proofs.Laws.Reply.{refused, handed-reply}
 use Rattle.fox_schedule.specs.Schedule.{roundKeys}
 use Rattle.fox_cipher.specs.Block.{turnBlock, sealBlock, BlockOf}
@@ -20,6 +21,7 @@ use Rattle.fox_run.specs.Counter.{counterBlock}
 use Rattle.fox_run.specs.Run.{run}
 use Rattle.fox_run.specs.Calls.{Runs}
 use Rattle.fox_run.specs.Cuts.{CallsOf, CutOf}
+use Rattle.fox_run.proofs.Laws.Calls.{call-served}
 use Rattle.fox_run.proofs.Bytes.{call-byte}
 use Rattle.fox_run.proofs.Undoing.{opened-sealed, runs-same}
 use Rattle.fox_run.proofs.Stretches.{stretch-opened-alone, cuts-joined, cuts-agree, cuts-undone, cuts-opened, stretch-of-cuts}
@@ -30,6 +32,10 @@ pub export-refused : {rs : List Refusal} {value before after : List ℕ} {n : �
     → Refused rs before after (answer n (length before))
 unfolding answer
 export-refused h isnt = refused (handed-reply h) isnt
+
+-- and hands back the number of the first refusal that applies
+pub export-refused-by : {rs : List Refusal} {value before after : List ℕ} {m n : ℕ} → Handed rs value before after n → First m rs → n ≡ m
+export-refused-by h f = h .refusal ∙ first-given f
 
 -- two exports on the same block, or on the same stretch, with outputs of one length, answer the same
 
@@ -47,11 +53,15 @@ run-exports-agree c rounds key counter offset ds l a b =
 
 -- a block of the cipher's size is served, and turned
 pub block-export-served : (d : Bool) (c rounds : ℕ) (key block : List ℕ) → Keyed c rounds (length key) → length block ≡ blockSize c → {before after : List ℕ} {n : ℕ}
-    → length before ≡ blockSize c → TurnHanded d c rounds key block before after n → (n ≡ 0) × (after ≡ turnBlock d c rounds key block)
-unfolding answer
+    → length before ≡ blockSize c → TurnHanded d c rounds key block before after n → Served (blockSize c) (turnBlock d c rounds key block) after (answer n (length before))
 block-export-served d c rounds key block k size room call =
-    let s = block-served d c rounds (length key) (roundKeys c rounds key) block k size room (handed-reply call) in
-    (s .refusal, s .output)
+    block-served d c rounds (length key) (roundKeys c rounds key) block k size room (handed-reply call)
+
+-- and so is a stretch that meets no refusal
+pub run-export-served : (c rounds : ℕ) (key counter : List ℕ) (offset : ℕ) (ds : List ℕ) {before after : List ℕ} {n : ℕ}
+    → Stretched c rounds (length key) (length counter) offset (length ds) (length before) → RunHanded c rounds key counter offset ds before after n
+    → Served (length ds) (run c rounds key counter offset ds) after (answer n (length before))
+run-export-served c rounds key counter offset ds h call = call-served c rounds (length key) (roundKeys c rounds key) counter offset ds (handed-reply call) h
 
 -- a block sealed or opened by one export and turned back by another: both are served, and the block is handed back
 module _ (d : Bool) (c rounds : ℕ) (key block : List ℕ) (k : Keyed c rounds (length key)) (b : BlockOf c block) where
@@ -73,20 +83,18 @@ module _ (c rounds : ℕ) (key counter : List ℕ) where
 
   -- what a served export wrote, handed to another with an output of its length, is served and gives the bytes again
   pub run-opened-sealed : (offset : ℕ) (ds : List ℕ) {before after before₂ after₂ : List ℕ} {n : ℕ} → RunHanded c rounds key counter offset ds before after 0
-      → RunHanded c rounds key counter offset after before₂ after₂ n → length before₂ ≡ length after → (n ≡ 0) × (after₂ ≡ ds)
+      → RunHanded c rounds key counter offset after before₂ after₂ n → length before₂ ≡ length after → Served (length ds) ds after₂ (answer n (length before₂))
   unfolding answer
   run-opened-sealed offset ds seal «open» size =
-      let s = opened-sealed c rounds (length key) (roundKeys c rounds key) counter offset ds (handed-reply seal) refl (handed-reply «open») size in
-      (s .refusal, s .output)
+      opened-sealed c rounds (length key) (roundKeys c rounds key) counter offset ds (handed-reply seal) refl (handed-reply «open») size
 
   -- any m bytes of a run, at any byte k of it, opened alone by any export
   pub stretch-opened : (whole : List ℕ) (k m : ℕ) {before after : List ℕ} {n : ℕ} → Keyed c rounds (length key) → length counter ≡ blockSize c
       → length whole ≤ 1073741824 → k + m ≤ length whole → m ≤ 65536 → length before ≡ m
-      → RunHanded c rounds key counter k (take m (drop k whole)) before after n → (n ≡ 0) × (after ≡ take m (drop k (run c rounds key counter 0 whole)))
-  unfolding answer
+      → RunHanded c rounds key counter k (take m (drop k whole)) before after n
+      → Served m (take m (drop k (run c rounds key counter 0 whole))) after (answer n (length before))
   stretch-opened whole k m keyed size long fits short room call =
-      let s = stretch-opened-alone c rounds (length key) (roundKeys c rounds key) counter whole k m keyed size long fits short room (handed-reply call) in
-      (s .refusal, s .output)
+      stretch-opened-alone c rounds (length key) (roundKeys c rounds key) counter whole k m keyed size long fits short room (handed-reply call)
 
   -- every byte that a served export wrote, as 01 has it
   pub export-byte : (offset : ℕ) (ds : List ℕ) {before after : List ℕ} → RunHanded c rounds key counter offset ds before after 0 → (i : ℕ) → i < length ds

@@ -8,7 +8,7 @@ use mathlib.Core.List.{List, [], _∷_, _++_}
 use Prim.Native.Nat.{ℕ, _+_, _≤_}
 use lib.Dec.{ltb, eqb}
 use borrow.Author.Tests.{ltb-false, eqb-true, eqb-false, le-ltb, eq-eqb, ne-eqb, not-false}
-use Rattle.fox_calls.specs.Refusals.{Refusal, refusalOf, orElse, differs, blockSize, noCipher, noRounds, longKey, noBlock, longData, noOutput, pastEnd, forKey, forBlock, forStretch, forRun, Keyed, Blocked, Stretched}
+use Rattle.fox_calls.specs.Refusals.{Refusal, refusalOf, First, here, later, orElse, differs, blockSize, noCipher, noRounds, longKey, noBlock, longData, noOutput, pastEnd, forKey, forBlock, forStretch, forRun, Keyed, Blocked, Stretched}
 
 -- no test of the list applies
 unfoldable pub Passed : List Refusal → Type 0
@@ -61,6 +61,18 @@ served-passed [] n e = tt
 served-passed (x ∷ xs) n e =
     let h = not-zero x xs n in
     by-test (x .applies) (λ t. absurd (h .0 (sym (refusal-here x xs t) ∙ e))) (λ t. (t, served-passed xs (h .1) (sym (refusal-later x xs t) ∙ e)))
+
+-- a number other than 0 is given exactly when it is that of the first refusal that applies
+
+pub first-given : {n : ℕ} {xs : List Refusal} → First n xs → refusalOf xs ≡ n
+first-given (here {x} {xs} t e) = refusal-here x xs t ∙ e
+first-given (later {x} {xs} t f) = refusal-later x xs t ∙ first-given f
+
+pub given-first : (n : ℕ) (xs : List Refusal) → refusalOf xs ≡ n → (n ≡ 0 → ⊥) → First n xs
+unfolding refusalOf
+given-first n [] e isnt = absurd (isnt (sym e))
+given-first n (x ∷ xs) e isnt =
+    by-test (x .applies) (λ t. here t (sym (refusal-here x xs t) ∙ e)) (λ t. later t (given-first n xs (sym (refusal-later x xs t) ∙ e) isnt))
 
 -- what is found stays, whatever tests follow
 chain-stays : (r : ℕ) (xs : List Refusal) → (r ≡ 0 → ⊥) → chain r xs ≡ r

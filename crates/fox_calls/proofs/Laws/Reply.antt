@@ -7,10 +7,11 @@ use Prim.Native.Nat.{ℕ}
 use lib.Dec.{eqb}
 use lib.ListN.{length}
 use borrow.Author.Tests.{eq-eqb, ne-eqb}
-use Rattle.fox_calls.specs.Refusals.{Refusal, refusalOf}
+use Rattle.fox_calls.specs.Refusals.{Refusal, refusalOf, First}
 use Rattle.fox_calls.specs.Reply.{Reply, Served, Refused, Same}
 use Rattle.fox_calls.specs.Handed.{Handed, answer}
 use Rattle.fox_calls.specs.declared.answer.Answer.{Answer}
+use Rattle.fox_calls.proofs.Laws.Refusals.{first-given}
 
 -- which of two a number of refusals picks
 pub chosen : {A : Type 0} (n : ℕ) (a b : A) → n ≡ 0 → a ≡ cond (eqb n 0) a b
@@ -55,6 +56,12 @@ module _ {rs : List Refusal} {value before after : List ℕ} {r : Answer} (call 
         count = call .count ∙ sym (passed-over (refusalOf rs) (length before) 0 h);
         output = call .output ∙ sym (passed-over (refusalOf rs) value before h);
       }
+
+  -- and which number it is: that of the first refusal that applies
+  pub refused-by : {n : ℕ} → First n rs → (n ≡ 0 → ⊥) → Refused rs before after r × (r .refusal ≡ n)
+  refused-by f isnt =
+      let is = call .refusal ∙ first-given f in
+      (refused (λ z. isnt (sym is ∙ z)), is)
 
 -- two calls with the same refusals, the same value and outputs of one length, whichever engines they are and whatever the outputs held
 pub same : {rs₁ rs₂ : List Refusal} {value before₁ before₂ after₁ after₂ : List ℕ} {r₁ r₂ : Answer} → rs₁ ≡ rs₂ → length before₁ ≡ length before₂
