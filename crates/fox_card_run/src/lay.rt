@@ -9,8 +9,8 @@ ghost use Rattle.fox_run.specs.States.{stream};
 ghost use Rattle.fox_run.specs.Steps.{Part};
 use fox_card::rounds::turned;
 use fox_rounds::state::State;
-use fox_run::counter::counted;
-use fox_run::pads::add_part;
+use fox_run_steps::counter::counted;
+use fox_run_steps::pads::add_part;
 use fox_schedule::step::Schedule;
 
 // The block that the run's byte n is in, from that byte on.

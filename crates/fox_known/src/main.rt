@@ -48,10 +48,10 @@ fn same4(s: &[u32; 1024], t: &[u32; 1024], w: u32) -> u32
     ensures { λ r. ⌜ r ≤ 1 ⌝ }
 {
     let x = small_boxes::sigma4(w);
-    if x != fox_tables::pick4(s, w) {
+    if x != fox_lent::lookups::pick4(s, w) {
         return 0;
     }
-    if diffusion::mu4(x) != fox_tables::pick4(t, w) {
+    if diffusion::mu4(x) != fox_lent::lookups::pick4(t, w) {
         return 0;
     }
     1
@@ -74,12 +74,12 @@ fn same8(s: &[u32; 1024], t: &[u64; 2048], w: u64) -> u32
     ensures { λ r. ⌜ r ≤ 1 ⌝ }
 {
     let x = small_boxes::sigma8(w);
-    let l = fox_tables::pick4(s, (w / 0x1_0000_0000) as u32);
-    let r = fox_tables::pick4(s, (w % 0x1_0000_0000) as u32);
+    let l = fox_lent::lookups::pick4(s, (w / 0x1_0000_0000) as u32);
+    let r = fox_lent::lookups::pick4(s, (w % 0x1_0000_0000) as u32);
     if x != (l as u64) * 0x1_0000_0000 + r as u64 {
         return 0;
     }
-    if diffusion::mu8(x) != fox_tables::pick8(t, w) {
+    if diffusion::mu8(x) != fox_lent::lookups::pick8(t, w) {
         return 0;
     }
     1

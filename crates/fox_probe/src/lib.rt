@@ -19,14 +19,14 @@ use fox_tables::moved;
 pub extern "C" fn fox_probe_pick4(t: &[u32; 1024], w: u32) -> u32
     ensures { λ r. ⌜ r ≡ picked 4 (now (t .entry)) w ⌝ }
 {
-    fox_tables::pick4(t, w)
+    fox_lent::lookups::pick4(t, w)
 }
 
 #[no_mangle]
 pub extern "C" fn fox_probe_pick8(t: &[u64; 2048], w: u64) -> u64
     ensures { λ r. ⌜ r ≡ picked 8 (now (t .entry)) w ⌝ }
 {
-    fox_tables::pick8(t, w)
+    fox_lent::lookups::pick8(t, w)
 }
 
 // One block sealed so many times by the first 16 round keys of those lent: the left word.

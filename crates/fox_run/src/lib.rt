@@ -1,3 +1,2 @@
-// A run in counter mode: the definition that every way of doing it is held to, counter blocks as states, and sealed counter blocks added to bytes.
-pub mod counter;
-pub mod pads;
+// No code: specs/ has what a run in counter mode is and what a call on a stretch of it promises, proofs/ the theorems on runs and on calls. The steps that
+// engines share are in fox_run_steps.

@@ -8,9 +8,9 @@ use lib.ListN.{length}
 use Rattle.fox_calls.specs.Refusals.{Keyed}
 use Rattle.fox_calls.specs.declared.answer.Answer.{Answer}
 use Rattle.fox_cipher.specs.Calls.{Turns, TurnsWith}
-use Rattle.fox_server.specs.Prepared.{Prepares, heldKeys}
-use Rattle.fox_server.specs.declared.prepared.Preparation.{Preparation}
-use Rattle.fox_server.proofs.Laws.Prepares.{from-prepared}
+use Rattle.fox_server_key.specs.Prepared.{Prepares, heldKeys}
+use Rattle.fox_server_key.specs.declared.prepared.Preparation.{Preparation}
+use Rattle.fox_server_key.proofs.Laws.Prepares.{from-prepared}
 
 pub turn-prepared : (d : Bool) (c rounds : ℕ) (key block : List ℕ) (made : Preparation) {before after : List ℕ} {r : Answer}
     → Keyed c rounds (length key) → Prepares c rounds key made

@@ -1,5 +1,3 @@
--- The laws of the definitions in specs/, and the theorems on a prepared key: what preparing hands back, its entries, and a block by it.
+-- The laws of the server's steps on one block, and the theorem on a block by a prepared key.
 pub mod Laws
-pub mod Entries
 pub mod ByPrepared
-pub mod Preparing

@@ -1,2 +1,2 @@
--- What the promises of fox_server cite besides the definitions below it.
-pub mod Prepared
+-- What the server's steps on one block ask.
+pub mod Steps

@@ -6,9 +6,10 @@ ghost use Rattle.fox_rounds.specs.declared.state.State.the-variants.{Of64, Of12
 ghost use Rattle.fox_lent.specs.Held.{held64, held128};
 ghost use Rattle.fox_cipher.specs.Block.{state64, state128, bytes};
 ghost use Rattle.fox_cipher.specs.Calls.{Turns, TurnsWith};
-ghost use Rattle.fox_server.specs.Prepared.{Ready, heldKeys};
-use crate::prepared::Prepared;
-use crate::prepared::prepare;
+ghost use Rattle.fox_server.specs.Steps.{Ready};
+ghost use Rattle.fox_server_key.specs.Prepared.{heldKeys};
+use fox_server_key::prepared::Prepared;
+use fox_server_key::prepared::prepare;
 use fox_calls::answer::Answer;
 use fox_calls::refusals::for_block;
 use fox_cipher::blocks::read64;

@@ -1,3 +1,2 @@
-// The server's way: the prepared key, and sealing and opening one block from it by tables.
+// The server's way on one block: sealing and opening from a prepared key by tables.
 pub mod block;
-pub mod prepared;

@@ -7,10 +7,10 @@ use Prim.Native.Nat.{ℕ}
 use lib.ListN.{length}
 use Rattle.fox_calls.specs.Refusals.{refusalOf, noCipher, forKey, forRun, Keyed}
 use Rattle.fox_calls.specs.declared.answer.Answer.{Answer}
-use Rattle.fox_server.specs.Prepared.{Prepares, heldKeys}
-use Rattle.fox_server.specs.declared.prepared.Preparation.{Preparation}
-use Rattle.fox_server.proofs.Laws.Prepares.{from-prepared}
-use Rattle.fox_server.proofs.Preparing.{key-refused}
+use Rattle.fox_server_key.specs.Prepared.{Prepares, heldKeys}
+use Rattle.fox_server_key.specs.declared.prepared.Preparation.{Preparation}
+use Rattle.fox_server_key.proofs.Laws.Prepares.{from-prepared}
+use Rattle.fox_server_key.proofs.Preparing.{key-refused}
 use Rattle.fox_run.specs.Calls.{Runs, RunsWith}
 
 pub run-prepared : (c rounds : ℕ) (key counter : List ℕ) (offset : ℕ) (ds : List ℕ) (made : Preparation) {before after : List ℕ} {r : Answer}

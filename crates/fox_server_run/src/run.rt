@@ -1,10 +1,10 @@
 // A stretch of a run by the server's way, from a prepared key and from key bytes: every input is answered.
-ghost use Rattle.fox_server.specs.Prepared.{heldKeys};
+ghost use Rattle.fox_server_key.specs.Prepared.{heldKeys};
 ghost use Rattle.fox_run.specs.Calls.{Runs, RunsWith};
 use fox_calls::answer::Answer;
 use fox_calls::stretch::for_run;
-use fox_server::prepared::Prepared;
-use fox_server::prepared::prepare;
+use fox_server_key::prepared::Prepared;
+use fox_server_key::prepared::prepare;
 use fox_server_run64::run64::run64;
 use fox_server_run128::run128::run128;
 

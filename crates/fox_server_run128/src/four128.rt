@@ -15,8 +15,8 @@ ghost use Rattle.fox_run.specs.Steps.{Laid};
 use fox_four::four128::Four128;
 use fox_four::four128::seal_four128;
 use fox_rounds::fox128::Fox128;
-use fox_run::counter::counted128;
-use fox_run::pads::add_whole128;
+use fox_run_steps::counter::counted128;
+use fox_run_steps::pads::add_whole128;
 
 fn add_two128(x: Fox128, y: Fox128, input: &[u8], out: &mut [u8])
     requires { ⌜ (32 ≤ length (now input)) × (32 ≤ length (now out)) ⌝ }

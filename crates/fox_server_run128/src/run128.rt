@@ -15,8 +15,8 @@ use crate::four128::four128;
 use fox_cipher::blocks::read128;
 use fox_lent::lent128::turn128;
 use fox_rounds::fox128::Fox128;
-use fox_run::counter::counted128;
-use fox_run::pads::add_part128;
+use fox_run_steps::counter::counted128;
+use fox_run_steps::pads::add_part128;
 use fox_tables::joined8;
 use fox_tables::moved;
 

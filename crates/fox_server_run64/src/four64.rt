@@ -15,8 +15,8 @@ ghost use Rattle.fox_run.specs.Steps.{Laid};
 use fox_four::four64::Four64;
 use fox_four::four64::seal_four64;
 use fox_rounds::fox64::Fox64;
-use fox_run::counter::counted64;
-use fox_run::pads::add_whole64;
+use fox_run_steps::counter::counted64;
+use fox_run_steps::pads::add_whole64;
 
 fn add_two64(x: Fox64, y: Fox64, input: &[u8], out: &mut [u8])
     requires { ⌜ (16 ≤ length (now input)) × (16 ≤ length (now out)) ⌝ }

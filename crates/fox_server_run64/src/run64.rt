@@ -15,8 +15,8 @@ use crate::four64::four64;
 use fox_cipher::blocks::read64;
 use fox_lent::lent64::turn64;
 use fox_rounds::fox64::Fox64;
-use fox_run::counter::counted64;
-use fox_run::pads::add_part64;
+use fox_run_steps::counter::counted64;
+use fox_run_steps::pads::add_part64;
 use fox_tables::joined4;
 use fox_tables::moved;
 

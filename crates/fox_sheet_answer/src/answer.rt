@@ -8,7 +8,7 @@ use fox_card::block::turn;
 use fox_sheet_read::sheet::first_broken;
 use fox_sheet_read::sheet::read_settings;
 use fox_sheet_read::sheet::read_task;
-use fox_text_read::lines::after_line;
+use fox_text_lines::lines::after_line;
 use fox_text_write::writing::put_decimal_line;
 use fox_text_write::writing::put_pairs_line;
 

@@ -8,10 +8,10 @@ use fox_sheet::sheet::Task;
 use fox_sheet::sheet::Way;
 use fox_text_read::fields::decimal_line;
 use fox_text_read::fields::pairs_line;
-use fox_text_read::lines::after_line;
-use fox_text_read::lines::first_line;
-use fox_text_read::lines::has_line;
-use fox_text_read::lines::same;
+use fox_text_lines::lines::after_line;
+use fox_text_lines::lines::first_line;
+use fox_text_lines::lines::has_line;
+use fox_text_lines::lines::same;
 
 // The first broken line, from a line on: that one, or else the first after it.
 pub fn first_broken(number: u32, right: bool, later: u32) -> u32

@@ -6,10 +6,10 @@ ghost use Rattle.fox_text.specs.Fields.{ReadsDecimal, ReadsPairs};
 use crate::decimal::read_decimal;
 use crate::hex::is_pairs;
 use crate::hex::join_pairs;
-use crate::lines::first_line;
-use crate::lines::has_line;
-use crate::lines::rest;
-use crate::lines::starts_with;
+use fox_text_lines::lines::first_line;
+use fox_text_lines::lines::has_line;
+use fox_text_lines::lines::rest;
+use fox_text_lines::lines::starts_with;
 use fox_text::decimal::Decimal;
 use fox_text::fields::Pairs;
 

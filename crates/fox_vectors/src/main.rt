@@ -4,8 +4,8 @@ ghost use Prim.Native.Nat.{_-_, _≤_};
 ghost use lib.ListN.{length};
 use fox_text_read::fields::decimal_line;
 use fox_text_read::fields::pairs_line;
-use fox_text_read::lines::after_line;
-use fox_text_read::lines::rest;
+use fox_text_lines::lines::after_line;
+use fox_text_lines::lines::rest;
 
 mod lines;
 mod prepared_key;

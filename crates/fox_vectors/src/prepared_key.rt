@@ -1,8 +1,8 @@
 // Seals and opens by a prepared key, and looks at what preparing it gave.
 use fox_calls::answer::Answer;
 use fox_server::block as server;
-use fox_server::prepared;
-use fox_server::prepared::Preparation;
+use fox_server_key::prepared;
+use fox_server_key::prepared::Preparation;
 
 // What no row has for a refusal: the answer where a prepared key is not as it must be.
 const WRONG: u32 = 99;

@@ -6,8 +6,8 @@ use crate::prepared_key;
 use fox_calls::answer::Answer;
 use fox_card::block as card;
 use fox_server::block as server;
-use fox_text_read::lines::same;
-use fox_text_read::lines::starts_with;
+use fox_text_lines::lines::same;
+use fox_text_lines::lines::starts_with;
 
 const PAINT: u8 = 0xA5;
 

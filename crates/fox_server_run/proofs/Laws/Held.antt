@@ -13,9 +13,9 @@ use Rattle.fox_lent.specs.Held.{held64, held128}
 use Rattle.fox_calls.specs.Refusals.{blockSize, Stretched}
 use Rattle.fox_cipher.specs.Block.{state64, state128}
 use Rattle.fox_cipher.proofs.Laws.Block.{size-64, size-128, state-64, state-128}
-use Rattle.fox_server.specs.Prepared.{heldKeys}
-use Rattle.fox_server.specs.declared.prepared.Prepared.{Prepared}
-use Rattle.fox_server.proofs.Laws.Held.{heldKeys-64, heldKeys-128}
+use Rattle.fox_server_key.specs.Prepared.{heldKeys}
+use Rattle.fox_server_key.specs.declared.prepared.Prepared.{Prepared}
+use Rattle.fox_server_key.proofs.Laws.Held.{heldKeys-64, heldKeys-128}
 use Rattle.fox_run.specs.Run.{addedFrom, runWith}
 use Rattle.fox_run.specs.States.{stream}
 use Rattle.fox_run.specs.Steps.{Ready}

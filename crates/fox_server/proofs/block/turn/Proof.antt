@@ -6,7 +6,8 @@ use mathlib.Core.Path.{refl, sym, _∙_}
 use Rattle.fox_calls.proofs.Laws.Refusals.{blocked}
 use Rattle.fox_calls.proofs.Laws.Reply.{served-reply, refused-reply}
 use Rattle.fox_cipher.proofs.Laws.Block.{size-64, size-128}
-use Rattle.fox_server.proofs.Laws.Held.{ready, held-turned-64, held-turned-128}
+use Rattle.fox_server.proofs.Laws.Steps.{ready}
+use Rattle.fox_server_key.proofs.Laws.Held.{held-turned-64, held-turned-128}
 use Rattle.fox_server.proofs.block.turn.Statement.{statement}
 use Rattle.fox_server.proofs.block.turn.Tie as tie
 

@@ -1,0 +1,4 @@
+-- The laws of the definitions in specs/, and the theorems on a prepared key: what preparing hands back, and its entries.
+pub mod Laws
+pub mod Entries
+pub mod Preparing

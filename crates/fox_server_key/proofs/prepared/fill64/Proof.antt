@@ -1,0 +1,49 @@
+-- `prepared::fill64` meets its contract: whenever the loop's test is reached, the words hold the round keys made so far, the rest being 0, and the register
+-- stands where the next one is made.
+-- Assumes nothing.
+use borrow.Author.Needs.{needs}
+use mathlib.Core.Path.{_≡_, refl, ap, _∙_}
+use mathlib.Core.Bool.{true}
+use Prim.Native.Nat.{ℕ, _-_, _≤_}
+use Rattle.fox_rounds.specs.Skeleton.{numbered, place}
+use Rattle.fox_schedule.specs.Step.{keyAt, Stands}
+use Rattle.fox_schedule.proofs.Laws.Walk.{stands-on, stands-key}
+use Rattle.fox_schedule.proofs.Laws.Schedules.{right-made}
+use Rattle.fox_server_key.specs.Prepared.{filled}
+use Rattle.fox_server_key.proofs.Laws.Filled.{filled-64}
+use Rattle.fox_server_key.proofs.prepared.fill64.Statement.{statement}
+use Rattle.fox_server_key.proofs.prepared.fill64.Tie as tie
+
+abbrev Inv-loop : tie.InvT-loop
+Inv-loop s rounds keys₀ reg₀ i₀ keys reg i = (i ≤ rounds) × Stands s true rounds i reg × (keys ≡ filled (numbered (keyAt s rounds) i 0))
+
+abbrev μ-loop : tie.MeasureT-loop
+μ-loop s rounds keys₀ reg₀ i₀ keys reg i = rounds - i
+
+loop-holds : tie.Need-loop-holds Inv-loop μ-loop
+unfolding filled numbered
+loop-holds c = (search needs, c .first .ensures, refl)
+
+loop-again : tie.Need-loop-again Inv-loop μ-loop
+unfolding place
+loop-again c =
+    let at = c .before .before .before in
+    let a = at .before .before .args in
+    let key = c .before .round-key .ensures in (
+      search needs,
+      stands-on (a .s) (a .rounds) (at .loop .i) (at .loop .inv .1) (c .next .ensures),
+      filled-64 (keyAt (a .s) (a .rounds)) (at .loop .i) (c .before .round-key .result .right) (at .loop .keys) (search needs)
+          (right-made key (at .before .before .pre .0) ∙ stands-key (a .s) (a .rounds) true (at .loop .i) (at .loop .inv .1)) (at .loop .inv .2),
+    )
+
+returns : tie.Need-returns Inv-loop μ-loop
+returns c =
+    let at = c .before in
+    let a = at .before .before .args in
+    let all : at .loop .i ≡ a .rounds = search needs in
+    at .loop .inv .2 ∙ ap (λ (n : ℕ). filled (numbered (keyAt (a .s) (a .rounds)) n 0)) all
+
+pub fill64-spec : {M : Type 1} → statement M
+fill64-spec =
+    tie.close (tie.spec Inv-loop μ-loop (λ c κs. search needs) loop-holds (λ c κs. search needs) (λ c. search needs) (λ c. search needs)
+    (λ c. search needs) (λ c κs. search needs) (λ c. search needs) (λ c. search needs) loop-again returns)

@@ -1,0 +1,2 @@
+-- The prepared key.
+pub mod Prepared

@@ -1,0 +1,66 @@
+-- The prepared key (01): cipher, rounds, key length, and the round keys in 510 words of 64 bits, one a round for FOX64 and two for FOX128, the left
+-- first; the rest are 0.
+-- Assumes nothing.
+use mathlib.Core.Path.{_≡_}
+use Prim.Native.Nat.{ℕ, _-_, _*_, _≤_}
+use mathlib.Core.List.{List, [], _∷_, _++_}
+use mathlib.Core.Bool.{cond}
+use lib.Dec.{eqb}
+use lib.ListN.{length, getD, replicate}
+use Rattle.fox_rounds.specs.Rounds.{left, right}
+use Rattle.fox_rounds.specs.Skeleton.{numbered}
+use Rattle.fox_lent.specs.Held.{held64, held128}
+use Rattle.fox_schedule.specs.Schedule.{roundKeys}
+use Rattle.fox_calls.specs.Refusals.{refusalOf, blockSize, forKey}
+use Rattle.fox_server_key.specs.declared.prepared.Prepared.{Prepared}
+use Rattle.fox_server_key.specs.declared.prepared.Preparation.{Preparation}
+
+-- round keys of 128 bits as words, the left half first
+unfoldable pub inHalves : List ℕ → List ℕ
+inHalves [] = []
+inHalves (k ∷ ks) = left 64 k ∷ right 64 k ∷ inHalves ks
+
+-- up to 510 words, the rest 0
+unfoldable pub filled : List ℕ → List ℕ
+filled ws = ws ++ replicate (510 - length ws) 0
+
+unfoldable pub preparedWords : ℕ → ℕ → List ℕ → List ℕ
+preparedWords cipher rounds key =
+    let other = filled (inHalves (roundKeys cipher rounds key)) in
+    cond (eqb cipher 64) (filled (roundKeys cipher rounds key)) other
+
+-- the prepared key of a key
+unfoldable pub preparedKey : ℕ → ℕ → List ℕ → Prepared
+preparedKey cipher rounds key = record { cipher = cipher; rounds = rounds; «key_len» = length key; keys = preparedWords cipher rounds key }
+
+-- a refused one: all zeros
+unfoldable pub noKey : Prepared
+noKey = record { cipher = 0; rounds = 0; «key_len» = 0; keys = replicate 510 0 }
+
+-- what preparing a key hands back, all of it: refusals 1 to 3, the count of bytes in use, and the key
+pub record Prepares (c n : ℕ) (bytes : List ℕ) (r : Preparation) : Type 0 where
+  pub refusal : r .answer .refusal ≡ refusalOf (forKey c n (length bytes))
+  pub count : r .answer .count ≡ cond (eqb (refusalOf (forKey c n (length bytes))) 0) (blockSize c * n) 0
+  pub key : r .key ≡ cond (eqb (refusalOf (forKey c n (length bytes))) 0) (preparedKey c n bytes) noKey
+
+-- a key that was prepared: 0, the count of bytes in use, which is the block size for every round, and the key's own cipher, rounds and length
+pub record PreparedFor (c n keyLen : ℕ) (r : Preparation) : Type 0 where
+  pub refusal : r .answer .refusal ≡ 0
+  pub count : r .answer .count ≡ blockSize c * n
+  pub cipher : r .key .cipher ≡ c
+  pub rounds : r .key .rounds ≡ n
+  pub key-len : r .key .«key_len» ≡ keyLen
+
+-- a key that was refused: count 0, and zeros everywhere
+pub record Empty (r : Preparation) : Type 0 where
+  pub count : r .answer .count ≡ 0
+  pub cipher : r .key .cipher ≡ 0
+  pub rounds : r .key .rounds ≡ 0
+  pub key-len : r .key .«key_len» ≡ 0
+  pub entries : (i : ℕ) → getD (r .key .keys) i 0 ≡ 0
+
+-- the round keys that a prepared key holds, whoever filled it
+unfoldable pub heldKeys : Prepared → List ℕ
+heldKeys p =
+    let other = numbered (held128 (p .keys)) (p .rounds) 0 in
+    cond (eqb (p .cipher) 64) (numbered (held64 (p .keys)) (p .rounds) 0) other

@@ -1,0 +1,2 @@
+// The server's prepared key.
+pub mod prepared;

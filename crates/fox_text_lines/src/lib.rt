@@ -1,0 +1,2 @@
+// A text's lines, and how texts are compared.
+pub mod lines;
