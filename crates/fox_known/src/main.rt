@@ -4,8 +4,8 @@ ghost use Prim.Native.Nat.{_≤_};
 use fox_layers::diffusion;
 use fox_layers::small_boxes;
 use fox_tables::joined4;
-use fox_tables::joined8;
 use fox_tables::moved;
+use fox_tables128::joined8;
 
 const WORDS: u32 = 4096;
 

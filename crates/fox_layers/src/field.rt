@@ -17,30 +17,6 @@ pub fn halve(x: u8) -> u8
     if x % 2 == 0 { x / 2 } else { x / 2 ^ 0xFC }
 }
 
-pub fn times_03(x: u8) -> u8
-    ensures { λ r. ⌜ r ≡ product 0x03 x ⌝ }
-{
-    double(x) ^ x
-}
-
-pub fn times_04(x: u8) -> u8
-    ensures { λ r. ⌜ r ≡ product 0x04 x ⌝ }
-{
-    double(double(x))
-}
-
-pub fn times_7e(x: u8) -> u8
-    ensures { λ r. ⌜ r ≡ product 0x7E x ⌝ }
-{
-    halve(halve(x))
-}
-
-pub fn times_82(x: u8) -> u8
-    ensures { λ r. ⌜ r ≡ product 0x82 x ⌝ }
-{
-    halve(x) ^ times_7e(x)
-}
-
 pub fn times_fd(x: u8) -> u8
     ensures { λ r. ⌜ r ≡ product 0xFD x ⌝ }
 {
@@ -61,17 +37,15 @@ pub fn multiples_of(x: u8) -> Multiples
     ensures { λ r. ⌜ MultiplesOf x r ⌝ }
 {
     let m02 = double(x);
-    let m03 = times_03(x);
-    let m04 = times_04(x);
-    let m7e = times_7e(x);
-    let m82 = times_82(x);
     let mfc = halve(x);
+    let m04 = double(m02);
+    let m7e = halve(mfc);
     Multiples {
         m02,
-        m03,
+        m03: m02 ^ x,
         m04,
         m7e,
-        m82,
+        m82: mfc ^ m7e,
         mfc,
     }
 }

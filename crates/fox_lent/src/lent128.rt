@@ -7,10 +7,10 @@ ghost use Rattle.fox_rounds.specs.Skeleton.{numbered, turned};
 ghost use Rattle.fox_rounds.specs.declared.state.State.the-variants.{Of128};
 ghost use Rattle.fox_lent.specs.Held.{held128};
 ghost use Rattle.fox_lent.specs.Lent.{Lent};
-use crate::order::place;
-use fox_rounds::fox128::Fox128;
 use crate::lookups::pick4;
 use crate::lookups::pick8;
+use crate::order::place;
+use fox_rounds::fox128::Fox128;
 
 // The round: substitution alone, and what follows it, go by halves of 32 bits, which are the state's words.
 pub fn elmid128(s: &[u32; 1024], t: &[u64; 2048], x: Fox128, k: u64, l: u64) -> Fox128

@@ -7,9 +7,9 @@ ghost use Rattle.fox_rounds.specs.Skeleton.{numbered, turned};
 ghost use Rattle.fox_rounds.specs.declared.state.State.the-variants.{Of64};
 ghost use Rattle.fox_lent.specs.Held.{held64};
 ghost use Rattle.fox_lent.specs.Lent.{Lent};
+use crate::lookups::pick4;
 use crate::order::place;
 use fox_rounds::fox64::Fox64;
-use crate::lookups::pick4;
 
 pub fn f32(s: &[u32; 1024], t: &[u32; 1024], x: u32, rk: u64) -> u32
     requires { ⌜ Lent mu4Rows (now s) (now t) ⌝ }

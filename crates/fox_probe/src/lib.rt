@@ -12,8 +12,8 @@ use fox_rounds::fox64::Fox64;
 use fox_rounds::fox128::Fox128;
 use fox_sheet_answer::answer;
 use fox_tables::joined4;
-use fox_tables::joined8;
 use fox_tables::moved;
+use fox_tables128::joined8;
 
 #[no_mangle]
 pub extern "C" fn fox_probe_pick4(t: &[u32; 1024], w: u32) -> u32

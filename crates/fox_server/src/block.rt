@@ -8,8 +8,6 @@ ghost use Rattle.fox_cipher.specs.Block.{state64, state128, bytes};
 ghost use Rattle.fox_cipher.specs.Calls.{Turns, TurnsWith};
 ghost use Rattle.fox_server.specs.Steps.{Ready};
 ghost use Rattle.fox_server_key.specs.Prepared.{heldKeys};
-use fox_server_key::prepared::Prepared;
-use fox_server_key::prepared::prepare;
 use fox_calls::answer::Answer;
 use fox_calls::refusals::for_block;
 use fox_cipher::blocks::read64;
@@ -18,9 +16,11 @@ use fox_cipher::blocks::write64;
 use fox_cipher::blocks::write128;
 use fox_lent::lent64::turn64;
 use fox_lent::lent128::turn128;
+use fox_server_key::prepared::Prepared;
+use fox_server_key::prepared::prepare;
 use fox_tables::joined4;
-use fox_tables::joined8;
 use fox_tables::moved;
+use fox_tables128::joined8;
 
 fn block64(sealing: bool, keys: &[u64; 510], rounds: usize, block: &[u8], out: &mut [u8])
     requires { ⌜ Ready 8 rounds (now block) (now out) ⌝ }

@@ -17,8 +17,8 @@ use fox_lent::lent128::turn128;
 use fox_rounds::fox128::Fox128;
 use fox_run_steps::counter::counted128;
 use fox_run_steps::pads::add_part128;
-use fox_tables::joined8;
 use fox_tables::moved;
+use fox_tables128::joined8;
 
 // The block that the run's byte n is in, from that byte on.
 fn step128(

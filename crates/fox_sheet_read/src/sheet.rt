@@ -6,12 +6,12 @@ ghost use Rattle.fox_sheet.specs.Reading.{ReadsSettings, ReadsTask, ReadsWay};
 use fox_sheet::sheet::Settings;
 use fox_sheet::sheet::Task;
 use fox_sheet::sheet::Way;
-use fox_text_read::fields::decimal_line;
-use fox_text_read::fields::pairs_line;
 use fox_text_lines::lines::after_line;
 use fox_text_lines::lines::first_line;
 use fox_text_lines::lines::has_line;
 use fox_text_lines::lines::same;
+use fox_text_read::fields::decimal_line;
+use fox_text_read::fields::pairs_line;
 
 // The first broken line, from a line on: that one, or else the first after it.
 pub fn first_broken(number: u32, right: bool, later: u32) -> u32

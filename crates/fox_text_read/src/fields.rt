@@ -6,12 +6,12 @@ ghost use Rattle.fox_text.specs.Fields.{ReadsDecimal, ReadsPairs};
 use crate::decimal::read_decimal;
 use crate::hex::is_pairs;
 use crate::hex::join_pairs;
+use fox_text::decimal::Decimal;
+use fox_text::fields::Pairs;
 use fox_text_lines::lines::first_line;
 use fox_text_lines::lines::has_line;
 use fox_text_lines::lines::rest;
 use fox_text_lines::lines::starts_with;
-use fox_text::decimal::Decimal;
-use fox_text::fields::Pairs;
 
 pub fn decimal_line(t: &[u8], name: &[u8], most: u32) -> Decimal
     ensures { λ r. ⌜ ReadsDecimal most (now (name .entry)) (now (t .entry)) r ⌝ }

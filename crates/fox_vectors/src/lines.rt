@@ -23,10 +23,6 @@ pub(crate) fn print_way(way: u32, seals: bool) {
     } else {
         io::write_all(1, b" server-prepared");
     }
-    print_direction(seals);
-}
-
-fn print_direction(seals: bool) {
     if seals {
         io::write_all(1, b"-seal");
     } else {

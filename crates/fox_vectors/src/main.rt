@@ -2,10 +2,10 @@
 // A row is six lines: `cipher`, `rounds`, `key`, `block`, `refusal` and `sealed`. What is printed for the file `stdin` is held to the file `stdout`.
 ghost use Prim.Native.Nat.{_-_, _≤_};
 ghost use lib.ListN.{length};
-use fox_text_read::fields::decimal_line;
-use fox_text_read::fields::pairs_line;
 use fox_text_lines::lines::after_line;
 use fox_text_lines::lines::rest;
+use fox_text_read::fields::decimal_line;
+use fox_text_read::fields::pairs_line;
 
 mod lines;
 mod prepared_key;

@@ -9,9 +9,9 @@ use Rattle.fox_layers.specs.Field.{double, halve}
 use Rattle.fox_layers.specs.Substitution.{S₁, S₂, S₃, halves, whole, or4, lmid4, lmor4, sbox}
 use Rattle.fox_layers.specs.Diffusion.{mu8Rows}
 use Rattle.fox_layers.specs.Tables.{table, column}
 use Rattle.fox_tables.proofs.Laws.Quick.{quick, quickScaled, by-number}
-use Rattle.fox_tables.proofs.joined8.constant.Statement.{statement}
-use Rattle.fox_tables.proofs.joined8.constant.Tie as tie
+use Rattle.fox_tables128.proofs.joined8.constant.Statement.{statement}
+use Rattle.fox_tables128.proofs.joined8.constant.Tie as tie
 
 -- the number that is left when those before it are ruled out
 above : {j k : ℕ} → k ≤ j → (j ≡ k → ⊥) → suc k ≤ j

@@ -4,9 +4,9 @@ use mathlib.Core.Path.{refl, sym}
 use borrow.Author.Needs.{needs}
 use Rattle.fox_layers.specs.Diffusion.{mu8Rows}
 use Rattle.fox_layers.proofs.Laws.Tables.{length-TBSM}
 use Rattle.fox_tables.proofs.Laws.Filled.{begun-all}
-use Rattle.fox_tables.proofs.joined8.tbsm.Statement.{statement}
-use Rattle.fox_tables.proofs.joined8.tbsm.Tie as tie
+use Rattle.fox_tables128.proofs.joined8.tbsm.Statement.{statement}
+use Rattle.fox_tables128.proofs.joined8.tbsm.Tie as tie
 
 lay-requires : tie.Need-lay-requires
 unfolding mu8Rows

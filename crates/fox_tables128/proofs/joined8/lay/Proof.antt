@@ -8,9 +8,9 @@ use lib.ListN.{length, take, length-set}
 use borrow.Author.Needs.{needs}
 use Rattle.fox_layers.specs.Diffusion.{mu8Rows}
 use Rattle.fox_layers.specs.Tables.{TBSM}
 use Rattle.fox_tables.proofs.Laws.Filled.{boxed-entered, begun-next}
-use Rattle.fox_tables.proofs.joined8.lay.Statement.{statement}
-use Rattle.fox_tables.proofs.joined8.lay.Tie as tie
+use Rattle.fox_tables128.proofs.joined8.lay.Statement.{statement}
+use Rattle.fox_tables128.proofs.joined8.lay.Tie as tie
 
 abbrev Inv-loop : tie.InvT-loop
 Inv-loop t₀ j a x₀ t x =
