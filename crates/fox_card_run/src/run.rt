@@ -1,10 +1,10 @@
 // A stretch of a run by the card's way, from cipher, rounds, key bytes, counter block, offset and input: every input is answered.
-ghost use Rattle.fox_run.specs.Calls.{Runs};
-use crate::lay::lay;
-use fox_calls::answer::Answer;
-use fox_calls::stretch::for_run;
-use fox_cipher::blocks::read;
-use fox_schedule::step::Schedule;
+ghost use Rattle.fox_run.specs.Promise.{Runs};
+use crate::stretch::lay;
+use fox_engine_block::blocks::read;
+use fox_refusals::answer::Answer;
+use fox_refusals::stretch::for_run;
+use fox_schedule::schedule::Schedule;
 
 pub fn run(
     cipher: u32,

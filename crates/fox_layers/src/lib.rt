@@ -2,5 +2,5 @@
 // ciphers above it rely on the promises stated here alone.
 pub mod diffusion;
 pub mod field;
-pub mod small_boxes;
+pub mod substitution;
 pub mod words;

@@ -1,4 +1,4 @@
 -- Laws beside definitions: what a proof cites in place of a definition's text.
-pub mod Words
+pub mod KeyWords
 pub mod Layers
-pub mod Wide
+pub mod Width

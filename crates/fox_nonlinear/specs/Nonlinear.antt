@@ -11,7 +11,7 @@ use Rattle.fox_rounds.specs.declared.fox64.Fox64.{Fox64}
 use Rattle.fox_rounds.specs.declared.fox128.Fox128.{Fox128}
 use Rattle.fox_rounds.specs.Rounds.{left, right}
 use Rattle.fox_rounds.specs.Skeleton.{seal64, seal128}
-use Rattle.fox_keying.specs.Padding.{pad}
+use Rattle.fox_key_mixing.specs.Padding.{pad}
 
 -- bytes taken together to k words of n bytes
 unfoldable pub words : ℕ → ℕ → List ℕ → List ℕ

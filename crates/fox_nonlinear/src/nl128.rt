@@ -3,11 +3,11 @@ ghost use mathlib.Core.Path.{_≡_};
 ghost use mathlib.Core.List.{[], _∷_};
 ghost use Prim.Native.Nat.{_+_, _*_, _^_};
 ghost use Rattle.fox_layers.specs.Diffusion.{mu8};
-ghost use Rattle.fox_keying.specs.Held.{bytes32};
+ghost use Rattle.fox_key_mixing.specs.KeyBytes.{bytes32};
 ghost use Rattle.fox_nonlinear.specs.Nonlinear.{words, mix128, layers, parts128, NL128};
 use crate::one_word::first8;
 use crate::one_word::second8;
-use fox_keying::held::Key32;
+use fox_key_mixing::key_bytes::Key32;
 use fox_rounds::fox128::Fox128;
 use fox_rounds::fox128::pair;
 

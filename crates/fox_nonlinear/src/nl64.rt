@@ -3,11 +3,11 @@ ghost use mathlib.Core.Path.{_≡_};
 ghost use mathlib.Core.List.{[], _∷_};
 ghost use Prim.Native.Nat.{_+_, _*_, _^_};
 ghost use Rattle.fox_layers.specs.Diffusion.{mu4};
-ghost use Rattle.fox_keying.specs.Held.{bytes16};
+ghost use Rattle.fox_key_mixing.specs.KeyBytes.{bytes16};
 ghost use Rattle.fox_nonlinear.specs.Nonlinear.{words, mix64, layers, NL64};
 use crate::one_word::first4;
 use crate::one_word::second4;
-use fox_keying::held::Key16;
+use fox_key_mixing::key_bytes::Key16;
 use fox_rounds::fox64::Fox64;
 use fox_rounds::fox128::pair;
 

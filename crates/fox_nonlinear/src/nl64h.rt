@@ -2,12 +2,12 @@
 ghost use mathlib.Core.Path.{_≡_};
 ghost use mathlib.Core.List.{[], _∷_};
 ghost use Rattle.fox_layers.specs.Diffusion.{mu4};
-ghost use Rattle.fox_keying.specs.Held.{bytes32};
+ghost use Rattle.fox_key_mixing.specs.KeyBytes.{bytes32};
 ghost use Rattle.fox_nonlinear.specs.Nonlinear.{words, mix64h, layers, NL64h};
 use crate::nl64::number;
 use crate::one_word::first4;
 use crate::one_word::second4;
-use fox_keying::held::Key32;
+use fox_key_mixing::key_bytes::Key32;
 use fox_rounds::fox64::Fox64;
 
 struct Words8 {

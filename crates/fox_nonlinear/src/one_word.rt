@@ -7,8 +7,8 @@ ghost use Rattle.fox_layers.specs.Diffusion.{mu4, mu8};
 ghost use Rattle.fox_nonlinear.specs.Nonlinear.{flipped};
 use fox_layers::diffusion::mu4;
 use fox_layers::diffusion::mu8;
-use fox_layers::small_boxes::sigma4;
-use fox_layers::small_boxes::sigma8;
+use fox_layers::substitution::sigma4;
+use fox_layers::substitution::sigma8;
 
 // Up to the mixing.
 pub(crate) fn first4(w: u32) -> u32

@@ -8,7 +8,7 @@ ghost use Rattle.fox_rounds.specs.declared.state.State.the-variants.{Of1
 use crate::fox64::io;
 use crate::fox64::or;
 use fox_layers::diffusion::mu8;
-use fox_layers::small_boxes::sigma8;
+use fox_layers::substitution::sigma8;
 
 pub struct Fox128 {
     pub ll: u32,

@@ -4,7 +4,7 @@ ghost use Rattle.fox_rounds.specs.Rounds.{or, io, f32, lmid64, or64, io6
 ghost use Rattle.fox_rounds.specs.Skeleton.{between};
 ghost use Rattle.fox_rounds.specs.declared.state.State.the-variants.{Of64};
 use fox_layers::diffusion::mu4;
-use fox_layers::small_boxes::sigma4;
+use fox_layers::substitution::sigma4;
 
 pub struct Fox64 {
     pub l: u32,

@@ -6,14 +6,14 @@ use mathlib.Core.List.{List}
 use Prim.Native.Nat.{ℕ, _+_, _/_, _%_, _<_}
 use lib.ListN.{length, getD}
 use Rattle.fox_layers.specs.Words.{_⊕_}
-use Rattle.fox_calls.specs.Refusals.{blockSize}
-use Rattle.fox_calls.specs.declared.answer.Answer.{Answer}
-use Rattle.fox_cipher.specs.Block.{sealWith}
+use Rattle.fox_refusals.specs.Refusals.{blockSize}
+use Rattle.fox_refusals.specs.declared.answer.Answer.{Answer}
+use Rattle.fox_block.specs.Block.{sealWith}
 use Rattle.fox_run.specs.Counter.{counterBlock}
 use Rattle.fox_run.specs.Run.{streamed, keyStream, runWith}
-use Rattle.fox_run.specs.Calls.{RunsWith}
-use Rattle.fox_run.proofs.Laws.Added.{addedFrom-at}
-use Rattle.fox_run.proofs.Laws.Calls.{call-did}
+use Rattle.fox_run.specs.Promise.{RunsWith}
+use Rattle.fox_run.proofs.Laws.XorFrom.{addedFrom-at}
+use Rattle.fox_run.proofs.Laws.Served.{call-did}
 
 module _ (c : ℕ) (rks counter : List ℕ) (n : ℕ) (ds : List ℕ) (i : ℕ) (within : i < length ds) where
   pub run-byte : getD (runWith c rks counter n ds) i 0

@@ -10,8 +10,8 @@ use lib.ListN.{length, take, drop, length-drop, take-append-drop}
 use lib.Seq.{length-take-le, take-append-seam, drop-at}
 use Rattle.fox_layers.specs.Words.{joined, split, Bytes}
 use Rattle.fox_layers.proofs.Laws.Words.{joined-lt, joined-split, split-joined, drop-bytes}
-use Rattle.fox_calls.specs.Refusals.{blockSize}
-use Rattle.fox_cipher.proofs.Laws.Block.{by-cipher, size-64, size-128}
+use Rattle.fox_refusals.specs.Refusals.{blockSize}
+use Rattle.fox_block.proofs.Laws.Block.{by-cipher, size-64, size-128}
 use Rattle.fox_run.specs.Counter.{counterBlock}
 
 -- the lowest 32 bits count and wrap

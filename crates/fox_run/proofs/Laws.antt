@@ -1,8 +1,8 @@
 -- Laws beside definitions: what a proof cites in place of a definition's text.
-pub mod Sums
-pub mod Added
+pub mod XorEach
+pub mod XorFrom
 pub mod Streams
-pub mod Laid
-pub mod Steps
-pub mod Calls
-pub mod Four
+pub mod Loop
+pub mod Parts
+pub mod Served
+pub mod FourBlocks

@@ -9,15 +9,15 @@ use native.Mathlib.Nat.{zero-add}
 use native.Mathlib.Omega.{arith}
 use lib.ListN.{length, take, drop, length-append, length-drop}
 use lib.Seq.{length-take-le}
-use Rattle.fox_calls.specs.Refusals.{blockSize, Keyed}
-use Rattle.fox_calls.specs.Reply.{Served}
-use Rattle.fox_calls.specs.declared.answer.Answer.{Answer}
+use Rattle.fox_refusals.specs.Refusals.{blockSize, Keyed}
+use Rattle.fox_refusals.specs.Reply.{Served}
+use Rattle.fox_refusals.specs.declared.answer.Answer.{Answer}
 use Rattle.fox_run.specs.Run.{addedFrom, runWith}
-use Rattle.fox_run.specs.Calls.{RunsWith}
+use Rattle.fox_run.specs.Promise.{RunsWith}
 use Rattle.fox_run.specs.Cuts.{Call, CallsOf, CutOf, none, next, eachAlone}
-use Rattle.fox_run.proofs.Laws.Added.{addedFrom-from, addedFrom-append, addedFrom-part}
-use Rattle.fox_run.proofs.Laws.Calls.{call-served, call-did}
-use Rattle.fox_run.proofs.Undoing.{run-twice}
+use Rattle.fox_run.proofs.Laws.XorFrom.{addedFrom-from, addedFrom-append, addedFrom-part}
+use Rattle.fox_run.proofs.Laws.Served.{call-served, call-did}
+use Rattle.fox_run.proofs.Runs.{run-twice}
 
 -- one stretch
 

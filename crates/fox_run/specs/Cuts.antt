@@ -4,7 +4,7 @@ use mathlib.Core.Path.{_≡_}
 use mathlib.Core.List.{List, [], _∷_, _++_}
 use Prim.Native.Nat.{ℕ, _+_, _≤_}
 use lib.ListN.{length}
-use Rattle.fox_calls.specs.declared.answer.Answer.{Answer}
+use Rattle.fox_refusals.specs.declared.answer.Answer.{Answer}
 
 -- a call on a stretch: offset, input, the output before and after, and the answer
 abbrev pub Call : Type 1

@@ -5,9 +5,9 @@ use Prim.Native.Nat.{ℕ, suc, _/_, _%_}
 use mathlib.Core.List.{List, [], _∷_}
 use lib.ListN.{getD}
 use Rattle.fox_layers.specs.Words.{_⊕_}
-use Rattle.fox_calls.specs.Refusals.{blockSize}
+use Rattle.fox_refusals.specs.Refusals.{blockSize}
 use Rattle.fox_schedule.specs.Schedule.{roundKeys}
-use Rattle.fox_cipher.specs.Block.{sealWith}
+use Rattle.fox_block.specs.Block.{sealWith}
 use Rattle.fox_run.specs.Counter.{counterBlock}
 
 -- byte n of a stream of blocks of B bytes: byte n mod B of block number n div B

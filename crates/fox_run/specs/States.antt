@@ -8,7 +8,7 @@ use Rattle.fox_rounds.specs.declared.fox64.Fox64.{Fox64}
 use Rattle.fox_rounds.specs.declared.fox128.Fox128.{Fox128}
 use Rattle.fox_rounds.specs.declared.state.State.{State}
 use Rattle.fox_rounds.specs.declared.state.State.the-variants.{Of64, Of128}
-use Rattle.fox_cipher.specs.Block.{bytes}
+use Rattle.fox_block.specs.Block.{bytes}
 use Rattle.fox_run.specs.Run.{streamed}
 
 -- the state of the counter block number i, from that of the first one: its last word counts and wraps

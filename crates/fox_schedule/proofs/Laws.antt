@@ -1,3 +1,3 @@
 -- Laws beside definitions: what a proof cites in place of a definition's text.
 pub mod Schedules
-pub mod Walk
+pub mod RegisterAt

@@ -6,9 +6,9 @@ use mathlib.Core.Bool.{cond}
 use lib.Dec.{leb, eqb}
 use lib.ListN.{length}
 use Rattle.fox_rounds.specs.Skeleton.{numbered}
-use Rattle.fox_keying.specs.Padding.{mkey}
+use Rattle.fox_key_mixing.specs.Padding.{mkey}
 use Rattle.fox_register.specs.Register.{LFSR}
-use Rattle.fox_keying.specs.Diversification.{groups, dkey}
+use Rattle.fox_key_mixing.specs.Diversification.{groups, dkey}
 use Rattle.fox_nonlinear.specs.Nonlinear.{NL64, NL64h, NL128}
 
 -- Fig. 8: ek in bytes, for FOX64 and a key of so many bytes

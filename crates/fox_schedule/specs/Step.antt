@@ -7,14 +7,14 @@ use mathlib.Core.List.{List}
 use lib.Dec.{eqb}
 use lib.ListN.{length}
 use Rattle.fox_rounds.specs.Skeleton.{place}
-use Rattle.fox_keying.specs.Padding.{mkey}
+use Rattle.fox_key_mixing.specs.Padding.{mkey}
 use Rattle.fox_register.specs.Register.{LFSR, clocked, clockedBack, iterate}
-use Rattle.fox_keying.specs.Diversification.{dkey}
-use Rattle.fox_keying.specs.Held.{bytes16, bytes32}
+use Rattle.fox_key_mixing.specs.Diversification.{dkey}
+use Rattle.fox_key_mixing.specs.KeyBytes.{bytes16, bytes32}
 use Rattle.fox_nonlinear.specs.Nonlinear.{NL64, NL64h, NL128}
 use Rattle.fox_nonlinear.specs.declared.nl128.Key128.{Key128}
-use Rattle.fox_schedule.specs.declared.step.Schedule.{Schedule}
-use Rattle.fox_schedule.specs.declared.step.Schedule.the-variants.{Ks64, Ks64h, Ks128}
+use Rattle.fox_schedule.specs.declared.schedule.Schedule.{Schedule}
+use Rattle.fox_schedule.specs.declared.schedule.Schedule.the-variants.{Ks64, Ks64h, Ks128}
 
 unfoldable pub made : Schedule → ℕ → ℕ
 made (Ks64 m flip) reg = NL64 flip (dkey (bytes16 m) reg)

@@ -11,14 +11,14 @@ use Rattle.fox_rounds.specs.Skeleton.{numbered}
 use Rattle.fox_rounds.proofs.Laws.Halves.{pair}
 use Rattle.fox_rounds.proofs.Laws.Skeleton.{length-numbered, numbered-at}
 use Rattle.fox_schedule.specs.Schedule.{roundKey, roundKeys}
-use Rattle.fox_calls.specs.Refusals.{Keyed}
-use Rattle.fox_calls.proofs.Laws.Refusals.{keyed-served}
-use Rattle.fox_calls.proofs.Laws.Reply.{chosen}
+use Rattle.fox_refusals.specs.Refusals.{Keyed}
+use Rattle.fox_refusals.proofs.Laws.Refusals.{keyed-served}
+use Rattle.fox_refusals.proofs.Laws.Reply.{chosen}
 use Rattle.fox_server_key.specs.Prepared.{inHalves, preparedWords, preparedKey, Prepares}
 use Rattle.fox_server_key.specs.declared.prepared.Prepared.{Prepared}
 use Rattle.fox_server_key.specs.declared.prepared.Preparation.{Preparation}
 use Rattle.fox_server_key.proofs.Laws.Filled.{length-inHalves}
-use Rattle.fox_server_key.proofs.Laws.Held.{preparedWords-64, preparedWords-128, filled-at, filled-rest, left-at, right-at, wide}
+use Rattle.fox_server_key.proofs.Laws.RoundKeys.{preparedWords-64, preparedWords-128, filled-at, filled-rest, left-at, right-at, wide}
 
 module _ (c rounds : ℕ) (key : List ℕ) (r : Preparation) (keyed : Keyed c rounds (length key)) (prepared : Prepares c rounds key r) where
   handed : r .key .keys ≡ preparedWords c rounds key

@@ -6,12 +6,12 @@ use mathlib.Core.Bool.{Bool}
 use mathlib.Core.List.{List}
 use Prim.Native.Nat.{ℕ, zero, suc, _*_}
 use lib.ListN.{length, getD, replicate}
-use Rattle.fox_calls.specs.Refusals.{refusalOf, blockSize, noCipher, forKey, forBlock, Keyed}
-use Rattle.fox_calls.specs.declared.answer.Answer.{Answer}
-use Rattle.fox_calls.proofs.Laws.Refusals.{keyed-served}
-use Rattle.fox_calls.proofs.Laws.Reply.{chosen, passed-over}
-use Rattle.fox_cipher.specs.Calls.{TurnsWith}
-use Rattle.fox_cipher.proofs.Laws.Block.{size-64, size-128}
+use Rattle.fox_refusals.specs.Refusals.{refusalOf, blockSize, noCipher, forKey, forBlock, Keyed}
+use Rattle.fox_refusals.specs.declared.answer.Answer.{Answer}
+use Rattle.fox_refusals.proofs.Laws.Refusals.{keyed-served}
+use Rattle.fox_refusals.proofs.Laws.Reply.{chosen, passed-over}
+use Rattle.fox_block.specs.Promise.{TurnsWith}
+use Rattle.fox_block.proofs.Laws.Block.{size-64, size-128}
 use Rattle.fox_server_key.specs.Prepared.{preparedKey, noKey, Prepares, PreparedFor, Empty, heldKeys}
 use Rattle.fox_server_key.specs.declared.prepared.Prepared.{Prepared}
 use Rattle.fox_server_key.specs.declared.prepared.Preparation.{Preparation}

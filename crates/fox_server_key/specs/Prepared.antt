@@ -9,9 +9,9 @@ use lib.Dec.{eqb}
 use lib.ListN.{length, getD, replicate}
 use Rattle.fox_rounds.specs.Rounds.{left, right}
 use Rattle.fox_rounds.specs.Skeleton.{numbered}
-use Rattle.fox_lent.specs.Held.{held64, held128}
+use Rattle.fox_rounds.specs.RoundKeys.{held64, held128}
 use Rattle.fox_schedule.specs.Schedule.{roundKeys}
-use Rattle.fox_calls.specs.Refusals.{refusalOf, blockSize, forKey}
+use Rattle.fox_refusals.specs.Refusals.{refusalOf, blockSize, forKey}
 use Rattle.fox_server_key.specs.declared.prepared.Prepared.{Prepared}
 use Rattle.fox_server_key.specs.declared.prepared.Preparation.{Preparation}
 

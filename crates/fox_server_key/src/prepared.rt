@@ -7,10 +7,10 @@ ghost use lib.ListN.{length};
 ghost use Rattle.fox_rounds.specs.Skeleton.{numbered};
 ghost use Rattle.fox_schedule.specs.Step.{narrow, keyAt};
 ghost use Rattle.fox_server_key.specs.Prepared.{inHalves, filled, preparedWords, noKey, Prepares};
-use fox_calls::answer::Answer;
-use fox_calls::refusals::block_size;
-use fox_calls::refusals::for_key;
-use fox_schedule::step::Schedule;
+use fox_refusals::answer::Answer;
+use fox_refusals::refusals::block_size;
+use fox_refusals::refusals::for_key;
+use fox_schedule::schedule::Schedule;
 
 pub struct Prepared {
     pub cipher: u32,

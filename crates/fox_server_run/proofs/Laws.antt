@@ -1,2 +1,2 @@
 -- Laws that the proofs of both ciphers share.
-pub mod Held
+pub mod Stretch

@@ -1,3 +1,3 @@
 -- The laws that the proofs of this crate share, and the theorem on runs by a prepared key.
 pub mod Laws
-pub mod Prepared
+pub mod ByPrepared

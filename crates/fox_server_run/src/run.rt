@@ -1,12 +1,12 @@
 // A stretch of a run by the server's way, from a prepared key and from key bytes: every input is answered.
 ghost use Rattle.fox_server_key.specs.Prepared.{heldKeys};
-ghost use Rattle.fox_run.specs.Calls.{Runs, RunsWith};
-use fox_calls::answer::Answer;
-use fox_calls::stretch::for_run;
+ghost use Rattle.fox_run.specs.Promise.{Runs, RunsWith};
+use crate::fox64::run64;
+use crate::fox128::run128;
+use fox_refusals::answer::Answer;
+use fox_refusals::stretch::for_run;
 use fox_server_key::prepared::Prepared;
 use fox_server_key::prepared::prepare;
-use fox_server_run64::run64::run64;
-use fox_server_run128::run128::run128;
 
 // From a prepared key: one that a caller filled himself gets the answer of the round keys that it holds.
 pub fn run(p: Prepared, counter: &[u8], offset: u64, input: &[u8], out: &mut [u8]) -> Answer

@@ -3,4 +3,4 @@ pub mod Laws
 pub mod Prefix
 pub mod Answered
 pub mod Written
-pub mod Known
+pub mod Computed

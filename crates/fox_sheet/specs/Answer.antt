@@ -5,8 +5,8 @@ use mathlib.Core.Bool.{Bool, cond}
 use mathlib.Core.List.{List, _++_}
 use lib.ListN.{length}
 use lib.Dec.{eqb}
-use Rattle.fox_calls.specs.Refusals.{refusalOf, forBlock}
-use Rattle.fox_cipher.specs.Block.{turnBlock}
+use Rattle.fox_refusals.specs.Refusals.{refusalOf, forBlock}
+use Rattle.fox_block.specs.Block.{turnBlock}
 use Rattle.fox_text.specs.Ascii.{ascii}
 use Rattle.fox_text.specs.Fields.{decimalLineText, pairsLineText}
 use Rattle.fox_text.specs.Put.{Stored}

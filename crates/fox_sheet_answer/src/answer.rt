@@ -4,7 +4,7 @@ ghost use Prim.Native.Nat.{_≤_};
 ghost use lib.ListN.{length};
 ghost use Rattle.fox_text.specs.Put.{Put};
 ghost use Rattle.fox_sheet.specs.Answer.{Answers, Room, asked, blockText, brokenText, servedText};
-use fox_card::block::turn;
+use fox_card_block::block::turn;
 use fox_sheet_read::sheet::first_broken;
 use fox_sheet_read::sheet::read_settings;
 use fox_sheet_read::sheet::read_task;

@@ -7,23 +7,23 @@ use Prim.Native.Nat.{ℕ, _+_, _/_, _%_, _≤_, _<_}
 use lib.Dec.{eqb}
 use lib.ListN.{length, getD, take, drop}
 use Rattle.fox_layers.specs.Words.{_⊕_}
-use Rattle.fox_calls.specs.Refusals.{Refusal, First, blockSize, Keyed, Stretched}
-use Rattle.fox_calls.specs.Reply.{Served, Refused, Same}
-use Rattle.fox_calls.specs.Handed.{Handed, answer}
-use Rattle.fox_calls.specs.declared.answer.Answer.{Answer}
-use Rattle.fox_calls.proofs.Laws.Refusals.{first-given}
-use Rattle.fox_calls.proofs.Laws.Reply.{refused, handed-reply}
+use Rattle.fox_refusals.specs.Refusals.{Refusal, First, blockSize, Keyed, Stretched}
+use Rattle.fox_refusals.specs.Reply.{Served, Refused, Same}
+use Rattle.fox_refusals.specs.Handed.{Handed, answer}
+use Rattle.fox_refusals.specs.declared.answer.Answer.{Answer}
+use Rattle.fox_refusals.proofs.Laws.Refusals.{first-given}
+use Rattle.fox_refusals.proofs.Laws.Reply.{refused, handed-reply}
 use Rattle.fox_schedule.specs.Schedule.{roundKeys}
-use Rattle.fox_cipher.specs.Block.{turnBlock, sealBlock, BlockOf}
-use Rattle.fox_cipher.specs.Calls.{TurnedBack}
-use Rattle.fox_cipher.proofs.Undoing.{block-served, blocks-same, turned-back-calls}
+use Rattle.fox_block.specs.Block.{turnBlock, sealBlock, BlockOf}
+use Rattle.fox_block.specs.Promise.{TurnedBack}
+use Rattle.fox_block.proofs.Blocks.{block-served, blocks-same, turned-back-calls}
 use Rattle.fox_run.specs.Counter.{counterBlock}
 use Rattle.fox_run.specs.Run.{run}
-use Rattle.fox_run.specs.Calls.{Runs}
+use Rattle.fox_run.specs.Promise.{Runs}
 use Rattle.fox_run.specs.Cuts.{CallsOf, CutOf}
-use Rattle.fox_run.proofs.Laws.Calls.{call-served}
+use Rattle.fox_run.proofs.Laws.Served.{call-served}
 use Rattle.fox_run.proofs.Bytes.{call-byte}
-use Rattle.fox_run.proofs.Undoing.{opened-sealed, runs-same}
+use Rattle.fox_run.proofs.Runs.{opened-sealed, runs-same}
 use Rattle.fox_run.proofs.Stretches.{stretch-opened-alone, cuts-joined, cuts-agree, cuts-undone, cuts-opened, stretch-of-cuts}
 use Rattle.fox_station.specs.Exports.{TurnHanded, RunHanded, RunExport}
 

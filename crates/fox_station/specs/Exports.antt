@@ -6,10 +6,10 @@ use mathlib.Core.List.{List}
 use Prim.Native.Nat.{ℕ}
 use lib.Dec.{eqb}
 use lib.ListN.{length}
-use Rattle.fox_calls.specs.Refusals.{forBlock, forRun}
-use Rattle.fox_calls.specs.Handed.{Handed}
-use Rattle.fox_calls.specs.declared.answer.Answer.{Answer}
-use Rattle.fox_cipher.specs.Block.{turnBlock}
+use Rattle.fox_refusals.specs.Refusals.{forBlock, forRun}
+use Rattle.fox_refusals.specs.Handed.{Handed}
+use Rattle.fox_refusals.specs.declared.answer.Answer.{Answer}
+use Rattle.fox_block.specs.Block.{turnBlock}
 use Rattle.fox_run.specs.Run.{run}
 
 -- one block sealed or opened, from cipher, rounds, key bytes and block, with the output before and after

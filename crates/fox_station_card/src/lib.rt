@@ -2,7 +2,7 @@
 // output length, or 0.
 ghost use mathlib.Core.Bool.{true, false};
 ghost use Rattle.fox_station.specs.Exports.{RunHanded, TurnHanded};
-use fox_card::block::turn;
+use fox_card_block::block::turn;
 use fox_card_run::run::run;
 
 #[no_mangle]

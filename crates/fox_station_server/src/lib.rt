@@ -2,7 +2,7 @@
 // output length, or 0. The key is prepared within the call.
 ghost use mathlib.Core.Bool.{true, false};
 ghost use Rattle.fox_station.specs.Exports.{RunHanded, TurnHanded};
-use fox_server::block::turn_from_key;
+use fox_server_block::block::turn_from_key;
 use fox_server_run::run::run_from_key;
 
 #[no_mangle]

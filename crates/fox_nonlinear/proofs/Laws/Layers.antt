@@ -6,7 +6,7 @@ use mathlib.Core.Bool.{Bool, true, false, cond}
 use Prim.Native.Nat.{ℕ}
 use Rattle.fox_layers.specs.Words.{joined, sum}
 use Rattle.fox_layers.specs.Substitution.{sigma}
-use Rattle.fox_keying.specs.Padding.{pad}
+use Rattle.fox_key_mixing.specs.Padding.{pad}
 use Rattle.fox_nonlinear.specs.Nonlinear.{words, flipped, layers}
 
 pub pad-4-4 : words 4 4 pad ≡ 0xB7E15162 ∷ 0x8AED2A6A ∷ 0xBF715880 ∷ 0x9CF4F3C7 ∷ []

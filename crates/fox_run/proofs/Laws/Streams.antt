@@ -15,14 +15,14 @@ use Rattle.fox_layers.proofs.Laws.Words.{length-split, joined-split}
 use Rattle.fox_rounds.specs.Skeleton.{size, turned}
 use Rattle.fox_rounds.specs.declared.state.State.{State}
 use Rattle.fox_rounds.specs.declared.state.State.the-variants.{Of64, Of128}
-use Rattle.fox_calls.specs.Refusals.{blockSize}
-use Rattle.fox_cipher.specs.Block.{state64, state128, state, bytes, turnWith}
-use Rattle.fox_cipher.proofs.Laws.Block.{state-size, turned-size, length-bytes}
+use Rattle.fox_refusals.specs.Refusals.{blockSize}
+use Rattle.fox_block.specs.Block.{state64, state128, state, bytes, turnWith}
+use Rattle.fox_block.proofs.Laws.Block.{state-size, turned-size, length-bytes}
 use Rattle.fox_run.specs.Counter.{counterBlock}
 use Rattle.fox_run.specs.Run.{streamed, addedFrom, keyStream, runWith}
 use Rattle.fox_run.specs.States.{counted64, counted128, counted, sealed, stream}
-use Rattle.fox_run.proofs.Laws.Sums.{length-sum-min, take-sum}
-use Rattle.fox_run.proofs.Laws.Added.{addedFrom-same}
+use Rattle.fox_run.proofs.Laws.XorEach.{length-sum-min, take-sum}
+use Rattle.fox_run.proofs.Laws.XorFrom.{addedFrom-same}
 
 -- the bytes of a stream from its byte number n on are those of a list, as far as that goes
 abbrev pub Stands : (ℕ → ℕ) → ℕ → List ℕ → Type 0

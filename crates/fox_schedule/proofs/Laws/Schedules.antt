@@ -11,16 +11,16 @@ use lib.ListN.{length}
 use borrow.Author.Tests.{le-leb, lt-leb, eq-eqb, ne-eqb}
 use Rattle.fox_rounds.specs.Skeleton.{numbered}
 use Rattle.fox_rounds.proofs.Laws.Skeleton.{numbered-next, numbered-same}
-use Rattle.fox_keying.specs.Padding.{mkey}
+use Rattle.fox_key_mixing.specs.Padding.{mkey}
 use Rattle.fox_register.specs.Register.{LFSR}
-use Rattle.fox_keying.specs.Diversification.{groups, dkey}
+use Rattle.fox_key_mixing.specs.Diversification.{groups, dkey}
 use Rattle.fox_nonlinear.specs.Nonlinear.{NL64, NL64h, NL128}
-use Rattle.fox_nonlinear.proofs.Laws.Wide.{NL128-lt}
+use Rattle.fox_nonlinear.proofs.Laws.Width.{NL128-lt}
 use Rattle.fox_nonlinear.specs.declared.nl128.Key128.{Key128}
 use Rattle.fox_schedule.specs.Schedule.{ek64, ek128, key64, key128, roundKey64, roundKey128, roundKey, roundKeys}
 use Rattle.fox_schedule.specs.Step.{made, steps, Scheduled, keyAt, narrow, Made}
-use Rattle.fox_schedule.specs.declared.step.Schedule.{Schedule}
-use Rattle.fox_schedule.specs.declared.step.Schedule.the-variants.{Ks64, Ks64h, Ks128}
+use Rattle.fox_schedule.specs.declared.schedule.Schedule.{Schedule}
+use Rattle.fox_schedule.specs.declared.schedule.Schedule.the-variants.{Ks64, Ks64h, Ks128}
 
 -- KS64
 pub key64-ks64 : (key : List ℕ) (reg : ℕ) → length key ≤ 16

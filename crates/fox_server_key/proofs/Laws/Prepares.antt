@@ -8,14 +8,14 @@ use native.Mathlib.Nat.{mul-le-mul-right}
 use native.Mathlib.Omega.{arith}
 use lib.Dec.{eqb, lit≤}
 use lib.ListN.{length}
-use Rattle.fox_calls.specs.Refusals.{refusalOf, blockSize, forKey, Keyed}
-use Rattle.fox_calls.proofs.Laws.Refusals.{keyed-served}
-use Rattle.fox_calls.proofs.Laws.Reply.{chosen, passed-over}
+use Rattle.fox_refusals.specs.Refusals.{refusalOf, blockSize, forKey, Keyed}
+use Rattle.fox_refusals.proofs.Laws.Refusals.{keyed-served}
+use Rattle.fox_refusals.proofs.Laws.Reply.{chosen, passed-over}
 use Rattle.fox_schedule.specs.Schedule.{roundKeys}
 use Rattle.fox_server_key.specs.Prepared.{preparedKey, noKey, Prepares, heldKeys}
 use Rattle.fox_server_key.specs.declared.prepared.Prepared.{Prepared}
 use Rattle.fox_server_key.specs.declared.prepared.Preparation.{Preparation}
-use Rattle.fox_server_key.proofs.Laws.Held.{held-prepared}
+use Rattle.fox_server_key.proofs.Laws.RoundKeys.{held-prepared}
 
 module _ (c n : ℕ) (key : List ℕ) (r : Preparation) where
   pub served-key : refusalOf (forKey c n (length key)) ≡ 0 → r .answer .refusal ≡ 0 → r .answer .count ≡ blockSize c * n → r .key ≡ preparedKey c n key

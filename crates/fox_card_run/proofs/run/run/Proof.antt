@@ -9,9 +9,9 @@ use native.Mathlib.Omega.{arith}
 use Rattle.fox_rounds.specs.declared.state.State.{State}
 use Rattle.fox_schedule.specs.Schedule.{roundKeys}
 use Rattle.fox_schedule.proofs.Laws.Schedules.{roundKeys-made}
-use Rattle.fox_calls.proofs.Laws.Refusals.{stretched}
-use Rattle.fox_calls.proofs.Laws.Reply.{served-reply, refused-reply}
-use Rattle.fox_cipher.proofs.Laws.Block.{rounds-whole}
+use Rattle.fox_refusals.proofs.Laws.Refusals.{stretched}
+use Rattle.fox_refusals.proofs.Laws.Reply.{served-reply, refused-reply}
+use Rattle.fox_block.proofs.Laws.Block.{rounds-whole}
 use Rattle.fox_run.specs.Run.{addedFrom}
 use Rattle.fox_run.specs.States.{stream}
 use Rattle.fox_run.proofs.Laws.Streams.{run-streamed}

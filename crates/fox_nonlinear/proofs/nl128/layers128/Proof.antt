@@ -5,7 +5,7 @@ use mathlib.Core.List.{[], _∷_}
 use Rattle.fox_layers.specs.Words.{sum}
 use Rattle.fox_layers.specs.Diffusion.{mu8}
 use Rattle.fox_nonlinear.specs.Nonlinear.{mix64, mix128, layers}
-use Rattle.fox_nonlinear.proofs.Laws.Words.{words32}
+use Rattle.fox_nonlinear.proofs.Laws.KeyWords.{words32}
 use Rattle.fox_nonlinear.proofs.Laws.Layers.{pad-8-4, layers-made}
 use Rattle.fox_nonlinear.proofs.nl128.layers128.Statement.{statement}
 use Rattle.fox_nonlinear.proofs.nl128.layers128.Tie as tie

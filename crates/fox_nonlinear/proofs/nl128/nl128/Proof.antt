@@ -2,7 +2,7 @@
 -- Assumes nothing.
 use Rattle.fox_rounds.specs.Skeleton.{through, seal128}
 use Rattle.fox_nonlinear.specs.Nonlinear.{number128, NL128}
-use Rattle.fox_nonlinear.proofs.Laws.Words.{pairs32}
+use Rattle.fox_nonlinear.proofs.Laws.KeyWords.{pairs32}
 use Rattle.fox_nonlinear.proofs.nl128.nl128.Statement.{statement}
 use Rattle.fox_nonlinear.proofs.nl128.nl128.Tie as tie
 

@@ -6,7 +6,7 @@ use mathlib.Core.List.{[], _∷_}
 use Rattle.fox_layers.specs.Words.{sum}
 use Rattle.fox_layers.specs.Diffusion.{mu4}
 use Rattle.fox_nonlinear.specs.Nonlinear.{mix64, layers}
-use Rattle.fox_nonlinear.proofs.Laws.Words.{halves16}
+use Rattle.fox_nonlinear.proofs.Laws.KeyWords.{halves16}
 use Rattle.fox_nonlinear.proofs.Laws.Layers.{pad-4-4, layers-made}
 use Rattle.fox_nonlinear.proofs.nl64.layers64.Statement.{statement}
 use Rattle.fox_nonlinear.proofs.nl64.layers64.Tie as tie

@@ -4,7 +4,7 @@ use mathlib.Core.Path.{_≡_}
 use Rattle.fox_layers.specs.Words.{_⊕_}
 use Rattle.fox_rounds.specs.Skeleton.{through, seal64}
 use Rattle.fox_nonlinear.specs.Nonlinear.{number64, NL64}
-use Rattle.fox_nonlinear.proofs.Laws.Words.{words16}
+use Rattle.fox_nonlinear.proofs.Laws.KeyWords.{words16}
 use Rattle.fox_nonlinear.proofs.nl64.nl64.Statement.{statement}
 use Rattle.fox_nonlinear.proofs.nl64.nl64.Tie as tie
 

@@ -6,7 +6,7 @@ use mathlib.Core.List.{[], _∷_}
 use Rattle.fox_layers.specs.Words.{sum}
 use Rattle.fox_layers.specs.Diffusion.{mu4}
 use Rattle.fox_nonlinear.specs.Nonlinear.{mix64h, layers}
-use Rattle.fox_nonlinear.proofs.Laws.Words.{halves32}
+use Rattle.fox_nonlinear.proofs.Laws.KeyWords.{halves32}
 use Rattle.fox_nonlinear.proofs.Laws.Layers.{pad-4-8, layers-made}
 use Rattle.fox_nonlinear.proofs.nl64h.layers64h.Statement.{statement}
 use Rattle.fox_nonlinear.proofs.nl64h.layers64h.Tie as tie

@@ -4,7 +4,7 @@ use mathlib.Core.Path.{_≡_}
 use Rattle.fox_layers.specs.Words.{_⊕_}
 use Rattle.fox_rounds.specs.Skeleton.{through, seal64}
 use Rattle.fox_nonlinear.specs.Nonlinear.{number64, NL64h}
-use Rattle.fox_nonlinear.proofs.Laws.Words.{words32}
+use Rattle.fox_nonlinear.proofs.Laws.KeyWords.{words32}
 use Rattle.fox_nonlinear.proofs.nl64h.nl64h.Statement.{statement}
 use Rattle.fox_nonlinear.proofs.nl64h.nl64h.Tie as tie
 

@@ -9,7 +9,7 @@ use Rattle.fox_rounds.specs.Rounds.{left, right}
 use Rattle.fox_rounds.specs.Skeleton.{numbered, place}
 use Rattle.fox_rounds.proofs.Laws.Halves.{left-pair, right-pair}
 use Rattle.fox_schedule.specs.Step.{keyAt, Stands}
-use Rattle.fox_schedule.proofs.Laws.Walk.{stands-on, stands-key}
+use Rattle.fox_schedule.proofs.Laws.RegisterAt.{stands-on, stands-key}
 use Rattle.fox_server_key.specs.Prepared.{inHalves, filled}
 use Rattle.fox_server_key.proofs.Laws.Filled.{filled-128}
 use Rattle.fox_server_key.proofs.prepared.fill128.Statement.{statement}

@@ -7,7 +7,7 @@ use mathlib.Core.Bool.{true}
 use Prim.Native.Nat.{ℕ, _-_, _≤_}
 use Rattle.fox_rounds.specs.Skeleton.{numbered, place}
 use Rattle.fox_schedule.specs.Step.{keyAt, Stands}
-use Rattle.fox_schedule.proofs.Laws.Walk.{stands-on, stands-key}
+use Rattle.fox_schedule.proofs.Laws.RegisterAt.{stands-on, stands-key}
 use Rattle.fox_schedule.proofs.Laws.Schedules.{right-made}
 use Rattle.fox_server_key.specs.Prepared.{filled}
 use Rattle.fox_server_key.proofs.Laws.Filled.{filled-64}

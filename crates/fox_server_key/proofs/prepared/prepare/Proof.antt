@@ -5,8 +5,8 @@ use mathlib.Core.Path.{sym, ap, _∙_}
 use Prim.Native.Nat.{ℕ, _*_}
 use native.Mathlib.Omega.{arith}
 use lib.ListN.{length}
-use Rattle.fox_calls.proofs.Laws.Refusals.{keyed}
-use Rattle.fox_cipher.proofs.Laws.Block.{rounds-whole}
+use Rattle.fox_refusals.proofs.Laws.Refusals.{keyed}
+use Rattle.fox_block.proofs.Laws.Block.{rounds-whole}
 use Rattle.fox_server_key.specs.Prepared.{preparedWords, preparedKey}
 use Rattle.fox_server_key.proofs.Laws.Prepares.{served-key, refused-key, in-use}
 use Rattle.fox_server_key.proofs.prepared.prepare.Statement.{statement}

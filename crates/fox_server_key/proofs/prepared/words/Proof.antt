@@ -6,7 +6,7 @@ use mathlib.Core.List.{List}
 use Prim.Native.Nat.{ℕ}
 use Rattle.fox_schedule.proofs.Laws.Schedules.{roundKeys-made, scheduled-narrow}
 use Rattle.fox_server_key.specs.Prepared.{inHalves, filled}
-use Rattle.fox_server_key.proofs.Laws.Held.{preparedWords-64, preparedWords-128}
+use Rattle.fox_server_key.proofs.Laws.RoundKeys.{preparedWords-64, preparedWords-128}
 use Rattle.fox_server_key.proofs.prepared.words.Statement.{statement}
 use Rattle.fox_server_key.proofs.prepared.words.Tie as tie
 

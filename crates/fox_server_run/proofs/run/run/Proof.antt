@@ -2,10 +2,10 @@
 -- those that the stretch for the cipher asks, and the round keys are those that the prepared key holds.
 -- Assumes nothing.
 use mathlib.Core.Path.{refl, sym, _∙_}
-use Rattle.fox_calls.proofs.Laws.Refusals.{stretched}
-use Rattle.fox_calls.proofs.Laws.Reply.{served-reply, refused-reply}
-use Rattle.fox_cipher.proofs.Laws.Block.{size-64, size-128}
-use Rattle.fox_server_run.proofs.Laws.Held.{ready, held-run-64, held-run-128}
+use Rattle.fox_refusals.proofs.Laws.Refusals.{stretched}
+use Rattle.fox_refusals.proofs.Laws.Reply.{served-reply, refused-reply}
+use Rattle.fox_block.proofs.Laws.Block.{size-64, size-128}
+use Rattle.fox_server_run.proofs.Laws.Stretch.{ready, held-run-64, held-run-128}
 use borrow.Author.Needs.{needs}
 use Rattle.fox_server_run.proofs.run.run.Statement.{statement}
 use Rattle.fox_server_run.proofs.run.run.Tie as tie

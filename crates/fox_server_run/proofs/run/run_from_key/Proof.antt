@@ -2,9 +2,9 @@
 -- definition.
 -- Assumes nothing.
 use mathlib.Core.Path.{refl, sym, _∙_}
-use Rattle.fox_calls.proofs.Laws.Refusals.{stretched}
-use Rattle.fox_calls.proofs.Laws.Reply.{refused-reply}
-use Rattle.fox_server_run.proofs.Prepared.{run-prepared}
+use Rattle.fox_refusals.proofs.Laws.Refusals.{stretched}
+use Rattle.fox_refusals.proofs.Laws.Reply.{refused-reply}
+use Rattle.fox_server_run.proofs.ByPrepared.{run-prepared}
 use borrow.Author.Needs.{needs}
 use Rattle.fox_server_run.proofs.run.run_from_key.Statement.{statement}
 use Rattle.fox_server_run.proofs.run.run_from_key.Tie as tie

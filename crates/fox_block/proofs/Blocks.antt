@@ -1,0 +1,72 @@
+-- Opening a block undoes sealing it, and sealing undoes opening: by the round keys of any list, so also by those that a caller put into a prepared key
+-- himself, and by those of a key. First on the definitions, and then on calls, whichever engines they are: when a call on a block is served and what it gives, that
+-- two of them answer the same, and that one undoes the other.
+-- Assumes nothing.
+use mathlib.Core.Path.{_≡_, sym, ap, _∙_}
+use mathlib.Core.Bool.{Bool, true, false, not}
+use mathlib.Core.List.{List}
+use Prim.Native.Nat.{ℕ}
+use lib.Dec.{eqb}
+use lib.ListN.{length}
+use Rattle.fox_rounds.specs.Skeleton.{turned}
+use Rattle.fox_rounds.specs.declared.state.State.{State}
+use Rattle.fox_rounds.proofs.Laws.Undoing.{turned-fits, turned-back}
+use Rattle.fox_schedule.specs.Schedule.{roundKeys}
+use Rattle.fox_refusals.specs.Refusals.{blockSize, forBlock, Keyed}
+use Rattle.fox_refusals.specs.Reply.{Served, Same}
+use Rattle.fox_refusals.specs.declared.answer.Answer.{Answer}
+use Rattle.fox_refusals.proofs.Laws.Refusals.{blocked-served}
+use Rattle.fox_refusals.proofs.Laws.Reply.{served, same}
+use Rattle.fox_block.specs.Block.{state, bytes, turnWith, sealBlock, openBlock, BlockOf}
+use Rattle.fox_block.specs.Promise.{TurnsWith, TurnedBack}
+use Rattle.fox_block.proofs.Laws.Block.{length-turned}
+use Rattle.fox_block.proofs.Laws.States.{state-bytes, bytes-state, state-fits}
+
+-- by the round keys of any list, and in either direction
+module _ (d : Bool) (c : ℕ) (ks block : List ℕ) (b : BlockOf c block) where
+  pub turn-back-with : turnWith (not d) c ks (turnWith d c ks block) ≡ block
+  unfolding turnWith
+  turn-back-with =
+      let x = state c block in
+      let w = state-fits c block b in
+      ap (λ (y : State). bytes (turned (not d) ks y)) (state-bytes c (turned d ks x) (turned-fits d (eqb c 64) ks x w))
+      ∙ ap bytes (turned-back d (eqb c 64) ks x w)
+      ∙ bytes-state c block b
+
+-- for every cipher, every round count of 12 to 255, every key of 0 to 32 bytes and every block of the right length
+module _ (c rounds : ℕ) (key block : List ℕ) (k : Keyed c rounds (length key)) (b : BlockOf c block) where
+  pub open-seal : openBlock c rounds key (sealBlock c rounds key block) ≡ block
+  open-seal = turn-back-with true c (roundKeys c rounds key) block b
+
+  pub seal-open : sealBlock c rounds key (openBlock c rounds key block) ≡ block
+  seal-open = turn-back-with false c (roundKeys c rounds key) block b
+
+-- A call on a block of the cipher's size, with an output as long: served, with the count B, and the block sealed or opened.
+module _ (d : Bool) (c rounds keyLen : ℕ) (ks block : List ℕ) (k : Keyed c rounds keyLen) (size : length block ≡ blockSize c) where
+  pub block-served : {before after : List ℕ} {r : Answer} → length before ≡ blockSize c → TurnsWith d c rounds keyLen ks block before after r
+      → Served (blockSize c) (turnWith d c ks block) after r
+  block-served room call =
+      let s = served call (blocked-served d (record { keyed = k; block = size; output = room ∙ sym size })) in
+      record { refusal = s .refusal; count = s .count ∙ room; output = s .output }
+
+-- Two calls that seal or open the same block, with outputs of one length, answer the same.
+pub blocks-same : (d : Bool) (c rounds keyLen : ℕ) (ks block : List ℕ) {before₁ before₂ after₁ after₂ : List ℕ} {r₁ r₂ : Answer}
+    → length before₁ ≡ length before₂ → TurnsWith d c rounds keyLen ks block before₁ after₁ r₁ → TurnsWith d c rounds keyLen ks block before₂ after₂ r₂
+    → Same before₁ before₂ after₁ after₂ r₁ r₂
+blocks-same d c rounds keyLen ks block l a b = same (ap (forBlock d c rounds keyLen (length block)) l) l a b
+
+-- A call that seals or opens a block, and a call that turns it back with the same round keys: both are served, and the second hands the block back. With the
+-- round keys of a key this is every pair of ways from key bytes; with those that a prepared key holds, whoever filled it, every pair that uses that key.
+module _ (d : Bool) (c rounds keyLen : ℕ) (ks block : List ℕ) (k : Keyed c rounds keyLen) (b : BlockOf c block) where
+  pub turned-back-calls : {before mid before-back after : List ℕ} {r s : Answer} → length before ≡ blockSize c → length before-back ≡ blockSize c
+      → TurnsWith d c rounds keyLen ks block before mid r → TurnsWith (not d) c rounds keyLen ks mid before-back after s → TurnedBack c block after r s
+  turned-back-calls room room-back first second =
+      let there = block-served d c rounds keyLen ks block k (b .size) room first in
+      let back = block-served (not d) c rounds keyLen ks _ k (ap length (there .output) ∙ length-turned d c ks block) room-back second in
+      record {
+        served = there .refusal;
+        count = there .count;
+        served-back = back .refusal;
+        count-back = back .count;
+        same = back .output ∙ ap (turnWith (not d) c ks) (there .output) ∙ turn-back-with d c ks block b;
+      }

@@ -1,0 +1,32 @@
+// Sealing and opening by the card's way: each round key is made when its round comes, where the register then stands.
+ghost use mathlib.Core.Path.{_≡_};
+ghost use Prim.Native.Nat.{_≤_, _<_, _^_};
+ghost use Rattle.fox_rounds.specs.Skeleton.{numbered, round, turned};
+ghost use Rattle.fox_schedule.specs.Step.{made, keyAt};
+use fox_rounds::state::State;
+use fox_schedule::schedule::Schedule;
+
+// The round with the round key that the register stands at.
+fn round_at(s: Schedule, reg: u32, y: State) -> State
+    requires { ⌜ reg < 2 ^ 24 ⌝ }
+    ensures { λ z. ⌜ z ≡ round (made s reg) y ⌝ }
+{
+    let k = s.round_key(reg);
+    y.round(k.left, k.right)
+}
+
+pub fn turned(sealing: bool, s: Schedule, rounds: u8, x: State) -> State
+    requires { ⌜ 1 ≤ rounds ⌝ }
+    ensures { λ y. ⌜ y ≡ turned sealing (numbered (keyAt s rounds) rounds 0) x ⌝ }
+{
+    let mut reg = s.first(sealing, rounds);
+    let mut y = x;
+    for i in 0..rounds {
+        if i > 0 {
+            y = y.between(sealing);
+            reg = s.next(sealing, reg);
+        }
+        y = round_at(s, reg, y);
+    }
+    y
+}

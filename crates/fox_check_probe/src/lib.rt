@@ -1,0 +1,71 @@
+// Exported functions whose instructions the gate counts (tests/instructions.sh, tests/measure.c), and the bench sheet for a fuzzer to call
+// (tests/fuzz.sh). No product uses this crate.
+ghost use mathlib.Core.Path.{_≡_};
+ghost use Rattle.fox_layers.specs.Tables.{picked};
+ghost use Rattle.fox_rounds.specs.Skeleton.{numbered, seal64, seal128};
+ghost use Rattle.fox_rounds.specs.RoundKeys.{held64, held128};
+ghost use Rattle.fox_register.specs.Register.{iterate};
+ghost use Rattle.fox_sheet.specs.Answer.{Answers};
+use fox_rounds::fox64::Fox64;
+use fox_rounds::fox128::Fox128;
+use fox_server_rounds::fox64;
+use fox_server_rounds::fox128;
+use fox_server_tables::tbs;
+use fox_server_tables::tbsm4;
+use fox_server_tables::tbsm8;
+use fox_sheet_answer::answer;
+
+#[no_mangle]
+pub extern "C" fn fox_probe_pick4(t: &[u32; 1024], w: u32) -> u32
+    ensures { λ r. ⌜ r ≡ picked 4 (now (t .entry)) w ⌝ }
+{
+    fox_server_rounds::lookups::pick4(t, w)
+}
+
+#[no_mangle]
+pub extern "C" fn fox_probe_pick8(t: &[u64; 2048], w: u64) -> u64
+    ensures { λ r. ⌜ r ≡ picked 8 (now (t .entry)) w ⌝ }
+{
+    fox_server_rounds::lookups::pick8(t, w)
+}
+
+// One block sealed so many times by the first 16 round keys of those lent: the left word.
+#[no_mangle]
+pub extern "C" fn fox_probe_again64(keys: &[u64; 510], blocks: u32, l: u32, r: u32) -> u32
+    ensures { λ w. ⌜ w ≡ iterate blocks (seal64 (numbered (held64 (now (keys .entry))) 16 0)) (record { l = l; r = r }) .l ⌝ }
+{
+    let s = tbs::tbs();
+    let t = tbsm4::tbsm();
+    let mut y = Fox64::new(l, r);
+    for i in 0..blocks {
+        y = fox64::turn64(true, &s, &t, keys, 16, y);
+    }
+    y.l
+}
+
+#[no_mangle]
+pub extern "C" fn fox_probe_again128(
+    keys: &[u64; 510],
+    blocks: u32,
+    a: u32,
+    b: u32,
+    c: u32,
+    d: u32,
+) -> u32
+    ensures { λ w. ⌜ w ≡ iterate blocks (seal128 (numbered (held128 (now (keys .entry))) 16 0)) (record { ll = a; lr = b; rl = c; rr = d }) .ll ⌝ }
+{
+    let s = tbs::tbs();
+    let t = tbsm8::tbsm();
+    let mut y = Fox128::new(a, b, c, d);
+    for i in 0..blocks {
+        y = fox128::turn128(true, &s, &t, keys, 16, y);
+    }
+    y.ll
+}
+
+#[no_mangle]
+pub extern "C" fn fox_probe_sheet(sheet: &[u8], out: &mut [u8; 128]) -> usize
+    ensures { λ r. ⌜ Answers (now (sheet .entry)) (now (out .entry)) (now (out .exit)) r ⌝ }
+{
+    answer::answer(sheet, out)
+}

@@ -1,0 +1,103 @@
+// Runs one row by every way, sealing and opening: by the card, by the server from key bytes, and by the server from a prepared key.
+ghost use Prim.Native.Nat.{_≤_};
+ghost use lib.ListN.{length};
+use crate::lines;
+use crate::prepared_key;
+use fox_card_block::block as card;
+use fox_refusals::answer::Answer;
+use fox_server_block::block as server;
+use fox_text_lines::lines::same;
+use fox_text_lines::lines::starts_with;
+
+const PAINT: u8 = 0xA5;
+
+// What a row asks of a way (0: the card, 1: the server from key bytes, 2: from a prepared key), and the refusal that is due.
+struct Call {
+    way: u32,
+    seals: bool,
+    cipher: u32,
+    rounds: u32,
+    refusal: u32,
+}
+
+// Prints the ways that differ from what the row says, and answers whether none does.
+pub(crate) fn agree(
+    cipher: u32,
+    rounds: u32,
+    refusal: u32,
+    key: &[u8],
+    block: &[u8],
+    sealed: &[u8],
+) -> bool
+    requires { ⌜ (length (now block) ≤ 64) × (length (now sealed) ≤ 64) ⌝ }
+{
+    let card = undoes(0, cipher, rounds, refusal, key, block, sealed);
+    let server = undoes(1, cipher, rounds, refusal, key, block, sealed);
+    let prepared = undoes(2, cipher, rounds, refusal, key, block, sealed);
+    card & server & prepared
+}
+
+// Sealing turns the block into the sealed one, and opening turns it back. A refused row has nothing sealed to open, so there its block is opened too, and
+// the sealed one has the output's length.
+fn undoes(
+    way: u32,
+    cipher: u32,
+    rounds: u32,
+    refusal: u32,
+    key: &[u8],
+    block: &[u8],
+    sealed: &[u8],
+) -> bool
+    requires { ⌜ (length (now block) ≤ 64) × (length (now sealed) ≤ 64) ⌝ }
+{
+    let seals = Call {
+        way: way,
+        seals: true,
+        cipher: cipher,
+        rounds: rounds,
+        refusal: refusal,
+    };
+    let opens = Call {
+        way: way,
+        seals: false,
+        cipher: cipher,
+        rounds: rounds,
+        refusal: refusal,
+    };
+    if refusal != 0 {
+        return tries(seals, key, block, sealed) & tries(opens, key, block, sealed);
+    }
+    tries(seals, key, block, sealed) & tries(opens, key, sealed, block)
+}
+
+// Whether a call turns `from` into `to`, or is refused and leaves its output alone: the output is painted first, so that it shows.
+fn tries(c: Call, key: &[u8], from: &[u8], to: &[u8]) -> bool
+    requires { ⌜ length (now to) ≤ 64 ⌝ }
+{
+    let mut out = [PAINT; 64];
+    let n = to.len();
+    let right = puts(c, key, from, to, &mut out[..n]);
+    if !right {
+        lines::print_way(c.way, c.seals);
+    }
+    right
+}
+
+fn puts(c: Call, key: &[u8], from: &[u8], to: &[u8], out: &mut [u8]) -> bool {
+    let answer = make(c, key, from, out);
+    if c.refusal != 0 {
+        let painted = starts_with(out, &[PAINT; 64]);
+        return (answer.refusal == c.refusal) & (answer.count == 0) & painted;
+    }
+    (answer.refusal == 0) & (answer.count == out.len()) & same(out, to)
+}
+
+fn make(c: Call, key: &[u8], from: &[u8], out: &mut [u8]) -> Answer {
+    if c.way == 0 {
+        return card::turn(c.seals, c.cipher, c.rounds, key, from, out);
+    }
+    if c.way == 1 {
+        return server::turn_from_key(c.seals, c.cipher, c.rounds, key, from, out);
+    }
+    prepared_key::call(c.seals, c.cipher, c.rounds, key, from, out)
+}

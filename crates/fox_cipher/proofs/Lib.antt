@@ -1,4 +1,0 @@
--- The laws of the definitions in specs/, and the theorems on blocks.
-pub mod Laws
-pub mod Undoing
-pub mod Known

@@ -1,2 +1,0 @@
-// FOX on one block: the definition that every way of doing it is held to, and blocks of bytes as states.
-pub mod blocks;

@@ -1,0 +1,2 @@
+// Blocks of bytes as the words that rounds work on, and back: what every engine does alike.
+pub mod blocks;

@@ -1,0 +1,3 @@
+// The steps of a run in counter mode that every engine takes: counter blocks as states, and a sealed counter block added to bytes.
+pub mod counter;
+pub mod key_stream;

@@ -1,0 +1,4 @@
+-- Laws beside definitions: what a proof cites in place of a definition's text.
+pub mod KeyBytes
+pub mod Stream
+pub mod Mixing

@@ -1,0 +1,191 @@
+-- The first refusal of a list, test by test, and what is known where none applies. A list's number is 0 exactly where every test of it is
+-- false, since no refusal has the number 0; and each test is true exactly where its fact fails.
+-- Assumes nothing.
+use mathlib.Core.Path.{_≡_, refl, sym, ap, _∙_}
+use mathlib.Core.Logic.{_⊎_, inl, inr, ⊎-elim}
+use mathlib.Core.Bool.{Bool, true, false, cond, not, true≢false}
+use mathlib.Core.List.{List, [], _∷_, _++_}
+use Prim.Native.Nat.{ℕ, _+_, _≤_}
+use lib.Dec.{ltb, eqb}
+use borrow.Author.Tests.{ltb-false, eqb-true, eqb-false, le-ltb, eq-eqb, ne-eqb, not-false}
+use Rattle.fox_refusals.specs.Refusals.{Refusal, refusalOf, First, here, later, orElse, differs, blockSize, noCipher, noRounds, longKey, noBlock, longData, noOutput, pastEnd, forKey, forBlock, forStretch, forRun, Keyed, Blocked, Stretched}
+
+-- no test of the list applies
+unfoldable pub Passed : List Refusal → Type 0
+Passed [] = Unit {0}
+Passed (x ∷ xs) = (x .applies ≡ false) × Passed xs
+
+-- no refusal of the list has the number 0, which says that none applies: a test that is computed
+unfoldable pub numbered : List Refusal → Bool
+numbered [] = true
+numbered (x ∷ xs) = cond (eqb (x .number) 0) false (numbered xs)
+
+-- the tests of a list taken one after the other, as code does it, from what is found so far
+unfoldable pub chain : ℕ → List Refusal → ℕ
+chain r [] = r
+chain r (x ∷ xs) = chain (orElse r (x .applies) (x .number)) xs
+
+by-test : {P : Type 0} (t : Bool) → (t ≡ true → P) → (t ≡ false → P) → P
+by-test true f g = f refl
+by-test false f g = g refl
+
+-- the first test of a list
+
+refusal-here : (x : Refusal) (xs : List Refusal) → x .applies ≡ true → refusalOf (x ∷ xs) ≡ x .number
+unfolding refusalOf
+refusal-here x xs e = ap (λ (t : Bool). cond t (x .number) (refusalOf xs)) e
+
+refusal-later : (x : Refusal) (xs : List Refusal) → x .applies ≡ false → refusalOf (x ∷ xs) ≡ refusalOf xs
+unfolding refusalOf
+refusal-later x xs e = ap (λ (t : Bool). cond t (x .number) (refusalOf xs)) e
+
+first-numbered : (t u : Bool) → cond t false u ≡ true → (t ≡ false) × (u ≡ true)
+first-numbered true u e = absurd (true≢false (sym e))
+first-numbered false u e = (refl, e)
+
+-- the number of the first refusal is not 0, and the rest is numbered too
+not-zero : (x : Refusal) (xs : List Refusal) → numbered (x ∷ xs) ≡ true → (x .number ≡ 0 → ⊥) × (numbered xs ≡ true)
+unfolding numbered
+not-zero x xs n = let h = first-numbered (eqb (x .number) 0) (numbered xs) n in (eqb-false (x .number) 0 (h .0), h .1)
+
+-- a whole list
+
+pub passed-served : (xs : List Refusal) → Passed xs → refusalOf xs ≡ 0
+unfolding Passed refusalOf
+passed-served [] p = refl
+passed-served (x ∷ xs) p = refusal-later x xs (p .0) ∙ passed-served xs (p .1)
+
+pub served-passed : (xs : List Refusal) → numbered xs ≡ true → refusalOf xs ≡ 0 → Passed xs
+unfolding Passed
+served-passed [] n e = tt
+served-passed (x ∷ xs) n e =
+    let h = not-zero x xs n in
+    by-test (x .applies) (λ t. absurd (h .0 (sym (refusal-here x xs t) ∙ e))) (λ t. (t, served-passed xs (h .1) (sym (refusal-later x xs t) ∙ e)))
+
+-- a number other than 0 is given exactly when it is that of the first refusal that applies
+
+pub first-given : {n : ℕ} {xs : List Refusal} → First n xs → refusalOf xs ≡ n
+first-given (here {x} {xs} t e) = refusal-here x xs t ∙ e
+first-given (later {x} {xs} t f) = refusal-later x xs t ∙ first-given f
+
+pub given-first : (n : ℕ) (xs : List Refusal) → refusalOf xs ≡ n → (n ≡ 0 → ⊥) → First n xs
+unfolding refusalOf
+given-first n [] e isnt = absurd (isnt (sym e))
+given-first n (x ∷ xs) e isnt =
+    by-test (x .applies) (λ t. here t (sym (refusal-here x xs t) ∙ e)) (λ t. later t (given-first n xs (sym (refusal-later x xs t) ∙ e) isnt))
+
+-- what is found stays, whatever tests follow
+chain-stays : (r : ℕ) (xs : List Refusal) → (r ≡ 0 → ⊥) → chain r xs ≡ r
+unfolding chain orElse
+chain-stays r [] h = refl
+chain-stays r (x ∷ xs) h =
+    ap (λ (t : Bool). chain (cond t (cond (x .applies) (x .number) 0) r) xs) (ne-eqb r 0 h) ∙ chain-stays r xs h
+
+chain-first : (xs : List Refusal) → numbered xs ≡ true → chain 0 xs ≡ refusalOf xs
+unfolding chain orElse refusalOf
+chain-first [] n = refl
+chain-first (x ∷ xs) n =
+    let h = not-zero x xs n in
+    let found : Bool → ℕ = λ t. chain (cond t (x .number) 0) xs in
+    by-test (x .applies) (λ t. ap found t ∙ chain-stays (x .number) xs (h .0) ∙ sym (refusal-here x xs t))
+    (λ t. ap found t ∙ chain-first xs (h .1) ∙ sym (refusal-later x xs t))
+
+-- a list, and then the tests of another
+pub chained : (xs ys : List Refusal) → numbered (xs ++ ys) ≡ true → chain (refusalOf xs) ys ≡ refusalOf (xs ++ ys)
+unfolding refusalOf
+chained [] ys n = chain-first ys n
+chained (x ∷ xs) ys n =
+    let h = not-zero x (xs ++ ys) n in
+    by-test (x .applies) (λ t. ap (λ (r : ℕ). chain r ys) (refusal-here x xs t) ∙ chain-stays (x .number) ys (h .0) ∙ sym (refusal-here x (xs ++ ys) t))
+    (λ t. ap (λ (r : ℕ). chain r ys) (refusal-later x xs t) ∙ chained xs ys (h .1) ∙ sym (refusal-later x (xs ++ ys) t))
+
+-- two numbers that must be the same; for a limit the tests' own laws serve
+
+differs-passed : (a b : ℕ) → a ≡ b → differs a b ≡ false
+differs-passed a b e = rw (eq-eqb a b e)
+
+differs-known : (a b : ℕ) → differs a b ≡ false → a ≡ b
+differs-known a b e = eqb-true a b (not-false (eqb a b) e)
+
+-- cipher and rounds, each of two tests
+
+cipher-passed : (c : ℕ) → (c ≡ 64) ⊎ (c ≡ 128) → noCipher c .applies ≡ false
+unfolding noCipher
+cipher-passed c (inl e) = rw (eq-eqb c 64 e)
+cipher-passed c (inr e) = by-test (eqb c 64) (λ t. rw t) (λ t. rw (t, eq-eqb c 128 e))
+
+either : (a b : Bool) → cond a false (not b) ≡ false → (a ≡ true) ⊎ (b ≡ true)
+either true b e = inl refl
+either false b e = inr (not-false b e)
+
+cipher-known : (c : ℕ) → noCipher c .applies ≡ false → (c ≡ 64) ⊎ (c ≡ 128)
+unfolding noCipher
+cipher-known c e = ⊎-elim (λ t. inl (eqb-true c 64 t)) (λ t. inr (eqb-true c 128 t)) (either (eqb c 64) (eqb c 128) e)
+
+neither : (a b : Bool) → cond a true b ≡ false → (a ≡ false) × (b ≡ false)
+neither true b e = (e, absurd (true≢false e))
+neither false b e = (refl, e)
+
+-- a key
+
+keyed-passed : {c r k : ℕ} → Keyed c r k → Passed (forKey c r k)
+unfolding Passed forKey noRounds longKey
+keyed-passed {c} {r} {k} h =
+    (cipher-passed c (h .cipher), (rw (le-ltb r 12 (h .low), le-ltb 255 r (h .high)), (le-ltb 32 k (h .key), tt)))
+
+passed-keyed : (c r k : ℕ) → noCipher c .applies ≡ false → noRounds r .applies ≡ false → longKey k .applies ≡ false → Keyed c r k
+unfolding noRounds longKey
+passed-keyed c r k pc pr pk =
+    let t = neither (ltb r 12) (ltb 255 r) pr in
+    record { cipher = cipher-known c pc; low = ltb-false r 12 (t .0); high = ltb-false 255 r (t .1); key = ltb-false 32 k pk }
+
+pub keyed-served : {c r k : ℕ} → Keyed c r k → refusalOf (forKey c r k) ≡ 0
+keyed-served {c} {r} {k} h = passed-served (forKey c r k) (keyed-passed h)
+
+pub keyed : (c r k : ℕ) → refusalOf (forKey c r k) ≡ 0 → Keyed c r k
+unfolding Passed numbered forKey noCipher noRounds longKey
+keyed c r k e =
+    let p = served-passed (forKey c r k) refl e in
+    passed-keyed c r k (p .0) (p .1 .0) (p .1 .1 .0)
+
+-- one block
+
+pub blocked-served : (sealing : Bool) {c r k b o : ℕ} → Blocked c r k b o → refusalOf (forBlock sealing c r k b o) ≡ 0
+unfolding Passed forKey forBlock noBlock noOutput
+blocked-served sealing {c} {r} {k} {b} {o} h =
+    let p = keyed-passed (h .keyed) in
+    passed-served (forBlock sealing c r k b o)
+    (p .0, (p .1 .0, (p .1 .1 .0, (differs-passed b (blockSize c) (h .block), (differs-passed o b (h .output), tt)))))
+
+pub blocked : (sealing : Bool) (c r k b o : ℕ) → refusalOf (forBlock sealing c r k b o) ≡ 0 → Blocked c r k b o
+unfolding Passed numbered forKey forBlock noCipher noRounds longKey noBlock noOutput
+blocked sealing c r k b o e =
+    let p = served-passed (forBlock sealing c r k b o) refl e in
+    let q = p .1 .1 .1 in
+    record {
+      keyed = passed-keyed c r k (p .0) (p .1 .0) (p .1 .1 .0);
+      block = differs-known b (blockSize c) (q .0);
+      output = differs-known o b (q .1 .0);
+    }
+
+-- a stretch of a run
+
+pub stretched-served : {c r k b n d o : ℕ} → Stretched c r k b n d o → refusalOf (forRun c r k b n d o) ≡ 0
+unfolding Passed forKey forStretch forRun noBlock longData noOutput pastEnd
+stretched-served {c} {r} {k} {b} {n} {d} {o} h =
+    let p = keyed-passed (h .keyed) in
+    passed-served (forRun c r k b n d o)
+    (p .0, (p .1 .0, (p .1 .1 .0, (differs-passed b (blockSize c) (h .counter), (le-ltb 65536 d (h .short), (differs-passed o d (h .output), (le-ltb 1073741824 (n + d) (h .end), tt)))))))
+
+pub stretched : (c r k b n d o : ℕ) → refusalOf (forRun c r k b n d o) ≡ 0 → Stretched c r k b n d o
+unfolding Passed numbered forKey forStretch forRun noCipher noRounds longKey noBlock longData noOutput pastEnd
+stretched c r k b n d o e =
+    let p = served-passed (forRun c r k b n d o) refl e in
+    let q = p .1 .1 .1 in
+    record {
+      keyed = passed-keyed c r k (p .0) (p .1 .0) (p .1 .1 .0);
+      counter = differs-known b (blockSize c) (q .0);
+      short = ltb-false 65536 d (q .1 .0);
+      output = differs-known o d (q .1 .1 .0);
+      end = ltb-false 1073741824 (n + d) (q .1 .1 .1 .0);
+    }

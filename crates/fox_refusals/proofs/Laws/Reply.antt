@@ -1,0 +1,83 @@
+-- A reply from its parts, and what it says: the two ways that a call ends. Which one it is, is decided by whether the number of the refusals is 0.
+-- Assumes nothing.
+use mathlib.Core.Path.{_≡_, sym, ap, ap₂, _∙_}
+use mathlib.Core.Bool.{cond}
+use mathlib.Core.List.{List}
+use Prim.Native.Nat.{ℕ}
+use lib.Dec.{eqb}
+use lib.ListN.{length}
+use borrow.Author.Tests.{eq-eqb, ne-eqb}
+use Rattle.fox_refusals.specs.Refusals.{Refusal, refusalOf, First}
+use Rattle.fox_refusals.specs.Reply.{Reply, Served, Refused, Same}
+use Rattle.fox_refusals.specs.Handed.{Handed, answer}
+use Rattle.fox_refusals.specs.declared.answer.Answer.{Answer}
+use Rattle.fox_refusals.proofs.Laws.Refusals.{first-given}
+
+-- which of two a number of refusals picks
+pub chosen : {A : Type 0} (n : ℕ) (a b : A) → n ≡ 0 → a ≡ cond (eqb n 0) a b
+chosen n a b e = simp (eq-eqb n 0 e)
+
+pub passed-over : {A : Type 0} (n : ℕ) (a b : A) → (n ≡ 0 → ⊥) → b ≡ cond (eqb n 0) a b
+passed-over n a b e = simp (ne-eqb n 0 e)
+
+pub served-reply : (rs : List Refusal) (value before after : List ℕ) (r : Answer) → refusalOf rs ≡ 0 → r .refusal ≡ 0 → r .count ≡ length before → after ≡ value → Reply rs value before after r
+served-reply rs value before after r served refusal count output =
+    record {
+      refusal = refusal ∙ sym served;
+      count = count ∙ chosen (refusalOf rs) (length before) 0 served;
+      output = output ∙ chosen (refusalOf rs) value before served;
+    }
+
+pub refused-reply : (rs : List Refusal) (value before after : List ℕ) (r : Answer) → r .refusal ≡ refusalOf rs → (refusalOf rs ≡ 0 → ⊥) → r .count ≡ 0 → after ≡ before → Reply rs value before after r
+refused-reply rs value before after r refusal refused count output =
+    record {
+      refusal = refusal;
+      count = count ∙ passed-over (refusalOf rs) (length before) 0 refused;
+      output = output ∙ passed-over (refusalOf rs) value before refused;
+    }
+
+-- what a reply says
+
+module _ {rs : List Refusal} {value before after : List ℕ} {r : Answer} (call : Reply rs value before after r) where
+  pub served : refusalOf rs ≡ 0 → Served (length before) value after r
+  served z =
+      record {
+        refusal = call .refusal ∙ z;
+        count = call .count ∙ sym (chosen (refusalOf rs) (length before) 0 z);
+        output = call .output ∙ sym (chosen (refusalOf rs) value before z);
+      }
+
+  -- a refused call has count 0 and leaves the output as it was, whatever kind of call it is
+  pub refused : (r .refusal ≡ 0 → ⊥) → Refused rs before after r
+  refused n =
+      let h : refusalOf rs ≡ 0 → ⊥ = λ z. n (call .refusal ∙ z) in
+      record {
+        refusal = call .refusal;
+        count = call .count ∙ sym (passed-over (refusalOf rs) (length before) 0 h);
+        output = call .output ∙ sym (passed-over (refusalOf rs) value before h);
+      }
+
+  -- and which number it is: that of the first refusal that applies
+  pub refused-by : {n : ℕ} → First n rs → (n ≡ 0 → ⊥) → Refused rs before after r × (r .refusal ≡ n)
+  refused-by f isnt =
+      let is = call .refusal ∙ first-given f in
+      (refused (λ z. isnt (sym is ∙ z)), is)
+
+-- two calls with the same refusals, the same value and outputs of one length, whichever engines they are and whatever the outputs held
+pub same : {rs₁ rs₂ : List Refusal} {value before₁ before₂ after₁ after₂ : List ℕ} {r₁ r₂ : Answer} → rs₁ ≡ rs₂ → length before₁ ≡ length before₂
+    → Reply rs₁ value before₁ after₁ r₁ → Reply rs₂ value before₂ after₂ r₂ → Same before₁ before₂ after₁ after₂ r₁ r₂
+same {rs₁} {rs₂} {value} e l a b =
+    let number = a .refusal ∙ ap refusalOf e ∙ sym (b .refusal) in
+    record {
+      refusal = number;
+      count = a .count ∙ ap₂ (λ (rs : List Refusal) (n : ℕ). cond (eqb (refusalOf rs) 0) n 0) e l ∙ sym (b .count);
+      served = λ z. served a (sym (a .refusal) ∙ z) .output ∙ sym (served b (sym (b .refusal) ∙ sym number ∙ z) .output);
+      lent-alike = λ q. a .output ∙ ap₂ (λ (rs : List Refusal) (old : List ℕ). cond (eqb (refusalOf rs) 0) value old) e q ∙ sym (b .output);
+    }
+
+-- what a call over the C interface hands back is a reply, with the count that follows from the number
+pub handed-reply : {rs : List Refusal} {value before after : List ℕ} {r : ℕ}
+    → Handed rs value before after r → Reply rs value before after (answer r (length before))
+unfolding answer
+handed-reply {before = before} h =
+    record { refusal = h .refusal; count = ap (λ (n : ℕ). cond (eqb n 0) (length before) 0) (h .refusal); output = h .output }

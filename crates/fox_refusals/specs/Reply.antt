@@ -1,0 +1,40 @@
+-- The whole answer of a call: refusal number, count, and every byte of the output; and how it ends, served or refused.
+-- Assumes nothing.
+use mathlib.Core.Path.{_≡_}
+use Prim.Native.Nat.{ℕ}
+use mathlib.Core.List.{List}
+use mathlib.Core.Bool.{cond}
+use lib.Dec.{eqb}
+use lib.ListN.{length}
+use Rattle.fox_refusals.specs.Refusals.{Refusal, refusalOf}
+use Rattle.fox_refusals.specs.declared.answer.Answer.{Answer}
+
+-- success is 0 with the output length as count and the value written; a refusal has count 0 and leaves the output as it was
+pub record Reply (refusals : List Refusal) (value before after : List ℕ) (r : Answer) : Type 0 where
+  pub refusal : r .refusal ≡ refusalOf refusals
+  pub count : r .count ≡ cond (eqb (refusalOf refusals) 0) (length before) 0
+  pub output : after ≡ cond (eqb (refusalOf refusals) 0) value before
+
+-- the same for a call that writes nothing: the count is 0
+pub record Verdict (refusals : List Refusal) (r : Answer) : Type 0 where
+  pub refusal : r .refusal ≡ refusalOf refusals
+  pub count : r .count ≡ 0
+
+-- a call that is served: it hands back 0 and a count, and its output is a value
+pub record Served (n : ℕ) (value after : List ℕ) (r : Answer) : Type 0 where
+  pub refusal : r .refusal ≡ 0
+  pub count : r .count ≡ n
+  pub output : after ≡ value
+
+-- a call that is refused: it hands back the first refusal that applies and count 0, and the output is as it was
+pub record Refused (refusals : List Refusal) (before after : List ℕ) (r : Answer) : Type 0 where
+  pub refusal : r .refusal ≡ refusalOf refusals
+  pub count : r .count ≡ 0
+  pub output : after ≡ before
+
+-- two calls that answer the same: refusal and count, and the output where they are served, or where both outputs held the same before
+pub record Same (before₁ before₂ after₁ after₂ : List ℕ) (r₁ r₂ : Answer) : Type 0 where
+  pub refusal : r₁ .refusal ≡ r₂ .refusal
+  pub count : r₁ .count ≡ r₂ .count
+  pub served : r₁ .refusal ≡ 0 → after₁ ≡ after₂
+  pub lent-alike : before₁ ≡ before₂ → after₁ ≡ after₂

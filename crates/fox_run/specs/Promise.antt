@@ -1,0 +1,19 @@
+-- What a call on a stretch of a run promises, whole: refusal number, count and every byte of the output, for all inputs. Every way cites these.
+-- Assumes nothing.
+use Prim.Native.Nat.{ℕ}
+use mathlib.Core.List.{List}
+use lib.ListN.{length}
+use Rattle.fox_refusals.specs.Refusals.{forRun}
+use Rattle.fox_refusals.specs.Reply.{Reply}
+use Rattle.fox_refusals.specs.declared.answer.Answer.{Answer}
+use Rattle.fox_schedule.specs.Schedule.{roundKeys}
+use Rattle.fox_run.specs.Run.{runWith}
+
+-- from cipher, rounds, key length, a list of round keys, counter block, offset and input, with the output before and after
+abbrev pub RunsWith : ℕ → ℕ → ℕ → List ℕ → List ℕ → ℕ → List ℕ → List ℕ → List ℕ → Answer → Type 0
+RunsWith cipher rounds keyLen rks counter offset input before after r =
+    Reply (forRun cipher rounds keyLen (length counter) offset (length input) (length before)) (runWith cipher rks counter offset input) before after r
+
+-- from cipher, rounds and key bytes: the round keys are the key's
+abbrev pub Runs : ℕ → ℕ → List ℕ → List ℕ → ℕ → List ℕ → List ℕ → List ℕ → Answer → Type 0
+Runs cipher rounds key = RunsWith cipher rounds (length key) (roundKeys cipher rounds key)

@@ -1,3 +1,0 @@
-// The steps of a run in counter mode that every engine takes: counter blocks as states, and a sealed counter block added to bytes.
-pub mod counter;
-pub mod pads;

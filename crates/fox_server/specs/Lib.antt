@@ -1,2 +1,0 @@
--- What the server's steps on one block ask.
-pub mod Steps

@@ -1,0 +1,2 @@
+-- Laws beside definitions: what a proof cites in place of a definition's text.
+pub mod Ready

@@ -1,0 +1,2 @@
+-- What the server's steps on one block ask.
+pub mod Ready

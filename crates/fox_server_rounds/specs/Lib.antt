@@ -1,0 +1,2 @@
+-- What the server's rounds are passed by reference.
+pub mod Tables

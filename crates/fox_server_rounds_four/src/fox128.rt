@@ -1,0 +1,72 @@
+// Four blocks of FOX128 sealed side by side over lent tables and lent round keys: each round key is read once for the four.
+// The round stands here with "or" and without it, for the reason given in four64.
+ghost use mathlib.Core.Path.{_≡_};
+ghost use Prim.Native.Nat.{_+_, _*_, _^_, _≤_};
+ghost use Rattle.fox_layers.specs.Diffusion.{mu8Rows};
+ghost use Rattle.fox_rounds.specs.Skeleton.{numbered};
+ghost use Rattle.fox_rounds.specs.RoundKeys.{held128};
+ghost use Rattle.fox_server_rounds.specs.Tables.{Lent};
+ghost use Rattle.fox_server_rounds_four.specs.Four.{elmidFour128, orFour128, sealFour128};
+use fox_rounds::fox128::Fox128;
+use fox_server_rounds::fox128::elmid128;
+
+pub struct Four128 {
+    pub first: Fox128,
+    pub second: Fox128,
+    pub third: Fox128,
+    pub fourth: Fox128,
+}
+
+// The round of all four with one round key, of two words: the left one k, the right one l.
+fn elmid_four128(s: &[u32; 1024], t: &[u64; 2048], x: Four128, k: u64, l: u64) -> Four128
+    requires { ⌜ Lent mu8Rows (now s) (now t) ⌝ }
+    ensures { λ r. ⌜ r ≡ elmidFour128 (k * 2 ^ 64 + l) x ⌝ }
+{
+    let p = x.first;
+    let q = x.second;
+    let u = x.third;
+    let v = x.fourth;
+    Four128 {
+        first: elmid128(s, t, p, k, l),
+        second: elmid128(s, t, q, k, l),
+        third: elmid128(s, t, u, k, l),
+        fourth: elmid128(s, t, v, k, l),
+    }
+}
+
+// The round of all four with one round key, and "or" after it.
+fn elmor_four128(s: &[u32; 1024], t: &[u64; 2048], x: Four128, k: u64, l: u64) -> Four128
+    requires { ⌜ Lent mu8Rows (now s) (now t) ⌝ }
+    ensures { λ r. ⌜ r ≡ orFour128 (elmidFour128 (k * 2 ^ 64 + l) x) ⌝ }
+{
+    let p = x.first;
+    let q = x.second;
+    let u = x.third;
+    let v = x.fourth;
+    Four128 {
+        first: elmid128(s, t, p, k, l).or(),
+        second: elmid128(s, t, q, k, l).or(),
+        third: elmid128(s, t, u, k, l).or(),
+        fourth: elmid128(s, t, v, k, l).or(),
+    }
+}
+
+pub fn seal_four128(
+    s: &[u32; 1024],
+    t: &[u64; 2048],
+    keys: &[u64; 510],
+    rounds: usize,
+    x: Four128,
+) -> Four128
+    requires { ⌜ Lent mu8Rows (now s) (now t) ⌝ }
+    requires { ⌜ 1 ≤ rounds ⌝ }
+    requires { ⌜ rounds ≤ 255 ⌝ }
+    ensures { λ r. ⌜ r ≡ sealFour128 (numbered (held128 (now (keys .entry))) rounds 0) x ⌝ }
+{
+    let last = rounds - 1;
+    let mut y = x;
+    for i in 0..last {
+        y = elmor_four128(s, t, y, keys[2 * i], keys[2 * i + 1]);
+    }
+    elmid_four128(s, t, y, keys[2 * last], keys[2 * last + 1])
+}

@@ -1,0 +1,3 @@
+-- Laws beside definitions: what a proof cites in place of a definition's text.
+pub mod Filled
+pub mod Doubling

@@ -1,0 +1,30 @@
+// The TBS tables of a word of four bytes (001 §4.2.2), one after the other: the box moved to each of the four bytes, so that substitution is a sum of
+// look-ups. They are made from the box.
+ghost use mathlib.Core.Path.{_≡_};
+ghost use Prim.Native.Nat.{_*_, _-_, _^_, _<_};
+ghost use Rattle.fox_layers.specs.Tables.{TBS};
+use fox_engine_sbox::sbox::sbox;
+
+// A byte moved to byte number j of a word.
+fn placed(b: u8, j: usize) -> u32
+    requires { ⌜ j < 4 ⌝ }
+    ensures { λ r. ⌜ r ≡ b * 2 ^ (8 * (3 - j)) ⌝ }
+{
+    match j {
+        0 => (b as u32) * 0x0100_0000,
+        1 => (b as u32) * 0x0001_0000,
+        2 => (b as u32) * 0x0000_0100,
+        _ => b as u32,
+    }
+}
+
+pub fn tbs() -> [u32; 1024]
+    ensures { λ r. ⌜ r ≡ TBS 4 ⌝ }
+{
+    let s = sbox();
+    let mut t = [0; 1024];
+    for i in 0..1024 {
+        t[i] = placed(s[i % 256], i / 256);
+    }
+    t
+}

@@ -1,0 +1,22 @@
+-- Sheets and what is printed for them, computed by the definitions: sheets whose lines are broken in the ways that 01 names, each line's in turn, and sheets
+-- with a block that is refused, where a refusal comes before those of higher numbers. Those with a block that is served are in `fox_sheet_definitions`.
+-- Assumes nothing.
+use mathlib.Core.Path.{refl}
+use mathlib.Core.List.{_++_}
+use Rattle.fox_refusals.specs.Refusals.{refusalOf, blockSize, noCipher, noRounds, longKey, noBlock, noOutput, forKey, forBlock}
+use Rattle.fox_text.specs.Ascii.{codes, ascii, startsWith}
+use Rattle.fox_text.specs.Lines.{lineEnd, afterLine, lines}
+use Rattle.fox_text.specs.Rules.{isLine, brokenFrom}
+use Rattle.fox_text.specs.Decimal.{allDigits, onward, begins, inRange, isDecimal, digitsText}
+use Rattle.fox_text.specs.Hex.{allHex, nibble, pairsOf}
+use Rattle.fox_text.specs.Fields.{isDecimalLine, isPairsLine, decimalIn, pairsIn, decimalLineText}
+use Rattle.fox_sheet.specs.Sheet.{cipherName, roundsName, keyName, sealWay, openWay, blockName, isWayLine, settingTests, taskTests, brokenLine, said, valuesOf}
+use Rattle.fox_sheet.specs.Answer.{refusalName, lineName, brokenText, refusal, blockText, answerOf}
+use Rattle.fox_sheet.specs.Examples.{Printed, zeros, broken, refused}
+
+pub printed : Printed (broken ++ refused)
+unfolding broken refused zeros refusalOf blockSize noCipher noRounds longKey noBlock noOutput forKey forBlock codes ascii startsWith lineEnd
+    afterLine lines isLine brokenFrom allDigits onward begins inRange isDecimal digitsText allHex nibble pairsOf isDecimalLine isPairsLine
+    decimalIn pairsIn decimalLineText cipherName roundsName keyName sealWay openWay blockName isWayLine settingTests taskTests brokenLine
+    said valuesOf refusalName lineName brokenText refusal blockText answerOf
+printed = refl

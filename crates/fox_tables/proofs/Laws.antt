@@ -1,3 +1,0 @@
--- Laws beside definitions: what a proof cites in place of a definition's text.
-pub mod Filled
-pub mod Quick

@@ -1,2 +1,0 @@
--- What the promises of fox_tables cite besides the definitions of fox_layers.
-pub mod Filled
