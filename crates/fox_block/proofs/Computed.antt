@@ -4,7 +4,7 @@
 use mathlib.Core.Path.{_≡_, refl}
 use mathlib.Core.List.{[], _∷_, _++_}
 use lib.ListN.{take}
-use Rattle.fox_layers.specs.Words.{joined, split, summed}
+use Rattle.fox_layers.specs.Words.{joined, split, xorOver}
 use Rattle.fox_layers.specs.Field.{polynomial, rest, product}
 use Rattle.fox_layers.specs.Diffusion.{dot, times, mu4Rows, mu8Rows, diffused, mu4, mu8}
 use Rattle.fox_rounds.specs.Rounds.{left, right, or, io}
@@ -42,5 +42,5 @@ pub known : (product 0x38 0x0B ∷ product 0x02 0xFC ∷ or 0x0001_0002 ∷ io (
     ∷ 0x47
     ∷ 0x05
     ∷ []
-unfolding joined split summed polynomial rest product dot times mu4Rows mu8Rows diffused mu4 mu8 left right or io pad padded mixed mkey seed clocked iterate LFSR mix64
+unfolding joined split xorOver polynomial rest product dot times mu4Rows mu8Rows diffused mu4 mu8 left right or io pad padded mixed mkey seed clocked iterate LFSR mix64
 known = refl

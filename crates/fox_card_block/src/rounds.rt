@@ -2,14 +2,14 @@
 ghost use mathlib.Core.Path.{_≡_};
 ghost use Prim.Native.Nat.{_≤_, _<_, _^_};
 ghost use Rattle.fox_rounds.specs.Skeleton.{numbered, round, turned};
-ghost use Rattle.fox_schedule.specs.Step.{made, keyAt};
+ghost use Rattle.fox_schedule.specs.Step.{roundKeyAt, roundKeyOf};
 use fox_rounds::state::State;
 use fox_schedule::schedule::Schedule;
 
 // The round with the round key that the register stands at.
 fn round_at(s: Schedule, reg: u32, y: State) -> State
     requires { ⌜ reg < 2 ^ 24 ⌝ }
-    ensures { λ z. ⌜ z ≡ round (made s reg) y ⌝ }
+    ensures { λ z. ⌜ z ≡ round (roundKeyAt s reg) y ⌝ }
 {
     let k = s.round_key(reg);
     y.round(k.left, k.right)
@@ -17,7 +17,7 @@ fn round_at(s: Schedule, reg: u32, y: State) -> State
 
 pub fn turned(sealing: bool, s: Schedule, rounds: u8, x: State) -> State
     requires { ⌜ 1 ≤ rounds ⌝ }
-    ensures { λ y. ⌜ y ≡ turned sealing (numbered (keyAt s rounds) rounds 0) x ⌝ }
+    ensures { λ y. ⌜ y ≡ turned sealing (numbered (roundKeyOf s rounds) rounds 0) x ⌝ }
 {
     let mut reg = s.first(sealing, rounds);
     let mut y = x;

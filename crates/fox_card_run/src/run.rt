@@ -1,6 +1,6 @@
 // A stretch of a run by the card's way, from cipher, rounds, key bytes, counter block, offset and input: every input is answered.
 ghost use Rattle.fox_run.specs.Promise.{Runs};
-use crate::stretch::lay;
+use crate::stretch::stretch;
 use fox_engine_block::blocks::read;
 use fox_refusals::answer::Answer;
 use fox_refusals::stretch::for_run;
@@ -31,6 +31,6 @@ pub fn run(
     }
     let s = Schedule::of(cipher, key);
     let x = read(cipher, counter);
-    lay(s, (rounds % 256) as u8, x, offset as usize, input, out);
+    stretch(s, (rounds % 256) as u8, x, offset as usize, input, out);
     Answer::served(out.len())
 }

@@ -4,38 +4,38 @@
 use mathlib.Core.Path.{_≡_, refl}
 use mathlib.Core.List.{[], _∷_}
 use lib.ListN.{take, drop, getD}
-use Rattle.fox_layers.specs.Words.{joined, split, sum, summed}
+use Rattle.fox_layers.specs.Words.{joined, split, xorEach, xorOver}
 use Rattle.fox_layers.specs.Field.{polynomial, rest, product}
 use Rattle.fox_layers.specs.Substitution.{S₁, S₂, S₃, halves, whole, or4, lmid4, lmor4, sbox, sigma}
 use Rattle.fox_layers.specs.Diffusion.{dot, times, mu8Rows, diffused, mu8}
-use Rattle.fox_rounds.specs.Rounds.{left, right, or, io, f, f64, plus128, elmid128, or128, io128}
+use Rattle.fox_rounds.specs.Rounds.{left, right, or, io, f, f64, xor128, elmid128, or128, io128}
 use Rattle.fox_rounds.specs.Skeleton.{numbered, through, round, between, inOrder, turned, seal128}
 use Rattle.fox_key_mixing.specs.Padding.{pad, padded, mixed, mkey}
 use Rattle.fox_register.specs.Register.{seed, clocked, iterate, LFSR}
 use Rattle.fox_key_mixing.specs.Diversification.{stream, groups, dkey}
 use Rattle.fox_nonlinear.specs.Nonlinear.{words, mix64, mix128, flipped, layers, number128, parts128, NL128}
-use Rattle.fox_schedule.specs.Schedule.{ek128, key128, roundKey128, roundKey, roundKeys}
+use Rattle.fox_schedule.specs.Schedule.{ek128, roundKeyAt128, roundKey128, roundKey, roundKeys}
 use Rattle.fox_block.specs.Block.{state128, bytes128, state, bytes, turnWith, openBlock}
 use Rattle.fox_block.specs.Vectors.{key, plain128, sealed128, sealedBy}
 
 pub sealed-short : sealedBy 128 plain128 (8 ∷ 16 ∷ []) ≡ take 2 sealed128
-unfolding key plain128 joined split sum summed polynomial rest product S₁ S₂ S₃ halves whole or4 lmid4 lmor4 sbox sigma dot times mu8Rows
-    diffused mu8 left right or io f f64 plus128 elmid128 or128 io128 numbered through round between inOrder turned seal128 pad padded mixed
-    mkey seed clocked iterate LFSR stream groups dkey words mix64 mix128 flipped layers number128 parts128 NL128 ek128 key128 roundKey128 state128
+unfolding key plain128 joined split xorEach xorOver polynomial rest product S₁ S₂ S₃ halves whole or4 lmid4 lmor4 sbox sigma dot times mu8Rows
+    diffused mu8 left right or io f f64 xor128 elmid128 or128 io128 numbered through round between inOrder turned seal128 pad padded mixed
+    mkey seed clocked iterate LFSR stream groups dkey words mix64 mix128 flipped layers number128 parts128 NL128 ek128 roundKeyAt128 roundKey128 state128
     bytes128 state bytes turnWith roundKey roundKeys sealed128
 sealed-short = refl
 
 pub sealed-long : sealedBy 128 plain128 (24 ∷ 32 ∷ []) ≡ drop 2 sealed128
-unfolding key plain128 joined split sum summed polynomial rest product S₁ S₂ S₃ halves whole or4 lmid4 lmor4 sbox sigma dot times mu8Rows
-    diffused mu8 left right or io f f64 plus128 elmid128 or128 io128 numbered through round between inOrder turned seal128 pad padded mixed
-    mkey seed clocked iterate LFSR stream groups dkey words mix64 mix128 flipped layers number128 parts128 NL128 ek128 key128 roundKey128 state128
+unfolding key plain128 joined split xorEach xorOver polynomial rest product S₁ S₂ S₃ halves whole or4 lmid4 lmor4 sbox sigma dot times mu8Rows
+    diffused mu8 left right or io f f64 xor128 elmid128 or128 io128 numbered through round between inOrder turned seal128 pad padded mixed
+    mkey seed clocked iterate LFSR stream groups dkey words mix64 mix128 flipped layers number128 parts128 NL128 ek128 roundKeyAt128 roundKey128 state128
     bytes128 state bytes turnWith roundKey roundKeys sealed128
 sealed-long = refl
 
 -- by KS128
 pub opened : openBlock 128 16 (take 16 key) (getD sealed128 1 []) ≡ plain128
-unfolding key plain128 joined split sum summed polynomial rest product S₁ S₂ S₃ halves whole or4 lmid4 lmor4 sbox sigma dot times mu8Rows
-    diffused mu8 left right or io f f64 plus128 elmid128 or128 io128 numbered through round between inOrder turned seal128 pad padded mixed
-    mkey seed clocked iterate LFSR stream groups dkey words mix64 mix128 flipped layers number128 parts128 NL128 ek128 key128 roundKey128 state128
+unfolding key plain128 joined split xorEach xorOver polynomial rest product S₁ S₂ S₃ halves whole or4 lmid4 lmor4 sbox sigma dot times mu8Rows
+    diffused mu8 left right or io f f64 xor128 elmid128 or128 io128 numbered through round between inOrder turned seal128 pad padded mixed
+    mkey seed clocked iterate LFSR stream groups dkey words mix64 mix128 flipped layers number128 parts128 NL128 ek128 roundKeyAt128 roundKey128 state128
     bytes128 state bytes turnWith roundKey roundKeys sealed128
 opened = refl

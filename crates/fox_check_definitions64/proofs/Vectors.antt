@@ -4,7 +4,7 @@
 use mathlib.Core.Path.{_≡_, refl}
 use mathlib.Core.List.{[], _∷_}
 use lib.ListN.{take, getD}
-use Rattle.fox_layers.specs.Words.{joined, split, sum, summed}
+use Rattle.fox_layers.specs.Words.{joined, split, xorEach, xorOver}
 use Rattle.fox_layers.specs.Field.{polynomial, rest, product}
 use Rattle.fox_layers.specs.Substitution.{S₁, S₂, S₃, halves, whole, or4, lmid4, lmor4, sbox, sigma}
 use Rattle.fox_layers.specs.Diffusion.{dot, times, mu4Rows, diffused, mu4}
@@ -14,21 +14,21 @@ use Rattle.fox_key_mixing.specs.Padding.{pad, padded, mixed, mkey}
 use Rattle.fox_register.specs.Register.{seed, clocked, iterate, LFSR}
 use Rattle.fox_key_mixing.specs.Diversification.{stream, groups, dkey}
 use Rattle.fox_nonlinear.specs.Nonlinear.{words, mix64, mix64h, flipped, layers, number64, NL64, NL64h}
-use Rattle.fox_schedule.specs.Schedule.{ek64, key64, roundKey64, roundKey, roundKeys}
+use Rattle.fox_schedule.specs.Schedule.{ek64, roundKeyAt64, roundKey64, roundKey, roundKeys}
 use Rattle.fox_block.specs.Block.{state64, bytes64, state, bytes, turnWith, openBlock}
 use Rattle.fox_block.specs.Vectors.{key, plain64, sealed64, sealedBy}
 
 pub sealed : sealedBy 64 plain64 (8 ∷ 16 ∷ 24 ∷ 32 ∷ []) ≡ sealed64
-unfolding key plain64 joined split sum summed polynomial rest product S₁ S₂ S₃ halves whole or4 lmid4 lmor4 sbox sigma dot times mu4Rows
+unfolding key plain64 joined split xorEach xorOver polynomial rest product S₁ S₂ S₃ halves whole or4 lmid4 lmor4 sbox sigma dot times mu4Rows
     diffused mu4 left right or io f f32 lmid64 or64 io64 numbered through round between inOrder turned seal64 pad padded mixed mkey seed
-    clocked iterate LFSR stream groups dkey words mix64 mix64h flipped layers number64 NL64 NL64h ek64 key64 roundKey64 state64 bytes64
+    clocked iterate LFSR stream groups dkey words mix64 mix64h flipped layers number64 NL64 NL64h ek64 roundKeyAt64 roundKey64 state64 bytes64
     state bytes turnWith roundKey roundKeys sealed64
 sealed = refl
 
 -- by KS64 and by KS64h
 pub opened : openBlock 64 16 (take 8 key) (getD sealed64 0 []) ∷ openBlock 64 16 (take 24 key) (getD sealed64 2 []) ∷ [] ≡ plain64 ∷ plain64 ∷ []
-unfolding key plain64 joined split sum summed polynomial rest product S₁ S₂ S₃ halves whole or4 lmid4 lmor4 sbox sigma dot times mu4Rows
+unfolding key plain64 joined split xorEach xorOver polynomial rest product S₁ S₂ S₃ halves whole or4 lmid4 lmor4 sbox sigma dot times mu4Rows
     diffused mu4 left right or io f f32 lmid64 or64 io64 numbered through round between inOrder turned seal64 pad padded mixed mkey seed
-    clocked iterate LFSR stream groups dkey words mix64 mix64h flipped layers number64 NL64 NL64h ek64 key64 roundKey64 state64 bytes64
+    clocked iterate LFSR stream groups dkey words mix64 mix64h flipped layers number64 NL64 NL64h ek64 roundKeyAt64 roundKey64 state64 bytes64
     state bytes turnWith roundKey roundKeys sealed64
 opened = refl

@@ -78,7 +78,7 @@ fn tries(c: Call, key: &[u8], from: &[u8], to: &[u8]) -> bool
     let n = to.len();
     let right = puts(c, key, from, to, &mut out[..n]);
     if !right {
-        lines::print_way(c.way, c.seals);
+        lines::print_engine(c.way, c.seals);
     }
     right
 }

@@ -15,7 +15,7 @@ pub(crate) fn print_head(cipher: u32, rounds: u32, key_len: usize, refusal: u32)
 }
 
 // Names a way that differs.
-pub(crate) fn print_way(way: u32, seals: bool) {
+pub(crate) fn print_engine(way: u32, seals: bool) {
     if way == 0 {
         io::write_all(1, b" card");
     } else if way == 1 {

@@ -5,10 +5,10 @@ ghost use mathlib.Core.List.{_++_};
 ghost use mathlib.Core.Logic.{_⊎_};
 ghost use Prim.Native.Nat.{_≤_, _<_};
 ghost use lib.ListN.{length, drop};
-ghost use Rattle.fox_layers.specs.Words.{sum, split};
+ghost use Rattle.fox_layers.specs.Words.{xorEach, split};
 ghost use Rattle.fox_rounds.specs.Skeleton.{size};
 ghost use Rattle.fox_block.specs.Block.{bytes64, bytes128, bytes};
-ghost use Rattle.fox_run.specs.Parts.{Added};
+ghost use Rattle.fox_run.specs.Parts.{Xored};
 use fox_bytes::bytes::load4;
 use fox_bytes::bytes::store4;
 use fox_engine_block::blocks::write64;
@@ -24,9 +24,9 @@ fn shorter(a: usize, b: usize) -> usize
 }
 
 // As far as both go; the count of bytes written is handed back.
-fn add(pad: &[u8], input: &[u8], out: &mut [u8]) -> usize
+fn xor_bytes(pad: &[u8], input: &[u8], out: &mut [u8]) -> usize
     requires { ⌜ length (now out) ≡ length (now input) ⌝ }
-    ensures { λ r. ⌜ Added (now (pad .entry)) (now (input .entry)) (now (out .entry)) (now (out .exit)) r ⌝ }
+    ensures { λ r. ⌜ Xored (now (pad .entry)) (now (input .entry)) (now (out .entry)) (now (out .exit)) r ⌝ }
 {
     let end = shorter(pad.len(), input.len());
     for i in 0..end {
@@ -36,54 +36,54 @@ fn add(pad: &[u8], input: &[u8], out: &mut [u8]) -> usize
 }
 
 // The bytes of a block from its byte number skip on: for each cipher, and for whichever it is.
-pub fn add_part64(x: Fox64, skip: usize, input: &[u8], out: &mut [u8]) -> usize
+pub fn xor_part64(x: Fox64, skip: usize, input: &[u8], out: &mut [u8]) -> usize
     requires { ⌜ (skip < 8) × (length (now out) ≡ length (now input)) ⌝ }
-    ensures { λ r. ⌜ Added (drop skip (bytes64 x)) (now (input .entry)) (now (out .entry)) (now (out .exit)) r ⌝ }
+    ensures { λ r. ⌜ Xored (drop skip (bytes64 x)) (now (input .entry)) (now (out .entry)) (now (out .exit)) r ⌝ }
 {
     let mut pad = [0; 8];
     write64(&mut pad, x);
-    add(&pad[skip..], input, out)
+    xor_bytes(&pad[skip..], input, out)
 }
 
-pub fn add_part128(x: Fox128, skip: usize, input: &[u8], out: &mut [u8]) -> usize
+pub fn xor_part128(x: Fox128, skip: usize, input: &[u8], out: &mut [u8]) -> usize
     requires { ⌜ (skip < 16) × (length (now out) ≡ length (now input)) ⌝ }
-    ensures { λ r. ⌜ Added (drop skip (bytes128 x)) (now (input .entry)) (now (out .entry)) (now (out .exit)) r ⌝ }
+    ensures { λ r. ⌜ Xored (drop skip (bytes128 x)) (now (input .entry)) (now (out .entry)) (now (out .exit)) r ⌝ }
 {
     let mut pad = [0; 16];
     write128(&mut pad, x);
-    add(&pad[skip..], input, out)
+    xor_bytes(&pad[skip..], input, out)
 }
 
-pub fn add_part(x: State, skip: usize, input: &[u8], out: &mut [u8]) -> usize
+pub fn xor_part(x: State, skip: usize, input: &[u8], out: &mut [u8]) -> usize
     requires { ⌜ (skip < size x) × (length (now out) ≡ length (now input)) ⌝ }
-    ensures { λ r. ⌜ Added (drop skip (bytes x)) (now (input .entry)) (now (out .entry)) (now (out .exit)) r ⌝ }
+    ensures { λ r. ⌜ Xored (drop skip (bytes x)) (now (input .entry)) (now (out .entry)) (now (out .exit)) r ⌝ }
 {
     match x {
-        State::Of64(y) => add_part64(y, skip, input, out),
-        State::Of128(y) => add_part128(y, skip, input, out),
+        State::Of64(y) => xor_part64(y, skip, input, out),
+        State::Of128(y) => xor_part128(y, skip, input, out),
     }
 }
 
 // Two words added to the first eight bytes.
-fn add8(a: u32, b: u32, input: &[u8], out: &mut [u8])
+fn xor_words(a: u32, b: u32, input: &[u8], out: &mut [u8])
     requires { ⌜ (8 ≤ length (now input)) × (8 ≤ length (now out)) ⌝ }
-    ensures { λ _. ⌜ now (out .exit) ≡ sum (split 4 a ++ split 4 b) (now (input .entry)) ++ drop 8 (now (out .entry)) ⌝ }
+    ensures { λ _. ⌜ now (out .exit) ≡ xorEach (split 4 a ++ split 4 b) (now (input .entry)) ++ drop 8 (now (out .entry)) ⌝ }
 {
     store4(out, a ^ load4(input, 0));
     store4(&mut out[4..], b ^ load4(input, 4));
 }
 
-pub fn add_whole64(x: Fox64, input: &[u8], out: &mut [u8])
+pub fn xor_whole64(x: Fox64, input: &[u8], out: &mut [u8])
     requires { ⌜ (8 ≤ length (now input)) × (8 ≤ length (now out)) ⌝ }
-    ensures { λ _. ⌜ now (out .exit) ≡ sum (bytes64 x) (now (input .entry)) ++ drop 8 (now (out .entry)) ⌝ }
+    ensures { λ _. ⌜ now (out .exit) ≡ xorEach (bytes64 x) (now (input .entry)) ++ drop 8 (now (out .entry)) ⌝ }
 {
-    add8(x.l, x.r, input, out);
+    xor_words(x.l, x.r, input, out);
 }
 
-pub fn add_whole128(x: Fox128, input: &[u8], out: &mut [u8])
+pub fn xor_whole128(x: Fox128, input: &[u8], out: &mut [u8])
     requires { ⌜ (16 ≤ length (now input)) × (16 ≤ length (now out)) ⌝ }
-    ensures { λ _. ⌜ now (out .exit) ≡ sum (bytes128 x) (now (input .entry)) ++ drop 16 (now (out .entry)) ⌝ }
+    ensures { λ _. ⌜ now (out .exit) ≡ xorEach (bytes128 x) (now (input .entry)) ++ drop 16 (now (out .entry)) ⌝ }
 {
-    add8(x.ll, x.lr, input, out);
-    add8(x.rl, x.rr, &input[8..], &mut out[8..]);
+    xor_words(x.ll, x.lr, input, out);
+    xor_words(x.rl, x.rr, &input[8..], &mut out[8..]);
 }

@@ -1,6 +1,6 @@
 // The box as a constant (001 Fig. 7).
 ghost use mathlib.Core.Path.{_≡_};
-ghost use Rattle.fox_layers.specs.Tables.{box};
+ghost use Rattle.fox_layers.specs.Tables.{sboxTable};
 
 const SBOX: [u8; 256] = [
     0x5d,
@@ -262,7 +262,7 @@ const SBOX: [u8; 256] = [
 ];
 
 pub fn sbox() -> [u8; 256]
-    ensures { λ r. ⌜ r ≡ box ⌝ }
+    ensures { λ r. ⌜ r ≡ sboxTable ⌝ }
 {
     SBOX
 }

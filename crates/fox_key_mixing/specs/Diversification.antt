@@ -3,7 +3,7 @@
 use Prim.Native.Nat.{ℕ, zero, suc, _+_, _/_}
 use mathlib.Core.List.{List, [], _++_}
 use lib.ListN.{length}
-use Rattle.fox_layers.specs.Words.{split, sum}
+use Rattle.fox_layers.specs.Words.{split, xorEach}
 use Rattle.fox_register.specs.Register.{clocked}
 
 -- the bytes of n register values in a row, three each
@@ -18,4 +18,4 @@ groups ek = (ek + 2) / 3
 -- §2.3.8, D: each group of the mixed key is added to its register value. The sum goes as far as the key does, so that a shorter last group takes the
 -- value's top bytes
 unfoldable pub dkey : List ℕ → ℕ → List ℕ
-dkey mkey reg = sum mkey (stream (groups (length mkey)) reg)
+dkey mkey reg = xorEach mkey (stream (groups (length mkey)) reg)

@@ -3,12 +3,12 @@
 use Prim.Native.Nat.{ℕ}
 use mathlib.Core.List.{List, [], _∷_, map}
 use lib.ListN.{length}
-use Rattle.fox_layers.specs.Words.{joined, split, summed}
+use Rattle.fox_layers.specs.Words.{joined, split, xorOver}
 use Rattle.fox_layers.specs.Field.{product}
 
 -- a row times a column: the sum of the products, entry by entry
 unfoldable pub dot : List ℕ → List ℕ → ℕ
-dot ms xs = summed product ms xs
+dot ms xs = xorOver product ms xs
 
 -- a matrix, given by its rows, times a column
 unfoldable pub times : List (List ℕ) → List ℕ → List ℕ

@@ -3,7 +3,7 @@
 use Prim.Native.Nat.{ℕ, zero, suc, _+_, _*_, _-_, _/_, _%_, _^_}
 use mathlib.Core.List.{List, [], _∷_, map}
 use lib.ListN.{length, getD}
-use Rattle.fox_layers.specs.Words.{joined, split, summed}
+use Rattle.fox_layers.specs.Words.{joined, split, xorOver}
 use Rattle.fox_layers.specs.Field.{product}
 use Rattle.fox_layers.specs.Substitution.{sbox}
 
@@ -18,8 +18,8 @@ unfolding listed
 table f = listed f 256 0
 
 -- Fig. 7, as §3.1 computes it
-unfoldable pub box : List ℕ
-box = table sbox
+unfoldable pub sboxTable : List ℕ
+sboxTable = table sbox
 
 -- n tables of 256 entries, one after the other: at 256·j + x table number j has f j x
 unfoldable pub tables : (ℕ → ℕ → ℕ) → ℕ → List ℕ
@@ -38,13 +38,13 @@ unfoldable pub scaled : List ℕ → ℕ → ℕ
 scaled ms x = joined (map (λ (m : ℕ). product m x) ms)
 
 -- §4.2.2: what TBSM number j of a matrix has at a byte: column j times the box's value
-unfoldable pub boxed : List (List ℕ) → ℕ → ℕ → ℕ
-boxed rows j x = scaled (column j rows) (sbox x)
+unfoldable pub tbsmEntry : List (List ℕ) → ℕ → ℕ → ℕ
+tbsmEntry rows j x = scaled (column j rows) (sbox x)
 
 -- §4.2.2: the TBSM tables of a matrix that has as many columns as rows
 unfoldable pub TBSM : List (List ℕ) → List ℕ
-TBSM rows = tables (boxed rows) (length rows)
+TBSM rows = tables (tbsmEntry rows) (length rows)
 
 -- what a word of n bytes picks from n tables that stand one after the other: the sum of the entries, each byte's from the table of its number
 unfoldable pub picked : ℕ → List ℕ → ℕ → ℕ
-picked n t w = summed (λ (j x : ℕ). getD t (j * 256 + x) 0) (listed (λ (j : ℕ). j) n 0) (split n w)
+picked n t w = xorOver (λ (j x : ℕ). getD t (j * 256 + x) 0) (listed (λ (j : ℕ). j) n 0) (split n w)

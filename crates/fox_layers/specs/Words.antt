@@ -25,18 +25,18 @@ abbrev pub Bytes : List ℕ → Type 0
 Bytes xs = (i : ℕ) → getD xs i 0 < 256
 
 -- two lists added place by place, as far as both go
-unfoldable pub sum : List ℕ → List ℕ → List ℕ
-sum [] ys = []
-sum (x ∷ xs) [] = []
-sum (x ∷ xs) (y ∷ ys) = (x ⊕ y) ∷ sum xs ys
+unfoldable pub xorEach : List ℕ → List ℕ → List ℕ
+xorEach [] ys = []
+xorEach (x ∷ xs) [] = []
+xorEach (x ∷ xs) (y ∷ ys) = (x ⊕ y) ∷ xorEach xs ys
 
 -- the sum of the numbers of a list
-unfoldable pub total : List ℕ → ℕ
-total [] = 0
-total (x ∷ xs) = x ⊕ total xs
+unfoldable pub xorAll : List ℕ → ℕ
+xorAll [] = 0
+xorAll (x ∷ xs) = x ⊕ xorAll xs
 
 -- the sum of what f gives at each pair of two lists side by side
-unfoldable pub summed : {A : Type 0} → (A → ℕ → ℕ) → List A → List ℕ → ℕ
-summed f [] xs = 0
-summed f (m ∷ ms) [] = 0
-summed f (m ∷ ms) (x ∷ xs) = f m x ⊕ summed f ms xs
+unfoldable pub xorOver : {A : Type 0} → (A → ℕ → ℕ) → List A → List ℕ → ℕ
+xorOver f [] xs = 0
+xorOver f (m ∷ ms) [] = 0
+xorOver f (m ∷ ms) (x ∷ xs) = f m x ⊕ xorOver f ms xs

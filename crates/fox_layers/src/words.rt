@@ -1,7 +1,7 @@
 // Words as bytes, the most significant first (001 §1.5), and sums of bytes (001 §1.3).
 ghost use mathlib.Core.Path.{_≡_};
 ghost use mathlib.Core.List.{[], _∷_};
-ghost use Rattle.fox_layers.specs.Words.{joined, split, total};
+ghost use Rattle.fox_layers.specs.Words.{joined, split, xorAll};
 
 pub struct Bytes4 {
     pub x0: u8,
@@ -67,13 +67,13 @@ pub fn join8(x0: u8, x1: u8, x2: u8, x3: u8, x4: u8, x5: u8, x6: u8, x7: u8) -> 
 }
 
 pub fn xor4(x0: u8, x1: u8, x2: u8, x3: u8) -> u8
-    ensures { λ r. ⌜ r ≡ total (x0 ∷ x1 ∷ x2 ∷ x3 ∷ []) ⌝ }
+    ensures { λ r. ⌜ r ≡ xorAll (x0 ∷ x1 ∷ x2 ∷ x3 ∷ []) ⌝ }
 {
     x0 ^ x1 ^ x2 ^ x3
 }
 
 pub fn xor8(x0: u8, x1: u8, x2: u8, x3: u8, x4: u8, x5: u8, x6: u8, x7: u8) -> u8
-    ensures { λ r. ⌜ r ≡ total (x0 ∷ x1 ∷ x2 ∷ x3 ∷ x4 ∷ x5 ∷ x6 ∷ x7 ∷ []) ⌝ }
+    ensures { λ r. ⌜ r ≡ xorAll (x0 ∷ x1 ∷ x2 ∷ x3 ∷ x4 ∷ x5 ∷ x6 ∷ x7 ∷ []) ⌝ }
 {
     x0 ^ x1 ^ x2 ^ x3 ^ x4 ^ x5 ^ x6 ^ x7
 }

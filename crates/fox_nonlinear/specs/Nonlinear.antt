@@ -4,7 +4,7 @@ use Prim.Native.Nat.{ℕ, zero, suc, _+_, _-_, _*_, _^_}
 use mathlib.Core.List.{List, [], _∷_, map}
 use mathlib.Core.Bool.{Bool, cond}
 use lib.ListN.{getD, take, drop}
-use Rattle.fox_layers.specs.Words.{_⊕_, joined, sum}
+use Rattle.fox_layers.specs.Words.{_⊕_, joined, xorEach}
 use Rattle.fox_layers.specs.Substitution.{sigma}
 use Rattle.fox_layers.specs.Diffusion.{mu4, mu8}
 use Rattle.fox_rounds.specs.declared.fox64.Fox64.{Fox64}
@@ -58,7 +58,7 @@ flipped n w = w ⊕ (2 ^ (8 * n) - 1)
 -- Algorithms 7 to 9 up to the hashing layer, on k words of n bytes: substitution, diffusion, mixing, pad, flip, substitution
 unfoldable pub layers : ℕ → ℕ → (ℕ → ℕ) → (List ℕ → List ℕ) → Bool → List ℕ → List ℕ
 layers n k mu mix flip t =
-    let added = sum (mix (map mu (map (sigma n) t))) (words n k pad) in
+    let added = xorEach (mix (map mu (map (sigma n) t))) (words n k pad) in
     let turned = map (flipped n) added in
     map (sigma n) (cond flip turned added)
 

@@ -4,7 +4,7 @@
 use mathlib.Core.Path.{_≡_, refl}
 use mathlib.Core.Bool.{true, false}
 use mathlib.Core.List.{[], _∷_, _++_}
-use Rattle.fox_refusals.specs.Refusals.{refusalOf, blockSize, noCipher, noRounds, longKey, noBlock, longData, noOutput, pastEnd, forKey, forBlock, forStretch, forRun}
+use Rattle.fox_refusals.specs.Refusals.{refusalOf, blockSize, wrongCipher, wrongRounds, longKey, wrongBlockLength, longData, wrongOutputLength, pastEnd, forKey, forBlock, forStretch, forRun}
 
 pub known :
     -- a key: 1 before 2 before 3; cipher 64 and 128 alone, rounds 12 to 255, keys of 0 to 32 bytes
@@ -38,5 +38,5 @@ pub known :
     ++ (6 ∷ 7 ∷ 7 ∷ [])
     ++ (7 ∷ 0 ∷ [])
     ++ (0 ∷ 7 ∷ [])
-unfolding refusalOf blockSize noCipher noRounds longKey noBlock longData noOutput pastEnd forKey forBlock forStretch forRun
+unfolding refusalOf blockSize wrongCipher wrongRounds longKey wrongBlockLength longData wrongOutputLength pastEnd forKey forBlock forStretch forRun
 known = refl

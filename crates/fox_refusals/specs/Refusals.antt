@@ -33,28 +33,28 @@ unfoldable pub blockSize : ℕ → ℕ
 blockSize cipher = cond (eqb cipher 64) 8 16
 
 -- 1: cipher is neither 64 nor 128
-unfoldable pub noCipher : ℕ → Refusal
-noCipher cipher = record { number = 1; applies = cond (eqb cipher 64) false (not (eqb cipher 128)) }
+unfoldable pub wrongCipher : ℕ → Refusal
+wrongCipher cipher = record { number = 1; applies = cond (eqb cipher 64) false (not (eqb cipher 128)) }
 
 -- 2: rounds below 12 or above 255
-unfoldable pub noRounds : ℕ → Refusal
-noRounds rounds = record { number = 2; applies = cond (ltb rounds 12) true (ltb 255 rounds) }
+unfoldable pub wrongRounds : ℕ → Refusal
+wrongRounds rounds = record { number = 2; applies = cond (ltb rounds 12) true (ltb 255 rounds) }
 
 -- 3: key longer than 32 bytes
 unfoldable pub longKey : ℕ → Refusal
 longKey keyLen = record { number = 3; applies = above 32 keyLen }
 
 -- 4: input block or counter block is not B bytes
-unfoldable pub noBlock : ℕ → ℕ → Refusal
-noBlock cipher blockLen = record { number = 4; applies = differs blockLen (blockSize cipher) }
+unfoldable pub wrongBlockLength : ℕ → ℕ → Refusal
+wrongBlockLength cipher blockLen = record { number = 4; applies = differs blockLen (blockSize cipher) }
 
 -- 5: run data above 65,536 bytes in one call
 unfoldable pub longData : ℕ → Refusal
 longData inputLen = record { number = 5; applies = above 65536 inputLen }
 
 -- 6: output length is not the input length
-unfoldable pub noOutput : ℕ → ℕ → Refusal
-noOutput inputLen outLen = record { number = 6; applies = differs outLen inputLen }
+unfoldable pub wrongOutputLength : ℕ → ℕ → Refusal
+wrongOutputLength inputLen outLen = record { number = 6; applies = differs outLen inputLen }
 
 -- 7: offset plus length above 1,073,741,824
 unfoldable pub pastEnd : ℕ → ℕ → Refusal
@@ -66,17 +66,17 @@ orElse refusal applies number = cond (eqb refusal 0) (cond applies number 0) ref
 
 -- preparing a key meets only these
 unfoldable pub forKey : ℕ → ℕ → ℕ → List Refusal
-forKey cipher rounds keyLen = noCipher cipher ∷ noRounds rounds ∷ longKey keyLen ∷ []
+forKey cipher rounds keyLen = wrongCipher cipher ∷ wrongRounds rounds ∷ longKey keyLen ∷ []
 
 -- one block meets only these, whether it is sealed or opened
 unfoldable pub forBlock : Bool → ℕ → ℕ → ℕ → ℕ → ℕ → List Refusal
 forBlock sealing cipher rounds keyLen blockLen outLen =
-    forKey cipher rounds keyLen ++ (noBlock cipher blockLen ∷ noOutput blockLen outLen ∷ [])
+    forKey cipher rounds keyLen ++ (wrongBlockLength cipher blockLen ∷ wrongOutputLength blockLen outLen ∷ [])
 
 -- the tests of a stretch that come after those of the key
 unfoldable pub forStretch : ℕ → ℕ → ℕ → ℕ → ℕ → List Refusal
 forStretch cipher counterLen offset inputLen outLen =
-    noBlock cipher counterLen ∷ longData inputLen ∷ noOutput inputLen outLen ∷ pastEnd offset inputLen ∷ []
+    wrongBlockLength cipher counterLen ∷ longData inputLen ∷ wrongOutputLength inputLen outLen ∷ pastEnd offset inputLen ∷ []
 
 -- a stretch of a run meets all seven
 unfoldable pub forRun : ℕ → ℕ → ℕ → ℕ → ℕ → ℕ → ℕ → List Refusal

@@ -37,4 +37,4 @@ pub record Same (before₁ before₂ after₁ after₂ : List ℕ) (r₁ r₂ : 
   pub refusal : r₁ .refusal ≡ r₂ .refusal
   pub count : r₁ .count ≡ r₂ .count
   pub served : r₁ .refusal ≡ 0 → after₁ ≡ after₂
-  pub lent-alike : before₁ ≡ before₂ → after₁ ≡ after₂
+  pub same-before : before₁ ≡ before₂ → after₁ ≡ after₂

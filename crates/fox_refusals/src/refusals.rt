@@ -1,6 +1,6 @@
 // The refusals of a key and of a block: the first that applies, and 0 where none does.
 ghost use mathlib.Core.Path.{_≡_};
-ghost use Rattle.fox_refusals.specs.Refusals.{refusalOf, orElse, blockSize, noCipher, noRounds, forKey, forBlock};
+ghost use Rattle.fox_refusals.specs.Refusals.{refusalOf, orElse, blockSize, wrongCipher, wrongRounds, forKey, forBlock};
 use fox_rounds::fox64::Fox64;
 use fox_rounds::fox128::Fox128;
 
@@ -27,8 +27,8 @@ pub fn block_size(cipher: u32) -> usize
     }
 }
 
-fn no_cipher(cipher: u32) -> bool
-    ensures { λ r. ⌜ r ≡ noCipher cipher .applies ⌝ }
+fn wrong_cipher(cipher: u32) -> bool
+    ensures { λ r. ⌜ r ≡ wrongCipher cipher .applies ⌝ }
 {
     if cipher == 64 {
         return false;
@@ -36,8 +36,8 @@ fn no_cipher(cipher: u32) -> bool
     cipher != 128
 }
 
-fn no_rounds(rounds: u32) -> bool
-    ensures { λ r. ⌜ r ≡ noRounds rounds .applies ⌝ }
+fn wrong_rounds(rounds: u32) -> bool
+    ensures { λ r. ⌜ r ≡ wrongRounds rounds .applies ⌝ }
 {
     if rounds < 12 {
         return true;
@@ -48,8 +48,8 @@ fn no_rounds(rounds: u32) -> bool
 pub fn for_key(cipher: u32, rounds: u32, key_len: usize) -> u32
     ensures { λ r. ⌜ r ≡ refusalOf (forKey cipher rounds «key_len») ⌝ }
 {
-    let first = or_else(0, no_cipher(cipher), 1);
-    let second = or_else(first, no_rounds(rounds), 2);
+    let first = or_else(0, wrong_cipher(cipher), 1);
+    let second = or_else(first, wrong_rounds(rounds), 2);
     or_else(second, key_len > 32, 3)
 }
 

@@ -5,8 +5,8 @@ use mathlib.Core.List.{List}
 use lib.ListN.{getD}
 
 -- the round key number i, from 0 on: one word for FOX64, two for FOX128, the left first
-unfoldable pub held64 : List ℕ → ℕ → ℕ
-held64 ws i = getD ws i 0
+unfoldable pub roundKeyIn64 : List ℕ → ℕ → ℕ
+roundKeyIn64 ws i = getD ws i 0
 
-unfoldable pub held128 : List ℕ → ℕ → ℕ
-held128 ws i = getD ws (2 * i) 0 * 2 ^ 64 + getD ws (2 * i + 1) 0
+unfoldable pub roundKeyIn128 : List ℕ → ℕ → ℕ
+roundKeyIn128 ws i = getD ws (2 * i) 0 * 2 ^ 64 + getD ws (2 * i + 1) 0

@@ -50,15 +50,15 @@ unfoldable pub io64 : Fox64 → Fox64
 io64 x = record { l = io (x .l); r = x .r }
 
 -- §2.2.2: what the round function gives, its left half on the left words and its right half on the right words
-unfoldable pub plus128 : ℕ → Fox128 → Fox128
-plus128 t x =
+unfoldable pub xor128 : ℕ → Fox128 → Fox128
+xor128 t x =
     let tₗ = left 32 t in
     let tᵣ = right 32 t in
     record { ll = x .ll ⊕ tₗ; lr = x .lr ⊕ tₗ; rl = x .rl ⊕ tᵣ; rr = x .rr ⊕ tᵣ }
 
 -- §2.2.2
 unfoldable pub elmid128 : ℕ → Fox128 → Fox128
-elmid128 rk x = plus128 (f64 ((x .ll ⊕ x .lr) * 2 ^ 32 + (x .rl ⊕ x .rr)) rk) x
+elmid128 rk x = xor128 (f64 ((x .ll ⊕ x .lr) * 2 ^ 32 + (x .rl ⊕ x .rr)) rk) x
 
 -- §2.2.2: what elmor128 and elmio128 do besides
 unfoldable pub or128 : Fox128 → Fox128

@@ -2,7 +2,7 @@
 ghost use mathlib.Core.Path.{_≡_};
 ghost use Prim.Native.Nat.{_+_, _*_, _^_};
 ghost use Rattle.fox_layers.specs.Words.{_⊕_};
-ghost use Rattle.fox_rounds.specs.Rounds.{f64, plus128, elmid128, or128, io128};
+ghost use Rattle.fox_rounds.specs.Rounds.{f64, xor128, elmid128, or128, io128};
 ghost use Rattle.fox_rounds.specs.Skeleton.{between};
 ghost use Rattle.fox_rounds.specs.declared.state.State.the-variants.{Of128};
 use crate::fox64::io;
@@ -47,15 +47,15 @@ impl Fox128 {
     }
 
     // What the round function is given: the sum of the left words, then that of the right words.
-    pub fn sums(self) -> u64
+    pub fn round_input(self) -> u64
         ensures { λ r. ⌜ r ≡ (self .ll ⊕ self .lr) * 2 ^ 32 + (self .rl ⊕ self .rr) ⌝ }
     {
         pair(self.ll ^ self.lr, self.rl ^ self.rr)
     }
 
     // What the round function gives is added, its left half to the left words and its right half to the right words.
-    pub fn plus(self, t: u64) -> Fox128
-        ensures { λ x. ⌜ x ≡ plus128 t self ⌝ }
+    pub fn xored(self, t: u64) -> Fox128
+        ensures { λ x. ⌜ x ≡ xor128 t self ⌝ }
     {
         let a = (t / 0x1_0000_0000) as u32;
         let b = (t % 0x1_0000_0000) as u32;
@@ -70,7 +70,7 @@ impl Fox128 {
     pub fn elmid(self, k: u64, l: u64) -> Fox128
         ensures { λ x. ⌜ x ≡ elmid128 (k * 2 ^ 64 + l) self ⌝ }
     {
-        self.plus(f64(self.sums(), k, l))
+        self.xored(f64(self.round_input(), k, l))
     }
 
     pub fn or(self) -> Fox128

@@ -12,14 +12,14 @@ use Rattle.fox_block.specs.Block.{sealWith}
 use Rattle.fox_run.specs.Counter.{counterBlock}
 use Rattle.fox_run.specs.Run.{streamed, keyStream, runWith}
 use Rattle.fox_run.specs.Promise.{RunsWith}
-use Rattle.fox_run.proofs.Laws.XorFrom.{addedFrom-at}
+use Rattle.fox_run.proofs.Laws.XorFrom.{xorFrom-at}
 use Rattle.fox_run.proofs.Laws.Served.{call-did}
 
 module _ (c : ℕ) (rks counter : List ℕ) (n : ℕ) (ds : List ℕ) (i : ℕ) (within : i < length ds) where
   pub run-byte : getD (runWith c rks counter n ds) i 0
       ≡ getD (sealWith c rks (counterBlock counter ((n + i) / blockSize c))) ((n + i) % blockSize c) 0 ⊕ getD ds i 0
   unfolding streamed keyStream runWith
-  run-byte = addedFrom-at _ n ds i within
+  run-byte = xorFrom-at _ n ds i within
 
   pub call-byte : (rounds keyLen : ℕ) {before after : List ℕ} {r : Answer} → RunsWith c rounds keyLen rks counter n ds before after r → r .refusal ≡ 0
       → getD after i 0 ≡ getD (sealWith c rks (counterBlock counter ((n + i) / blockSize c))) ((n + i) % blockSize c) 0 ⊕ getD ds i 0

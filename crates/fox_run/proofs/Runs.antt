@@ -13,12 +13,12 @@ use Rattle.fox_refusals.specs.declared.answer.Answer.{Answer}
 use Rattle.fox_refusals.proofs.Laws.Reply.{same}
 use Rattle.fox_run.specs.Run.{runWith}
 use Rattle.fox_run.specs.Promise.{RunsWith}
-use Rattle.fox_run.proofs.Laws.XorFrom.{addedFrom-twice}
+use Rattle.fox_run.proofs.Laws.XorFrom.{xorFrom-twice}
 use Rattle.fox_run.proofs.Laws.Served.{length-runWith, call-known, call-served, call-did}
 
 pub run-twice : (c : ℕ) (rks counter : List ℕ) (offset : ℕ) (ds : List ℕ) → runWith c rks counter offset (runWith c rks counter offset ds) ≡ ds
 unfolding runWith
-run-twice c rks counter offset ds = addedFrom-twice _ offset ds
+run-twice c rks counter offset ds = xorFrom-twice _ offset ds
 
 module _ (c rounds k : ℕ) (rks counter : List ℕ) (offset : ℕ) (ds : List ℕ) where
   -- what a served call wrote, handed back with an output of its length, is served and gives the bytes again

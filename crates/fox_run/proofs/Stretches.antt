@@ -12,10 +12,10 @@ use lib.Seq.{length-take-le}
 use Rattle.fox_refusals.specs.Refusals.{blockSize, Keyed}
 use Rattle.fox_refusals.specs.Reply.{Served}
 use Rattle.fox_refusals.specs.declared.answer.Answer.{Answer}
-use Rattle.fox_run.specs.Run.{addedFrom, runWith}
+use Rattle.fox_run.specs.Run.{xorFrom, runWith}
 use Rattle.fox_run.specs.Promise.{RunsWith}
 use Rattle.fox_run.specs.Cuts.{Call, CallsOf, CutOf, none, next, eachAlone}
-use Rattle.fox_run.proofs.Laws.XorFrom.{addedFrom-from, addedFrom-append, addedFrom-part}
+use Rattle.fox_run.proofs.Laws.XorFrom.{xorFrom-from, xorFrom-append, xorFrom-part}
 use Rattle.fox_run.proofs.Laws.Served.{call-served, call-did}
 use Rattle.fox_run.proofs.Runs.{run-twice}
 
@@ -24,7 +24,7 @@ use Rattle.fox_run.proofs.Runs.{run-twice}
 pub stretch-of-run : (c : ℕ) (rks counter whole : List ℕ) (k m : ℕ)
     → runWith c rks counter k (take m (drop k whole)) ≡ take m (drop k (runWith c rks counter 0 whole))
 unfolding runWith
-stretch-of-run c rks counter whole k m = addedFrom-from _ (take m (drop k whole)) (sym (zero-add k)) ∙ sym (addedFrom-part _ 0 k m whole)
+stretch-of-run c rks counter whole k m = xorFrom-from _ (take m (drop k whole)) (sym (zero-add k)) ∙ sym (xorFrom-part _ 0 k m whole)
 
 -- any m bytes of a run, at any byte k of it, opened alone by any call
 pub stretch-opened-alone : (c rounds keyLen : ℕ) (rks counter whole : List ℕ) (k m : ℕ) {before after : List ℕ} {r : Answer} → Keyed c rounds keyLen
@@ -40,10 +40,10 @@ stretch-opened-alone c rounds keyLen rks counter whole k m keyed size long fits 
 pub run-append : (c : ℕ) (rks counter : List ℕ) (n : ℕ) (xs ys : List ℕ)
     → runWith c rks counter n (xs ++ ys) ≡ runWith c rks counter n xs ++ runWith c rks counter (n + length xs) ys
 unfolding runWith
-run-append c rks counter n xs ys = addedFrom-append _ n xs ys
+run-append c rks counter n xs ys = xorFrom-append _ n xs ys
 
 run-nothing : (c : ℕ) (rks counter : List ℕ) (n : ℕ) → runWith c rks counter n [] ≡ []
-unfolding runWith addedFrom
+unfolding runWith xorFrom
 run-nothing c rks counter n = refl
 
 -- a run in any cuts, by calls of any kind that promise `RunsWith`

@@ -15,9 +15,9 @@ unfoldable pub streamed : ℕ → (ℕ → List ℕ) → ℕ → ℕ
 streamed B block n = getD (block (n / B)) (n % B) 0
 
 -- bytes added to those of a stream, from its byte number n on
-unfoldable pub addedFrom : (ℕ → ℕ) → ℕ → List ℕ → List ℕ
-addedFrom stream n [] = []
-addedFrom stream n (d ∷ ds) = (stream n ⊕ d) ∷ addedFrom stream (suc n) ds
+unfoldable pub xorFrom : (ℕ → ℕ) → ℕ → List ℕ → List ℕ
+xorFrom stream n [] = []
+xorFrom stream n (d ∷ ds) = (stream n ⊕ d) ∷ xorFrom stream (suc n) ds
 
 -- the key stream: the counter blocks, each sealed by the round keys of a list
 unfoldable pub keyStream : ℕ → List ℕ → List ℕ → ℕ → ℕ
@@ -25,7 +25,7 @@ keyStream cipher rks counter = streamed (blockSize cipher) (λ (i : ℕ). sealWi
 
 -- the bytes of a run from its byte number n on, sealed or opened, by the round keys of a list
 unfoldable pub runWith : ℕ → List ℕ → List ℕ → ℕ → List ℕ → List ℕ
-runWith cipher rks counter n bytes = addedFrom (keyStream cipher rks counter) n bytes
+runWith cipher rks counter n bytes = xorFrom (keyStream cipher rks counter) n bytes
 
 -- and by those of a key
 abbrev pub run : ℕ → ℕ → List ℕ → List ℕ → ℕ → List ℕ → List ℕ

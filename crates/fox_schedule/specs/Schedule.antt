@@ -1,6 +1,6 @@
 -- The key schedules (001 §2.3.1 to §2.3.4): which of the three serves, and the round keys that it gives.
 -- Assumes nothing.
-use Prim.Native.Nat.{ℕ, _-_, _*_}
+use Prim.Native.Nat.{ℕ, _*_}
 use mathlib.Core.List.{List}
 use mathlib.Core.Bool.{cond}
 use lib.Dec.{leb, eqb}
@@ -20,8 +20,8 @@ unfoldable pub ek128 : ℕ
 ek128 = 32
 
 -- Algorithms 2 and 3: the round key made where the register stands at reg
-unfoldable pub key64 : List ℕ → ℕ → ℕ
-key64 key reg =
+unfoldable pub roundKeyAt64 : List ℕ → ℕ → ℕ
+roundKeyAt64 key reg =
     let ek = ek64 (length key) in
     let d = dkey (mkey ek key) reg in
     let ks64 = NL64 (eqb (length key) ek) d in
@@ -29,15 +29,15 @@ key64 key reg =
     cond (leb (length key) 16) ks64 ks64h
 
 -- Algorithm 4
-unfoldable pub key128 : List ℕ → ℕ → ℕ
-key128 key reg = NL128 (eqb (length key) ek128) (dkey (mkey ek128 key) reg)
+unfoldable pub roundKeyAt128 : List ℕ → ℕ → ℕ
+roundKeyAt128 key reg = NL128 (eqb (length key) ek128) (dkey (mkey ek128 key) reg)
 
--- the round key number i, from 1 on, for r rounds: rk of index i - 1. The register has made (i - 1) times as many steps as there are groups
+-- the round key number i, from 0 on, for r rounds: the register has made i times as many steps as there are groups
 unfoldable pub roundKey64 : ℕ → List ℕ → ℕ → ℕ
-roundKey64 r key i = key64 key (LFSR ((i - 1) * groups (ek64 (length key))) r)
+roundKey64 r key i = roundKeyAt64 key (LFSR (i * groups (ek64 (length key))) r)
 
 unfoldable pub roundKey128 : ℕ → List ℕ → ℕ → ℕ
-roundKey128 r key i = key128 key (LFSR ((i - 1) * groups ek128) r)
+roundKey128 r key i = roundKeyAt128 key (LFSR (i * groups ek128) r)
 
 -- for either cipher
 unfoldable pub roundKey : ℕ → ℕ → List ℕ → ℕ → ℕ
@@ -47,4 +47,4 @@ roundKey cipher r key i =
 
 -- all r round keys
 unfoldable pub roundKeys : ℕ → ℕ → List ℕ → List ℕ
-roundKeys cipher r key = numbered (roundKey cipher r key) r 1
+roundKeys cipher r key = numbered (roundKey cipher r key) r 0

@@ -16,10 +16,10 @@ use Rattle.fox_nonlinear.specs.declared.nl128.Key128.{Key128}
 use Rattle.fox_schedule.specs.declared.schedule.Schedule.{Schedule}
 use Rattle.fox_schedule.specs.declared.schedule.Schedule.the-variants.{Ks64, Ks64h, Ks128}
 
-unfoldable pub made : Schedule → ℕ → ℕ
-made (Ks64 m flip) reg = NL64 flip (dkey (bytes16 m) reg)
-made (Ks64h m flip) reg = NL64h flip (dkey (bytes32 m) reg)
-made (Ks128 m flip) reg = NL128 flip (dkey (bytes32 m) reg)
+unfoldable pub roundKeyAt : Schedule → ℕ → ℕ
+roundKeyAt (Ks64 m flip) reg = NL64 flip (dkey (bytes16 m) reg)
+roundKeyAt (Ks64h m flip) reg = NL64h flip (dkey (bytes32 m) reg)
+roundKeyAt (Ks128 m flip) reg = NL128 flip (dkey (bytes32 m) reg)
 
 -- FOX64's round keys have 64 bits
 unfoldable pub narrow : Schedule → Bool
@@ -28,8 +28,8 @@ narrow (Ks64h m flip) = true
 narrow (Ks128 m flip) = false
 
 -- a round key as two words of 64 bits, of which FOX64's has the right one only
-pub record Made (s : Schedule) (reg : ℕ) (k : Key128) : Type 0 where
-  pub whole : k .left * 2 ^ 64 + k .right ≡ made s reg
+pub record RoundKeyAt (s : Schedule) (reg : ℕ) (k : Key128) : Type 0 where
+  pub whole : k .left * 2 ^ 64 + k .right ≡ roundKeyAt s reg
   pub short : narrow s ≡ true → k .left ≡ 0
 
 -- register steps from one round key to the next
@@ -45,11 +45,11 @@ Scheduled cipher key (Ks64h m flip) = (cipher ≡ 64) × (16 < length key) × (b
 Scheduled cipher key (Ks128 m flip) = (cipher ≡ 64 → ⊥) × (bytes32 m ≡ mkey 32 key) × (flip ≡ eqb (length key) 32)
 
 -- the round key number i, from 0 on, that a schedule makes for r rounds: the register has made i times its steps
-unfoldable pub keyAt : Schedule → ℕ → ℕ → ℕ
-keyAt s r i = made s (LFSR (i * steps s) r)
+unfoldable pub roundKeyOf : Schedule → ℕ → ℕ → ℕ
+roundKeyOf s r i = roundKeyAt s (LFSR (i * steps s) r)
 
 -- where the register stands for the round number i of r, counted from 0, in sealing or in opening
-pub record Stands (s : Schedule) (sealing : Bool) (r i reg : ℕ) : Type 0 where
+pub record RegisterAt (s : Schedule) (sealing : Bool) (r i reg : ℕ) : Type 0 where
   pub here : reg ≡ LFSR (place sealing r i * steps s) r
   pub small : reg < 2 ^ 24
 
@@ -59,6 +59,6 @@ stepped true n reg = iterate n clocked reg
 stepped false n reg = iterate n clockedBack reg
 
 -- the register moved from one round key to the next of that direction
-pub record Moved (s : Schedule) (sealing : Bool) (reg to : ℕ) : Type 0 where
+pub record RegisterNext (s : Schedule) (sealing : Bool) (reg to : ℕ) : Type 0 where
   pub there : to ≡ stepped sealing (steps s) reg
   pub small : to < 2 ^ 24

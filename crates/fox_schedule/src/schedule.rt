@@ -3,7 +3,7 @@
 ghost use mathlib.Core.Path.{_≡_};
 ghost use Prim.Native.Nat.{_^_, _<_, _≤_};
 ghost use lib.ListN.{length};
-ghost use Rattle.fox_schedule.specs.Step.{Made, steps, Scheduled, Stands, Moved};
+ghost use Rattle.fox_schedule.specs.Step.{RoundKeyAt, steps, Scheduled, RegisterAt, RegisterNext};
 use fox_key_mixing::diversification::dkey16;
 use fox_key_mixing::diversification::dkey32;
 use fox_key_mixing::key_bytes::Key16;
@@ -56,7 +56,7 @@ impl Schedule {
     // FOX64's round keys are the right word.
     pub fn round_key(self, reg: u32) -> Key128
         requires { ⌜ reg < 2 ^ 24 ⌝ }
-        ensures { λ k. ⌜ Made self reg k ⌝ }
+        ensures { λ k. ⌜ RoundKeyAt self reg k ⌝ }
     {
         match self {
             Schedule::Ks64(m, flip) => Key128 {
@@ -74,7 +74,7 @@ impl Schedule {
     // Where the register stands for the first round: at its seed in sealing, and in opening where the last round key is made.
     pub fn first(self, sealing: bool, rounds: u8) -> u32
         requires { ⌜ 1 ≤ rounds ⌝ }
-        ensures { λ r. ⌜ Stands self sealing rounds 0 r ⌝ }
+        ensures { λ r. ⌜ RegisterAt self sealing rounds 0 r ⌝ }
     {
         let start = seed(rounds);
         if sealing {
@@ -86,7 +86,7 @@ impl Schedule {
     // From one round to the next: forward in sealing, and back in opening.
     pub fn next(self, sealing: bool, reg: u32) -> u32
         requires { ⌜ reg < 2 ^ 24 ⌝ }
-        ensures { λ r. ⌜ Moved self sealing reg r ⌝ }
+        ensures { λ r. ⌜ RegisterNext self sealing reg r ⌝ }
     {
         let steps = self.steps();
         if sealing {

@@ -3,11 +3,11 @@
 ghost use mathlib.Core.Path.{_≡_};
 ghost use Rattle.fox_rounds.specs.Skeleton.{numbered, turned};
 ghost use Rattle.fox_rounds.specs.declared.state.State.the-variants.{Of64, Of128};
-ghost use Rattle.fox_rounds.specs.RoundKeys.{held64, held128};
+ghost use Rattle.fox_rounds.specs.RoundKeys.{roundKeyIn64, roundKeyIn128};
 ghost use Rattle.fox_block.specs.Block.{state64, state128, bytes};
 ghost use Rattle.fox_block.specs.Promise.{Turns, TurnsWith};
 ghost use Rattle.fox_server_block.specs.Ready.{Ready};
-ghost use Rattle.fox_server_key.specs.Prepared.{heldKeys};
+ghost use Rattle.fox_server_key.specs.Prepared.{roundKeysIn};
 use fox_engine_block::blocks::read64;
 use fox_engine_block::blocks::read128;
 use fox_engine_block::blocks::write64;
@@ -24,7 +24,7 @@ use fox_server_tables::tbsm8;
 
 fn block64(sealing: bool, keys: &[u64; 510], rounds: usize, block: &[u8], out: &mut [u8])
     requires { ⌜ Ready 8 rounds (now block) (now out) ⌝ }
-    ensures { λ _. ⌜ now (out .exit) ≡ bytes (turned sealing (numbered (held64 (now (keys .entry))) rounds 0) (Of64 (state64 (now (block .entry))))) ⌝ }
+    ensures { λ _. ⌜ now (out .exit) ≡ bytes (turned sealing (numbered (roundKeyIn64 (now (keys .entry))) rounds 0) (Of64 (state64 (now (block .entry))))) ⌝ }
 {
     let x = read64(block);
     let y = turn64(sealing, &tbs::tbs(), &tbsm4::tbsm(), keys, rounds, x);
@@ -33,7 +33,7 @@ fn block64(sealing: bool, keys: &[u64; 510], rounds: usize, block: &[u8], out: &
 
 fn block128(sealing: bool, keys: &[u64; 510], rounds: usize, block: &[u8], out: &mut [u8])
     requires { ⌜ Ready 16 rounds (now block) (now out) ⌝ }
-    ensures { λ _. ⌜ now (out .exit) ≡ bytes (turned sealing (numbered (held128 (now (keys .entry))) rounds 0) (Of128 (state128 (now (block .entry))))) ⌝ }
+    ensures { λ _. ⌜ now (out .exit) ≡ bytes (turned sealing (numbered (roundKeyIn128 (now (keys .entry))) rounds 0) (Of128 (state128 (now (block .entry))))) ⌝ }
 {
     let x = read128(block);
     let y = turn128(sealing, &tbs::tbs(), &tbsm8::tbsm(), keys, rounds, x);
@@ -42,7 +42,7 @@ fn block128(sealing: bool, keys: &[u64; 510], rounds: usize, block: &[u8], out: 
 
 // From a prepared key: one that a caller filled himself gets the answer of the round keys that it holds.
 pub fn turn(sealing: bool, p: Prepared, block: &[u8], out: &mut [u8]) -> Answer
-    ensures { λ r. ⌜ TurnsWith sealing (p .cipher) (p .rounds) (p .«key_len») (heldKeys p) (now (block .entry)) (now (out .entry)) (now (out .exit)) r ⌝ }
+    ensures { λ r. ⌜ TurnsWith sealing (p .cipher) (p .rounds) (p .«key_len») (roundKeysIn p) (now (block .entry)) (now (out .entry)) (now (out .exit)) r ⌝ }
 {
     let refusal = for_block(
         sealing,

@@ -1,9 +1,10 @@
--- The entries of a key that was prepared are the round keys of the definition: number i, from 1 on, stands at place i - 1 for FOX64, and at places 2 (i - 1)
--- and 2 (i - 1) + 1 for FOX128, the left half first; every entry past them is 0.
+-- The entries of a key that was prepared are the round keys of the definition: number i, from 0 on, stands at place i for FOX64, and at places 2 i and
+-- 2 i + 1 for FOX128, the left half first; every entry past them is 0.
 -- Assumes nothing.
 use mathlib.Core.Path.{_≡_, sym, ap, ap₂, _∙_}
 use mathlib.Core.List.{List}
-use Prim.Native.Nat.{ℕ, _+_, _-_, _*_, _^_, _<_, _≤_}
+use Prim.Native.Nat.{ℕ, _+_, _*_, _^_, _<_, _≤_}
+use native.Mathlib.Nat.{zero-add}
 use native.Mathlib.Omega.{arith}
 use lib.ListN.{length, getD}
 use Rattle.fox_rounds.specs.Rounds.{left, right}
@@ -26,36 +27,34 @@ module _ (c rounds : ℕ) (key : List ℕ) (r : Preparation) (keyed : Keyed c ro
   handed = ap (λ (p : Prepared). p .keys) (prepared .key ∙ sym (chosen _ _ _ (keyed-served keyed)))
 
   -- the round key number i, as it stands in the list of all
-  listed : (i : ℕ) → 1 ≤ i → i ≤ rounds → getD (roundKeys c rounds key) (i - 1) 0 ≡ roundKey c rounds key i
+  listed : (i : ℕ) → i < rounds → getD (roundKeys c rounds key) i 0 ≡ roundKey c rounds key i
   unfolding roundKeys
-  listed i some few =
-      let back : 1 + (i - 1) ≡ i = omega arith in
-      numbered-at (roundKey c rounds key) rounds 1 (i - 1) 0 (omega arith) ∙ ap (roundKey c rounds key) back
+  listed i few = numbered-at (roundKey c rounds key) rounds 0 i 0 few ∙ ap (roundKey c rounds key) (zero-add i)
 
   long : length (roundKeys c rounds key) ≡ rounds
   unfolding roundKeys
-  long = length-numbered (roundKey c rounds key) rounds 1
+  long = length-numbered (roundKey c rounds key) rounds 0
 
-  pub entry-64 : c ≡ 64 → (i : ℕ) → 1 ≤ i → i ≤ rounds → getD (r .key .keys) (i - 1) 0 ≡ roundKey c rounds key i
-  entry-64 is i some few =
-      ap (λ (ws : List ℕ). getD ws (i - 1) 0) (handed ∙ preparedWords-64 c rounds key is)
-      ∙ filled-at (roundKeys c rounds key) (i - 1) (omega (arith, long))
-      ∙ listed i some few
+  pub entry-64 : c ≡ 64 → (i : ℕ) → i < rounds → getD (r .key .keys) i 0 ≡ roundKey c rounds key i
+  entry-64 is i few =
+      ap (λ (ws : List ℕ). getD ws i 0) (handed ∙ preparedWords-64 c rounds key is)
+      ∙ filled-at (roundKeys c rounds key) i (omega (arith, long))
+      ∙ listed i few
 
   pub rest-64 : c ≡ 64 → (j : ℕ) → rounds ≤ j → getD (r .key .keys) j 0 ≡ 0
   rest-64 is j past =
       ap (λ (ws : List ℕ). getD ws j 0) (handed ∙ preparedWords-64 c rounds key is) ∙ filled-rest (roundKeys c rounds key) j (omega (arith, long))
 
-  pub entry-128 : (c ≡ 64 → ⊥) → (i : ℕ) → 1 ≤ i → i ≤ rounds
-      → getD (r .key .keys) (2 * (i - 1)) 0 * 2 ^ 64 + getD (r .key .keys) (2 * (i - 1) + 1) 0 ≡ roundKey c rounds key i
-  entry-128 isnt i some few =
+  pub entry-128 : (c ≡ 64 → ⊥) → (i : ℕ) → i < rounds
+      → getD (r .key .keys) (2 * i) 0 * 2 ^ 64 + getD (r .key .keys) (2 * i + 1) 0 ≡ roundKey c rounds key i
+  entry-128 isnt i few =
       let ks = roundKeys c rounds key in
       let halves = length-inHalves ks in
-      let here : i - 1 < length ks = omega (arith, long) in
-      ap (λ (ws : List ℕ). getD ws (2 * (i - 1)) 0 * 2 ^ 64 + getD ws (2 * (i - 1) + 1) 0) (handed ∙ preparedWords-128 c rounds key isnt)
-      ∙ ap₂ (λ (a b : ℕ). a * 2 ^ 64 + b) (filled-at (inHalves ks) (2 * (i - 1)) (omega arith) ∙ left-at ks (i - 1) here)
-      (filled-at (inHalves ks) (2 * (i - 1) + 1) (omega arith) ∙ right-at ks (i - 1) here)
-      ∙ ap (λ (k : ℕ). left 64 k * 2 ^ 64 + right 64 k) (listed i some few)
+      let here : i < length ks = omega (arith, long) in
+      ap (λ (ws : List ℕ). getD ws (2 * i) 0 * 2 ^ 64 + getD ws (2 * i + 1) 0) (handed ∙ preparedWords-128 c rounds key isnt)
+      ∙ ap₂ (λ (a b : ℕ). a * 2 ^ 64 + b) (filled-at (inHalves ks) (2 * i) (omega arith) ∙ left-at ks i here)
+      (filled-at (inHalves ks) (2 * i + 1) (omega arith) ∙ right-at ks i here)
+      ∙ ap (λ (k : ℕ). left 64 k * 2 ^ 64 + right 64 k) (listed i few)
       ∙ pair 64 (roundKey c rounds key i) (wide c rounds key i isnt)
 
   pub rest-128 : (c ≡ 64 → ⊥) → (j : ℕ) → 2 * rounds ≤ j → getD (r .key .keys) j 0 ≡ 0

@@ -6,13 +6,13 @@ use mathlib.Core.Bool.{Bool}
 use mathlib.Core.List.{List}
 use Prim.Native.Nat.{ℕ, zero, suc, _*_}
 use lib.ListN.{length, getD, replicate}
-use Rattle.fox_refusals.specs.Refusals.{refusalOf, blockSize, noCipher, forKey, forBlock, Keyed}
+use Rattle.fox_refusals.specs.Refusals.{refusalOf, blockSize, wrongCipher, forKey, forBlock, Keyed}
 use Rattle.fox_refusals.specs.declared.answer.Answer.{Answer}
 use Rattle.fox_refusals.proofs.Laws.Refusals.{keyed-served}
 use Rattle.fox_refusals.proofs.Laws.Reply.{chosen, passed-over}
 use Rattle.fox_block.specs.Promise.{TurnsWith}
 use Rattle.fox_block.proofs.Laws.Block.{size-64, size-128}
-use Rattle.fox_server_key.specs.Prepared.{preparedKey, noKey, Prepares, PreparedFor, Empty, heldKeys}
+use Rattle.fox_server_key.specs.Prepared.{preparedKey, noKey, Prepares, PreparedFor, Empty, roundKeysIn}
 use Rattle.fox_server_key.specs.declared.prepared.Prepared.{Prepared}
 use Rattle.fox_server_key.specs.declared.prepared.Preparation.{Preparation}
 
@@ -59,8 +59,8 @@ module _ (c rounds : ℕ) (key : List ℕ) (r : Preparation) (is : Prepares c ro
 
     -- a block by it
     pub block-refused : (d : Bool) (block : List ℕ) {before after : List ℕ} {s : Answer}
-        → TurnsWith d (r .key .cipher) (r .key .rounds) (r .key .«key_len») (heldKeys (r .key)) block before after s → s .refusal ≡ 1
-    unfolding refusalOf forKey forBlock noCipher
+        → TurnsWith d (r .key .cipher) (r .key .rounds) (r .key .«key_len») (roundKeysIn (r .key)) block before after s → s .refusal ≡ 1
+    unfolding refusalOf forKey forBlock wrongCipher
     block-refused d block {before} call =
         call .refusal
         ∙ ap (λ (cipher : ℕ). refusalOf (forBlock d cipher (r .key .rounds) (r .key .«key_len») (length block) (length before))) (key-refused .cipher)

@@ -9,7 +9,7 @@ use lib.Dec.{eqb}
 use lib.ListN.{length, getD, replicate}
 use Rattle.fox_rounds.specs.Rounds.{left, right}
 use Rattle.fox_rounds.specs.Skeleton.{numbered}
-use Rattle.fox_rounds.specs.RoundKeys.{held64, held128}
+use Rattle.fox_rounds.specs.RoundKeys.{roundKeyIn64, roundKeyIn128}
 use Rattle.fox_schedule.specs.Schedule.{roundKeys}
 use Rattle.fox_refusals.specs.Refusals.{refusalOf, blockSize, forKey}
 use Rattle.fox_server_key.specs.declared.prepared.Prepared.{Prepared}
@@ -60,7 +60,7 @@ pub record Empty (r : Preparation) : Type 0 where
   pub entries : (i : ℕ) → getD (r .key .keys) i 0 ≡ 0
 
 -- the round keys that a prepared key holds, whoever filled it
-unfoldable pub heldKeys : Prepared → List ℕ
-heldKeys p =
-    let other = numbered (held128 (p .keys)) (p .rounds) 0 in
-    cond (eqb (p .cipher) 64) (numbered (held64 (p .keys)) (p .rounds) 0) other
+unfoldable pub roundKeysIn : Prepared → List ℕ
+roundKeysIn p =
+    let other = numbered (roundKeyIn128 (p .keys)) (p .rounds) 0 in
+    cond (eqb (p .cipher) 64) (numbered (roundKeyIn64 (p .keys)) (p .rounds) 0) other

@@ -5,6 +5,6 @@ use mathlib.Core.List.{List}
 use Prim.Native.Nat.{ℕ}
 use Rattle.fox_layers.specs.Tables.{TBS, TBSM}
 
-pub record Lent (rows : List (List ℕ)) (S T : List ℕ) : Type 0 where
+pub record TablesOf (rows : List (List ℕ)) (S T : List ℕ) : Type 0 where
   pub s : S ≡ TBS 4
   pub t : T ≡ TBSM rows

@@ -5,8 +5,8 @@ ghost use Rattle.fox_layers.specs.Diffusion.{mu8Rows};
 ghost use Rattle.fox_rounds.specs.Rounds.{elmid128};
 ghost use Rattle.fox_rounds.specs.Skeleton.{numbered, turned};
 ghost use Rattle.fox_rounds.specs.declared.state.State.the-variants.{Of128};
-ghost use Rattle.fox_rounds.specs.RoundKeys.{held128};
-ghost use Rattle.fox_server_rounds.specs.Tables.{Lent};
+ghost use Rattle.fox_rounds.specs.RoundKeys.{roundKeyIn128};
+ghost use Rattle.fox_server_rounds.specs.Tables.{TablesOf};
 use crate::lookups::pick4;
 use crate::lookups::pick8;
 use crate::order::place;
@@ -14,10 +14,10 @@ use fox_rounds::fox128::Fox128;
 
 // The round: substitution alone, and what follows it, go by halves of 32 bits, which are the state's words.
 pub fn elmid128(s: &[u32; 1024], t: &[u64; 2048], x: Fox128, k: u64, l: u64) -> Fox128
-    requires { ⌜ Lent mu8Rows (now s) (now t) ⌝ }
+    requires { ⌜ TablesOf mu8Rows (now s) (now t) ⌝ }
     ensures { λ r. ⌜ r ≡ elmid128 (k * 2 ^ 64 + l) x ⌝ }
 {
-    let m = pick8(t, x.sums() ^ k) ^ l;
+    let m = pick8(t, x.round_input() ^ k) ^ l;
     let p = pick4(s, (m / 0x1_0000_0000) as u32) ^ ((k / 0x1_0000_0000) as u32);
     let q = pick4(s, (m % 0x1_0000_0000) as u32) ^ ((k % 0x1_0000_0000) as u32);
     Fox128 {
@@ -36,9 +36,9 @@ pub fn elmid128_at(
     i: usize,
     x: Fox128,
 ) -> Fox128
-    requires { ⌜ Lent mu8Rows (now s) (now t) ⌝ }
+    requires { ⌜ TablesOf mu8Rows (now s) (now t) ⌝ }
     requires { ⌜ i < 255 ⌝ }
-    ensures { λ r. ⌜ r ≡ elmid128 (held128 (now (keys .entry)) i) x ⌝ }
+    ensures { λ r. ⌜ r ≡ elmid128 (roundKeyIn128 (now (keys .entry)) i) x ⌝ }
 {
     elmid128(s, t, x, keys[2 * i], keys[2 * i + 1])
 }
@@ -52,9 +52,9 @@ pub fn turn128(
     rounds: usize,
     x: Fox128,
 ) -> Fox128
-    requires { ⌜ Lent mu8Rows (now s) (now t) ⌝ }
+    requires { ⌜ TablesOf mu8Rows (now s) (now t) ⌝ }
     requires { ⌜ (1 ≤ rounds) × (rounds ≤ 255) ⌝ }
-    ensures { λ r. ⌜ Of128 r ≡ turned sealing (numbered (held128 (now (keys .entry))) rounds 0) (Of128 x) ⌝ }
+    ensures { λ r. ⌜ Of128 r ≡ turned sealing (numbered (roundKeyIn128 (now (keys .entry))) rounds 0) (Of128 x) ⌝ }
 {
     let last = rounds - 1;
     let mut y = x;

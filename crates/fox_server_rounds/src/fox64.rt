@@ -5,14 +5,14 @@ ghost use Rattle.fox_layers.specs.Diffusion.{mu4Rows};
 ghost use Rattle.fox_rounds.specs.Rounds.{f32, lmid64};
 ghost use Rattle.fox_rounds.specs.Skeleton.{numbered, turned};
 ghost use Rattle.fox_rounds.specs.declared.state.State.the-variants.{Of64};
-ghost use Rattle.fox_rounds.specs.RoundKeys.{held64};
-ghost use Rattle.fox_server_rounds.specs.Tables.{Lent};
+ghost use Rattle.fox_rounds.specs.RoundKeys.{roundKeyIn64};
+ghost use Rattle.fox_server_rounds.specs.Tables.{TablesOf};
 use crate::lookups::pick4;
 use crate::order::place;
 use fox_rounds::fox64::Fox64;
 
 pub fn f32(s: &[u32; 1024], t: &[u32; 1024], x: u32, rk: u64) -> u32
-    requires { ⌜ Lent mu4Rows (now s) (now t) ⌝ }
+    requires { ⌜ TablesOf mu4Rows (now s) (now t) ⌝ }
     ensures { λ r. ⌜ r ≡ f32 x rk ⌝ }
 {
     let k = (rk / 0x1_0000_0000) as u32;
@@ -21,7 +21,7 @@ pub fn f32(s: &[u32; 1024], t: &[u32; 1024], x: u32, rk: u64) -> u32
 }
 
 pub fn lmid64(s: &[u32; 1024], t: &[u32; 1024], x: Fox64, rk: u64) -> Fox64
-    requires { ⌜ Lent mu4Rows (now s) (now t) ⌝ }
+    requires { ⌜ TablesOf mu4Rows (now s) (now t) ⌝ }
     ensures { λ r. ⌜ r ≡ lmid64 rk x ⌝ }
 {
     let u = f32(s, t, x.l ^ x.r, rk);
@@ -40,9 +40,9 @@ pub fn turn64(
     rounds: usize,
     x: Fox64,
 ) -> Fox64
-    requires { ⌜ Lent mu4Rows (now s) (now t) ⌝ }
+    requires { ⌜ TablesOf mu4Rows (now s) (now t) ⌝ }
     requires { ⌜ (1 ≤ rounds) × (rounds ≤ 255) ⌝ }
-    ensures { λ r. ⌜ Of64 r ≡ turned sealing (numbered (held64 (now (keys .entry))) rounds 0) (Of64 x) ⌝ }
+    ensures { λ r. ⌜ Of64 r ≡ turned sealing (numbered (roundKeyIn64 (now (keys .entry))) rounds 0) (Of64 x) ⌝ }
 {
     let last = rounds - 1;
     let mut y = x;

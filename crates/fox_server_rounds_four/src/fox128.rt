@@ -4,8 +4,8 @@ ghost use mathlib.Core.Path.{_≡_};
 ghost use Prim.Native.Nat.{_+_, _*_, _^_, _≤_};
 ghost use Rattle.fox_layers.specs.Diffusion.{mu8Rows};
 ghost use Rattle.fox_rounds.specs.Skeleton.{numbered};
-ghost use Rattle.fox_rounds.specs.RoundKeys.{held128};
-ghost use Rattle.fox_server_rounds.specs.Tables.{Lent};
+ghost use Rattle.fox_rounds.specs.RoundKeys.{roundKeyIn128};
+ghost use Rattle.fox_server_rounds.specs.Tables.{TablesOf};
 ghost use Rattle.fox_server_rounds_four.specs.Four.{elmidFour128, orFour128, sealFour128};
 use fox_rounds::fox128::Fox128;
 use fox_server_rounds::fox128::elmid128;
@@ -19,7 +19,7 @@ pub struct Four128 {
 
 // The round of all four with one round key, of two words: the left one k, the right one l.
 fn elmid_four128(s: &[u32; 1024], t: &[u64; 2048], x: Four128, k: u64, l: u64) -> Four128
-    requires { ⌜ Lent mu8Rows (now s) (now t) ⌝ }
+    requires { ⌜ TablesOf mu8Rows (now s) (now t) ⌝ }
     ensures { λ r. ⌜ r ≡ elmidFour128 (k * 2 ^ 64 + l) x ⌝ }
 {
     let p = x.first;
@@ -36,7 +36,7 @@ fn elmid_four128(s: &[u32; 1024], t: &[u64; 2048], x: Four128, k: u64, l: u64) -
 
 // The round of all four with one round key, and "or" after it.
 fn elmor_four128(s: &[u32; 1024], t: &[u64; 2048], x: Four128, k: u64, l: u64) -> Four128
-    requires { ⌜ Lent mu8Rows (now s) (now t) ⌝ }
+    requires { ⌜ TablesOf mu8Rows (now s) (now t) ⌝ }
     ensures { λ r. ⌜ r ≡ orFour128 (elmidFour128 (k * 2 ^ 64 + l) x) ⌝ }
 {
     let p = x.first;
@@ -58,10 +58,10 @@ pub fn seal_four128(
     rounds: usize,
     x: Four128,
 ) -> Four128
-    requires { ⌜ Lent mu8Rows (now s) (now t) ⌝ }
+    requires { ⌜ TablesOf mu8Rows (now s) (now t) ⌝ }
     requires { ⌜ 1 ≤ rounds ⌝ }
     requires { ⌜ rounds ≤ 255 ⌝ }
-    ensures { λ r. ⌜ r ≡ sealFour128 (numbered (held128 (now (keys .entry))) rounds 0) x ⌝ }
+    ensures { λ r. ⌜ r ≡ sealFour128 (numbered (roundKeyIn128 (now (keys .entry))) rounds 0) x ⌝ }
 {
     let last = rounds - 1;
     let mut y = x;

@@ -5,8 +5,8 @@ ghost use mathlib.Core.Path.{_≡_};
 ghost use Prim.Native.Nat.{_≤_};
 ghost use Rattle.fox_layers.specs.Diffusion.{mu4Rows};
 ghost use Rattle.fox_rounds.specs.Skeleton.{numbered};
-ghost use Rattle.fox_rounds.specs.RoundKeys.{held64};
-ghost use Rattle.fox_server_rounds.specs.Tables.{Lent};
+ghost use Rattle.fox_rounds.specs.RoundKeys.{roundKeyIn64};
+ghost use Rattle.fox_server_rounds.specs.Tables.{TablesOf};
 ghost use Rattle.fox_server_rounds_four.specs.Four.{lmidFour64, orFour64, sealFour64};
 use fox_rounds::fox64::Fox64;
 use fox_server_rounds::fox64::lmid64;
@@ -20,7 +20,7 @@ pub struct Four64 {
 
 // The round of all four with one round key.
 fn lmid_four64(s: &[u32; 1024], t: &[u32; 1024], x: Four64, rk: u64) -> Four64
-    requires { ⌜ Lent mu4Rows (now s) (now t) ⌝ }
+    requires { ⌜ TablesOf mu4Rows (now s) (now t) ⌝ }
     ensures { λ r. ⌜ r ≡ lmidFour64 rk x ⌝ }
 {
     let p = x.first;
@@ -37,7 +37,7 @@ fn lmid_four64(s: &[u32; 1024], t: &[u32; 1024], x: Four64, rk: u64) -> Four64
 
 // The round of all four with one round key, and "or" after it.
 fn lmor_four64(s: &[u32; 1024], t: &[u32; 1024], x: Four64, rk: u64) -> Four64
-    requires { ⌜ Lent mu4Rows (now s) (now t) ⌝ }
+    requires { ⌜ TablesOf mu4Rows (now s) (now t) ⌝ }
     ensures { λ r. ⌜ r ≡ orFour64 (lmidFour64 rk x) ⌝ }
 {
     let p = x.first;
@@ -59,10 +59,10 @@ pub fn seal_four64(
     rounds: usize,
     x: Four64,
 ) -> Four64
-    requires { ⌜ Lent mu4Rows (now s) (now t) ⌝ }
+    requires { ⌜ TablesOf mu4Rows (now s) (now t) ⌝ }
     requires { ⌜ 1 ≤ rounds ⌝ }
     requires { ⌜ rounds ≤ 510 ⌝ }
-    ensures { λ r. ⌜ r ≡ sealFour64 (numbered (held64 (now (keys .entry))) rounds 0) x ⌝ }
+    ensures { λ r. ⌜ r ≡ sealFour64 (numbered (roundKeyIn64 (now (keys .entry))) rounds 0) x ⌝ }
 {
     let last = rounds - 1;
     let mut y = x;

@@ -5,23 +5,23 @@ ghost use lib.ListN.{length};
 ghost use Rattle.fox_layers.specs.Diffusion.{mu8Rows};
 ghost use Rattle.fox_rounds.specs.Skeleton.{numbered};
 ghost use Rattle.fox_rounds.specs.declared.state.State.the-variants.{Of128};
-ghost use Rattle.fox_rounds.specs.RoundKeys.{held128};
-ghost use Rattle.fox_server_rounds.specs.Tables.{Lent};
+ghost use Rattle.fox_rounds.specs.RoundKeys.{roundKeyIn128};
+ghost use Rattle.fox_server_rounds.specs.Tables.{TablesOf};
 ghost use Rattle.fox_block.specs.Block.{state128};
-ghost use Rattle.fox_run.specs.Run.{addedFrom};
+ghost use Rattle.fox_run.specs.Run.{xorFrom};
 ghost use Rattle.fox_run.specs.States.{stream};
 ghost use Rattle.fox_run.specs.Parts.{Part, Ready};
 use fox_engine_block::blocks::read128;
 use fox_engine_run::counter::counted128;
-use fox_engine_run::key_stream::add_part128;
+use fox_engine_run::key_stream::xor_part128;
 use fox_rounds::fox128::Fox128;
 use fox_server_rounds::fox128::turn128;
-use fox_server_run_four::fox128::four128;
+use fox_server_run_four::fox128::four_blocks128;
 use fox_server_tables::tbs;
 use fox_server_tables::tbsm8;
 
 // The block that the run's byte n is in, from that byte on.
-fn step128(
+fn one_block128(
     s: &[u32; 1024],
     t: &[u64; 2048],
     keys: &[u64; 510],
@@ -31,13 +31,13 @@ fn step128(
     input: &[u8],
     out: &mut [u8],
 ) -> usize
-    requires { ⌜ Lent mu8Rows (now s) (now t) ⌝ }
+    requires { ⌜ TablesOf mu8Rows (now s) (now t) ⌝ }
     requires { ⌜ (1 ≤ rounds) × (rounds ≤ 255) × (n ≤ 1073741824) × (length (now out) ≡ length (now input)) ⌝ }
-    ensures { λ r. ⌜ Part (stream (numbered (held128 (now (keys .entry))) rounds 0) (Of128 x)) n (now (input .entry)) (now (out .entry)) (now (out .exit)) r ⌝ }
+    ensures { λ r. ⌜ Part (stream (numbered (roundKeyIn128 (now (keys .entry))) rounds 0) (Of128 x)) n (now (input .entry)) (now (out .entry)) (now (out .exit)) r ⌝ }
 {
     let block = counted128(x, (n / 16) as u32);
     let sealed = turn128(true, s, t, keys, rounds, block);
-    add_part128(sealed, n % 16, input, out)
+    xor_part128(sealed, n % 16, input, out)
 }
 
 // Four whole blocks where byte n begins one and there are so many; else as far as its block goes.
@@ -51,21 +51,21 @@ fn part128(
     input: &[u8],
     out: &mut [u8],
 ) -> usize
-    requires { ⌜ Lent mu8Rows (now s) (now t) ⌝ }
+    requires { ⌜ TablesOf mu8Rows (now s) (now t) ⌝ }
     requires { ⌜ (1 ≤ rounds) × (rounds ≤ 255) × (n + length (now input) ≤ 1073741824) × (length (now out) ≡ length (now input)) ⌝ }
-    ensures { λ r. ⌜ Part (stream (numbered (held128 (now (keys .entry))) rounds 0) (Of128 x)) n (now (input .entry)) (now (out .entry)) (now (out .exit)) r ⌝ }
+    ensures { λ r. ⌜ Part (stream (numbered (roundKeyIn128 (now (keys .entry))) rounds 0) (Of128 x)) n (now (input .entry)) (now (out .entry)) (now (out .exit)) r ⌝ }
 {
     if input.len() >= 64 {
         if n % 16 == 0 {
-            four128(s, t, keys, rounds, x, n, input, out);
+            four_blocks128(s, t, keys, rounds, x, n, input, out);
             return 64;
         }
     }
-    step128(s, t, keys, rounds, x, n, input, out)
+    one_block128(s, t, keys, rounds, x, n, input, out)
 }
 
 // Part after part.
-fn lay128(
+fn stretch128(
     s: &[u32; 1024],
     t: &[u64; 2048],
     keys: &[u64; 510],
@@ -75,9 +75,9 @@ fn lay128(
     input: &[u8],
     out: &mut [u8],
 )
-    requires { ⌜ Lent mu8Rows (now s) (now t) ⌝ }
+    requires { ⌜ TablesOf mu8Rows (now s) (now t) ⌝ }
     requires { ⌜ (1 ≤ rounds) × (rounds ≤ 255) × (n + length (now input) ≤ 1073741824) × (length (now out) ≡ length (now input)) ⌝ }
-    ensures { λ _. ⌜ now (out .exit) ≡ addedFrom (stream (numbered (held128 (now (keys .entry))) rounds 0) (Of128 x)) n (now (input .entry)) ⌝ }
+    ensures { λ _. ⌜ now (out .exit) ≡ xorFrom (stream (numbered (roundKeyIn128 (now (keys .entry))) rounds 0) (Of128 x)) n (now (input .entry)) ⌝ }
 {
     let mut at = 0;
     while at < input.len() {
@@ -95,8 +95,8 @@ pub fn run128(
     out: &mut [u8],
 )
     requires { ⌜ Ready 16 rounds (now counter) n (now input) (now out) ⌝ }
-    ensures { λ _. ⌜ now (out .exit) ≡ addedFrom (stream (numbered (held128 (now (keys .entry))) rounds 0) (Of128 (state128 (now (counter .entry))))) n (now (input .entry)) ⌝ }
+    ensures { λ _. ⌜ now (out .exit) ≡ xorFrom (stream (numbered (roundKeyIn128 (now (keys .entry))) rounds 0) (Of128 (state128 (now (counter .entry))))) n (now (input .entry)) ⌝ }
 {
     let x = read128(counter);
-    lay128(&tbs::tbs(), &tbsm8::tbsm(), keys, rounds, x, n, input, out);
+    stretch128(&tbs::tbs(), &tbsm8::tbsm(), keys, rounds, x, n, input, out);
 }

@@ -5,23 +5,23 @@ ghost use lib.ListN.{length};
 ghost use Rattle.fox_layers.specs.Diffusion.{mu4Rows};
 ghost use Rattle.fox_rounds.specs.Skeleton.{numbered};
 ghost use Rattle.fox_rounds.specs.declared.state.State.the-variants.{Of64};
-ghost use Rattle.fox_rounds.specs.RoundKeys.{held64};
-ghost use Rattle.fox_server_rounds.specs.Tables.{Lent};
+ghost use Rattle.fox_rounds.specs.RoundKeys.{roundKeyIn64};
+ghost use Rattle.fox_server_rounds.specs.Tables.{TablesOf};
 ghost use Rattle.fox_block.specs.Block.{state64};
-ghost use Rattle.fox_run.specs.Run.{addedFrom};
+ghost use Rattle.fox_run.specs.Run.{xorFrom};
 ghost use Rattle.fox_run.specs.States.{stream};
 ghost use Rattle.fox_run.specs.Parts.{Part, Ready};
 use fox_engine_block::blocks::read64;
 use fox_engine_run::counter::counted64;
-use fox_engine_run::key_stream::add_part64;
+use fox_engine_run::key_stream::xor_part64;
 use fox_rounds::fox64::Fox64;
 use fox_server_rounds::fox64::turn64;
-use fox_server_run_four::fox64::four64;
+use fox_server_run_four::fox64::four_blocks64;
 use fox_server_tables::tbs;
 use fox_server_tables::tbsm4;
 
 // The block that the run's byte n is in, from that byte on.
-fn step64(
+fn one_block64(
     s: &[u32; 1024],
     t: &[u32; 1024],
     keys: &[u64; 510],
@@ -31,13 +31,13 @@ fn step64(
     input: &[u8],
     out: &mut [u8],
 ) -> usize
-    requires { ⌜ Lent mu4Rows (now s) (now t) ⌝ }
+    requires { ⌜ TablesOf mu4Rows (now s) (now t) ⌝ }
     requires { ⌜ (1 ≤ rounds) × (rounds ≤ 255) × (n ≤ 1073741824) × (length (now out) ≡ length (now input)) ⌝ }
-    ensures { λ r. ⌜ Part (stream (numbered (held64 (now (keys .entry))) rounds 0) (Of64 x)) n (now (input .entry)) (now (out .entry)) (now (out .exit)) r ⌝ }
+    ensures { λ r. ⌜ Part (stream (numbered (roundKeyIn64 (now (keys .entry))) rounds 0) (Of64 x)) n (now (input .entry)) (now (out .entry)) (now (out .exit)) r ⌝ }
 {
     let block = counted64(x, (n / 8) as u32);
     let sealed = turn64(true, s, t, keys, rounds, block);
-    add_part64(sealed, n % 8, input, out)
+    xor_part64(sealed, n % 8, input, out)
 }
 
 // Four whole blocks where byte n begins one and there are so many; else as far as its block goes.
@@ -51,21 +51,21 @@ fn part64(
     input: &[u8],
     out: &mut [u8],
 ) -> usize
-    requires { ⌜ Lent mu4Rows (now s) (now t) ⌝ }
+    requires { ⌜ TablesOf mu4Rows (now s) (now t) ⌝ }
     requires { ⌜ (1 ≤ rounds) × (rounds ≤ 255) × (n + length (now input) ≤ 1073741824) × (length (now out) ≡ length (now input)) ⌝ }
-    ensures { λ r. ⌜ Part (stream (numbered (held64 (now (keys .entry))) rounds 0) (Of64 x)) n (now (input .entry)) (now (out .entry)) (now (out .exit)) r ⌝ }
+    ensures { λ r. ⌜ Part (stream (numbered (roundKeyIn64 (now (keys .entry))) rounds 0) (Of64 x)) n (now (input .entry)) (now (out .entry)) (now (out .exit)) r ⌝ }
 {
     if input.len() >= 32 {
         if n % 8 == 0 {
-            four64(s, t, keys, rounds, x, n, input, out);
+            four_blocks64(s, t, keys, rounds, x, n, input, out);
             return 32;
         }
     }
-    step64(s, t, keys, rounds, x, n, input, out)
+    one_block64(s, t, keys, rounds, x, n, input, out)
 }
 
 // Part after part.
-fn lay64(
+fn stretch64(
     s: &[u32; 1024],
     t: &[u32; 1024],
     keys: &[u64; 510],
@@ -75,9 +75,9 @@ fn lay64(
     input: &[u8],
     out: &mut [u8],
 )
-    requires { ⌜ Lent mu4Rows (now s) (now t) ⌝ }
+    requires { ⌜ TablesOf mu4Rows (now s) (now t) ⌝ }
     requires { ⌜ (1 ≤ rounds) × (rounds ≤ 255) × (n + length (now input) ≤ 1073741824) × (length (now out) ≡ length (now input)) ⌝ }
-    ensures { λ _. ⌜ now (out .exit) ≡ addedFrom (stream (numbered (held64 (now (keys .entry))) rounds 0) (Of64 x)) n (now (input .entry)) ⌝ }
+    ensures { λ _. ⌜ now (out .exit) ≡ xorFrom (stream (numbered (roundKeyIn64 (now (keys .entry))) rounds 0) (Of64 x)) n (now (input .entry)) ⌝ }
 {
     let mut at = 0;
     while at < input.len() {
@@ -95,8 +95,8 @@ pub fn run64(
     out: &mut [u8],
 )
     requires { ⌜ Ready 8 rounds (now counter) n (now input) (now out) ⌝ }
-    ensures { λ _. ⌜ now (out .exit) ≡ addedFrom (stream (numbered (held64 (now (keys .entry))) rounds 0) (Of64 (state64 (now (counter .entry))))) n (now (input .entry)) ⌝ }
+    ensures { λ _. ⌜ now (out .exit) ≡ xorFrom (stream (numbered (roundKeyIn64 (now (keys .entry))) rounds 0) (Of64 (state64 (now (counter .entry))))) n (now (input .entry)) ⌝ }
 {
     let x = read64(counter);
-    lay64(&tbs::tbs(), &tbsm4::tbsm(), keys, rounds, x, n, input, out);
+    stretch64(&tbs::tbs(), &tbsm4::tbsm(), keys, rounds, x, n, input, out);
 }

@@ -3,39 +3,39 @@ ghost use mathlib.Core.Path.{_≡_};
 ghost use mathlib.Core.List.{_++_};
 ghost use Prim.Native.Nat.{_+_, _%_, _≤_};
 ghost use lib.ListN.{length, drop};
-ghost use Rattle.fox_layers.specs.Words.{sum};
+ghost use Rattle.fox_layers.specs.Words.{xorEach};
 ghost use Rattle.fox_layers.specs.Diffusion.{mu8Rows};
 ghost use Rattle.fox_rounds.specs.Skeleton.{numbered};
 ghost use Rattle.fox_rounds.specs.declared.state.State.the-variants.{Of128};
-ghost use Rattle.fox_rounds.specs.RoundKeys.{held128};
-ghost use Rattle.fox_server_rounds.specs.Tables.{Lent};
+ghost use Rattle.fox_rounds.specs.RoundKeys.{roundKeyIn128};
+ghost use Rattle.fox_server_rounds.specs.Tables.{TablesOf};
 ghost use Rattle.fox_block.specs.Block.{bytes128};
 ghost use Rattle.fox_run.specs.States.{counted128, stream};
-ghost use Rattle.fox_run.specs.Parts.{Laid};
+ghost use Rattle.fox_run.specs.Parts.{XoredTo};
 use fox_engine_run::counter::counted128;
-use fox_engine_run::key_stream::add_whole128;
+use fox_engine_run::key_stream::xor_whole128;
 use fox_rounds::fox128::Fox128;
 use fox_server_rounds_four::fox128::Four128;
 use fox_server_rounds_four::fox128::seal_four128;
 
-fn add_two128(x: Fox128, y: Fox128, input: &[u8], out: &mut [u8])
+fn xor_two128(x: Fox128, y: Fox128, input: &[u8], out: &mut [u8])
     requires { ⌜ (32 ≤ length (now input)) × (32 ≤ length (now out)) ⌝ }
-    ensures { λ _. ⌜ now (out .exit) ≡ sum (bytes128 x ++ bytes128 y) (now (input .entry)) ++ drop 32 (now (out .entry)) ⌝ }
+    ensures { λ _. ⌜ now (out .exit) ≡ xorEach (bytes128 x ++ bytes128 y) (now (input .entry)) ++ drop 32 (now (out .entry)) ⌝ }
 {
-    add_whole128(x, input, out);
-    add_whole128(y, &input[16..], &mut out[16..]);
+    xor_whole128(x, input, out);
+    xor_whole128(y, &input[16..], &mut out[16..]);
 }
 
-fn add_four128(x: Four128, input: &[u8], out: &mut [u8])
+fn xor_four128(x: Four128, input: &[u8], out: &mut [u8])
     requires { ⌜ (64 ≤ length (now input)) × (64 ≤ length (now out)) ⌝ }
-    ensures { λ _. ⌜ now (out .exit) ≡ sum ((bytes128 (x .first) ++ bytes128 (x .second)) ++ (bytes128 (x .third) ++ bytes128 (x .fourth))) (now (input .entry)) ++ drop 64 (now (out .entry)) ⌝ }
+    ensures { λ _. ⌜ now (out .exit) ≡ xorEach ((bytes128 (x .first) ++ bytes128 (x .second)) ++ (bytes128 (x .third) ++ bytes128 (x .fourth))) (now (input .entry)) ++ drop 64 (now (out .entry)) ⌝ }
 {
     let p = x.first;
     let q = x.second;
     let u = x.third;
     let v = x.fourth;
-    add_two128(p, q, input, out);
-    add_two128(u, v, &input[32..], &mut out[32..]);
+    xor_two128(p, q, input, out);
+    xor_two128(u, v, &input[32..], &mut out[32..]);
 }
 
 fn counted_four128(x: Fox128, i: u32) -> Four128
@@ -51,7 +51,7 @@ fn counted_four128(x: Fox128, i: u32) -> Four128
 }
 
 // The four blocks from the run's byte n on, which begins a block.
-pub fn four128(
+pub fn four_blocks128(
     s: &[u32; 1024],
     t: &[u64; 2048],
     keys: &[u64; 510],
@@ -61,11 +61,11 @@ pub fn four128(
     input: &[u8],
     out: &mut [u8],
 )
-    requires { ⌜ Lent mu8Rows (now s) (now t) ⌝ }
+    requires { ⌜ TablesOf mu8Rows (now s) (now t) ⌝ }
     requires { ⌜ (1 ≤ rounds) × (rounds ≤ 255) × (n % 16 ≡ 0) × (n + 64 ≤ 1073741824) × (64 ≤ length (now input)) × (64 ≤ length (now out)) ⌝ }
-    ensures { λ _. ⌜ Laid (stream (numbered (held128 (now (keys .entry))) rounds 0) (Of128 x)) n (now (input .entry)) (now (out .entry)) 64 (now (out .exit)) ⌝ }
+    ensures { λ _. ⌜ XoredTo (stream (numbered (roundKeyIn128 (now (keys .entry))) rounds 0) (Of128 x)) n (now (input .entry)) (now (out .entry)) 64 (now (out .exit)) ⌝ }
 {
     let blocks = counted_four128(x, (n / 16) as u32);
     let sealed = seal_four128(s, t, keys, rounds, blocks);
-    add_four128(sealed, input, out);
+    xor_four128(sealed, input, out);
 }

@@ -3,39 +3,39 @@ ghost use mathlib.Core.Path.{_≡_};
 ghost use mathlib.Core.List.{_++_};
 ghost use Prim.Native.Nat.{_+_, _%_, _≤_};
 ghost use lib.ListN.{length, drop};
-ghost use Rattle.fox_layers.specs.Words.{sum};
+ghost use Rattle.fox_layers.specs.Words.{xorEach};
 ghost use Rattle.fox_layers.specs.Diffusion.{mu4Rows};
 ghost use Rattle.fox_rounds.specs.Skeleton.{numbered};
 ghost use Rattle.fox_rounds.specs.declared.state.State.the-variants.{Of64};
-ghost use Rattle.fox_rounds.specs.RoundKeys.{held64};
-ghost use Rattle.fox_server_rounds.specs.Tables.{Lent};
+ghost use Rattle.fox_rounds.specs.RoundKeys.{roundKeyIn64};
+ghost use Rattle.fox_server_rounds.specs.Tables.{TablesOf};
 ghost use Rattle.fox_block.specs.Block.{bytes64};
 ghost use Rattle.fox_run.specs.States.{counted64, stream};
-ghost use Rattle.fox_run.specs.Parts.{Laid};
+ghost use Rattle.fox_run.specs.Parts.{XoredTo};
 use fox_engine_run::counter::counted64;
-use fox_engine_run::key_stream::add_whole64;
+use fox_engine_run::key_stream::xor_whole64;
 use fox_rounds::fox64::Fox64;
 use fox_server_rounds_four::fox64::Four64;
 use fox_server_rounds_four::fox64::seal_four64;
 
-fn add_two64(x: Fox64, y: Fox64, input: &[u8], out: &mut [u8])
+fn xor_two64(x: Fox64, y: Fox64, input: &[u8], out: &mut [u8])
     requires { ⌜ (16 ≤ length (now input)) × (16 ≤ length (now out)) ⌝ }
-    ensures { λ _. ⌜ now (out .exit) ≡ sum (bytes64 x ++ bytes64 y) (now (input .entry)) ++ drop 16 (now (out .entry)) ⌝ }
+    ensures { λ _. ⌜ now (out .exit) ≡ xorEach (bytes64 x ++ bytes64 y) (now (input .entry)) ++ drop 16 (now (out .entry)) ⌝ }
 {
-    add_whole64(x, input, out);
-    add_whole64(y, &input[8..], &mut out[8..]);
+    xor_whole64(x, input, out);
+    xor_whole64(y, &input[8..], &mut out[8..]);
 }
 
-fn add_four64(x: Four64, input: &[u8], out: &mut [u8])
+fn xor_four64(x: Four64, input: &[u8], out: &mut [u8])
     requires { ⌜ (32 ≤ length (now input)) × (32 ≤ length (now out)) ⌝ }
-    ensures { λ _. ⌜ now (out .exit) ≡ sum ((bytes64 (x .first) ++ bytes64 (x .second)) ++ (bytes64 (x .third) ++ bytes64 (x .fourth))) (now (input .entry)) ++ drop 32 (now (out .entry)) ⌝ }
+    ensures { λ _. ⌜ now (out .exit) ≡ xorEach ((bytes64 (x .first) ++ bytes64 (x .second)) ++ (bytes64 (x .third) ++ bytes64 (x .fourth))) (now (input .entry)) ++ drop 32 (now (out .entry)) ⌝ }
 {
     let p = x.first;
     let q = x.second;
     let u = x.third;
     let v = x.fourth;
-    add_two64(p, q, input, out);
-    add_two64(u, v, &input[16..], &mut out[16..]);
+    xor_two64(p, q, input, out);
+    xor_two64(u, v, &input[16..], &mut out[16..]);
 }
 
 fn counted_four64(x: Fox64, i: u32) -> Four64
@@ -51,7 +51,7 @@ fn counted_four64(x: Fox64, i: u32) -> Four64
 }
 
 // The four blocks from the run's byte n on, which begins a block.
-pub fn four64(
+pub fn four_blocks64(
     s: &[u32; 1024],
     t: &[u32; 1024],
     keys: &[u64; 510],
@@ -61,11 +61,11 @@ pub fn four64(
     input: &[u8],
     out: &mut [u8],
 )
-    requires { ⌜ Lent mu4Rows (now s) (now t) ⌝ }
+    requires { ⌜ TablesOf mu4Rows (now s) (now t) ⌝ }
     requires { ⌜ (1 ≤ rounds) × (rounds ≤ 255) × (n % 8 ≡ 0) × (n + 32 ≤ 1073741824) × (32 ≤ length (now input)) × (32 ≤ length (now out)) ⌝ }
-    ensures { λ _. ⌜ Laid (stream (numbered (held64 (now (keys .entry))) rounds 0) (Of64 x)) n (now (input .entry)) (now (out .entry)) 32 (now (out .exit)) ⌝ }
+    ensures { λ _. ⌜ XoredTo (stream (numbered (roundKeyIn64 (now (keys .entry))) rounds 0) (Of64 x)) n (now (input .entry)) (now (out .entry)) 32 (now (out .exit)) ⌝ }
 {
     let blocks = counted_four64(x, (n / 8) as u32);
     let sealed = seal_four64(s, t, keys, rounds, blocks);
-    add_four64(sealed, input, out);
+    xor_four64(sealed, input, out);
 }

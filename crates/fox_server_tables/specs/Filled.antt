@@ -6,6 +6,6 @@ use Prim.Native.Nat.{ℕ, _*_}
 use lib.ListN.{length, take}
 
 -- the first j tables of the list that an array is to be stand in it
-pub record Begun (whole : List ℕ) (j : ℕ) (t : List ℕ) : Type 0 where
+pub record FilledTo (whole : List ℕ) (j : ℕ) (t : List ℕ) : Type 0 where
   pub long : length t ≡ length whole
   pub same : take (j * 256) t ≡ take (j * 256) whole

@@ -6,7 +6,7 @@ ghost use Rattle.fox_layers.specs.Tables.{TBS};
 use fox_engine_sbox::sbox::sbox;
 
 // A byte moved to byte number j of a word.
-fn placed(b: u8, j: usize) -> u32
+fn shifted(b: u8, j: usize) -> u32
     requires { ⌜ j < 4 ⌝ }
     ensures { λ r. ⌜ r ≡ b * 2 ^ (8 * (3 - j)) ⌝ }
 {
@@ -24,7 +24,7 @@ pub fn tbs() -> [u32; 1024]
     let s = sbox();
     let mut t = [0; 1024];
     for i in 0..1024 {
-        t[i] = placed(s[i % 256], i / 256);
+        t[i] = shifted(s[i % 256], i / 256);
     }
     t
 }

@@ -2,8 +2,8 @@
 ghost use mathlib.Core.Path.{_≡_};
 ghost use Prim.Native.Nat.{_+_, _<_};
 ghost use Rattle.fox_layers.specs.Diffusion.{mu4Rows};
-ghost use Rattle.fox_layers.specs.Tables.{table, boxed, TBSM};
-ghost use Rattle.fox_server_tables.specs.Filled.{Begun};
+ghost use Rattle.fox_layers.specs.Tables.{table, tbsmEntry, TBSM};
+ghost use Rattle.fox_server_tables.specs.Filled.{FilledTo};
 
 const TBSM0: [u32; 256] = [
     0x5d5d_8fba,
@@ -1044,7 +1044,7 @@ const TBSM3: [u32; 256] = [
 // Table number j.
 fn constant(j: usize) -> [u32; 256]
     requires { ⌜ j < 4 ⌝ }
-    ensures { λ r. ⌜ r ≡ table (boxed mu4Rows j) ⌝ }
+    ensures { λ r. ⌜ r ≡ table (tbsmEntry mu4Rows j) ⌝ }
 {
     match j {
         0 => TBSM0,
@@ -1055,10 +1055,10 @@ fn constant(j: usize) -> [u32; 256]
 }
 
 // Sets table number j in its place, behind those before it.
-fn lay(t: &mut [u32; 1024], j: usize)
+fn set_table(t: &mut [u32; 1024], j: usize)
     requires { ⌜ j < 4 ⌝ }
-    requires { ⌜ Begun (TBSM mu4Rows) j (now t) ⌝ }
-    ensures { λ _. ⌜ Begun (TBSM mu4Rows) (j + 1) (now (t .exit)) ⌝ }
+    requires { ⌜ FilledTo (TBSM mu4Rows) j (now t) ⌝ }
+    ensures { λ _. ⌜ FilledTo (TBSM mu4Rows) (j + 1) (now (t .exit)) ⌝ }
 {
     let a = constant(j);
     for x in 0..256 {
@@ -1071,9 +1071,9 @@ pub fn tbsm() -> [u32; 1024]
     ensures { λ r. ⌜ r ≡ TBSM mu4Rows ⌝ }
 {
     let mut t = [0; 1024];
-    lay(&mut t, 0);
-    lay(&mut t, 1);
-    lay(&mut t, 2);
-    lay(&mut t, 3);
+    set_table(&mut t, 0);
+    set_table(&mut t, 1);
+    set_table(&mut t, 2);
+    set_table(&mut t, 3);
     t
 }

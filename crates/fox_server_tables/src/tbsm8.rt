@@ -2,8 +2,8 @@
 ghost use mathlib.Core.Path.{_≡_};
 ghost use Prim.Native.Nat.{_+_, _<_};
 ghost use Rattle.fox_layers.specs.Diffusion.{mu8Rows};
-ghost use Rattle.fox_layers.specs.Tables.{table, boxed, TBSM};
-ghost use Rattle.fox_server_tables.specs.Filled.{Begun};
+ghost use Rattle.fox_layers.specs.Tables.{table, tbsmEntry, TBSM};
+ghost use Rattle.fox_server_tables.specs.Filled.{FilledTo};
 
 const TBSM0: [u64; 256] = [
     0x5d5d_e7bb_ba8d_d269,
@@ -2080,7 +2080,7 @@ const TBSM7: [u64; 256] = [
 // Table number j.
 fn constant(j: usize) -> [u64; 256]
     requires { ⌜ j < 8 ⌝ }
-    ensures { λ r. ⌜ r ≡ table (boxed mu8Rows j) ⌝ }
+    ensures { λ r. ⌜ r ≡ table (tbsmEntry mu8Rows j) ⌝ }
 {
     match j {
         0 => TBSM0,
@@ -2095,10 +2095,10 @@ fn constant(j: usize) -> [u64; 256]
 }
 
 // Sets table number j in its place, behind those before it.
-fn lay(t: &mut [u64; 2048], j: usize)
+fn set_table(t: &mut [u64; 2048], j: usize)
     requires { ⌜ j < 8 ⌝ }
-    requires { ⌜ Begun (TBSM mu8Rows) j (now t) ⌝ }
-    ensures { λ _. ⌜ Begun (TBSM mu8Rows) (j + 1) (now (t .exit)) ⌝ }
+    requires { ⌜ FilledTo (TBSM mu8Rows) j (now t) ⌝ }
+    ensures { λ _. ⌜ FilledTo (TBSM mu8Rows) (j + 1) (now (t .exit)) ⌝ }
 {
     let a = constant(j);
     for x in 0..256 {
@@ -2111,13 +2111,13 @@ pub fn tbsm() -> [u64; 2048]
     ensures { λ r. ⌜ r ≡ TBSM mu8Rows ⌝ }
 {
     let mut t = [0; 2048];
-    lay(&mut t, 0);
-    lay(&mut t, 1);
-    lay(&mut t, 2);
-    lay(&mut t, 3);
-    lay(&mut t, 4);
-    lay(&mut t, 5);
-    lay(&mut t, 6);
-    lay(&mut t, 7);
+    set_table(&mut t, 0);
+    set_table(&mut t, 1);
+    set_table(&mut t, 2);
+    set_table(&mut t, 3);
+    set_table(&mut t, 4);
+    set_table(&mut t, 5);
+    set_table(&mut t, 6);
+    set_table(&mut t, 7);
     t
 }

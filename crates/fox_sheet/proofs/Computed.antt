@@ -3,7 +3,7 @@
 -- Assumes nothing.
 use mathlib.Core.Path.{refl}
 use mathlib.Core.List.{_++_}
-use Rattle.fox_refusals.specs.Refusals.{refusalOf, blockSize, noCipher, noRounds, longKey, noBlock, noOutput, forKey, forBlock}
+use Rattle.fox_refusals.specs.Refusals.{refusalOf, blockSize, wrongCipher, wrongRounds, longKey, wrongBlockLength, wrongOutputLength, forKey, forBlock}
 use Rattle.fox_text.specs.Ascii.{codes, ascii, startsWith}
 use Rattle.fox_text.specs.Lines.{lineEnd, afterLine, lines}
 use Rattle.fox_text.specs.Rules.{isLine, brokenFrom}
@@ -15,7 +15,7 @@ use Rattle.fox_sheet.specs.Answer.{refusalName, lineName, brokenText, re
 use Rattle.fox_sheet.specs.Examples.{Printed, zeros, broken, refused}
 
 pub printed : Printed (broken ++ refused)
-unfolding broken refused zeros refusalOf blockSize noCipher noRounds longKey noBlock noOutput forKey forBlock codes ascii startsWith lineEnd
+unfolding broken refused zeros refusalOf blockSize wrongCipher wrongRounds longKey wrongBlockLength wrongOutputLength forKey forBlock codes ascii startsWith lineEnd
     afterLine lines isLine brokenFrom allDigits onward begins inRange isDecimal digitsText allHex nibble pairsOf isDecimalLine isPairsLine
     decimalIn pairsIn decimalLineText cipherName roundsName keyName sealWay openWay blockName isWayLine settingTests taskTests brokenLine
     said valuesOf refusalName lineName brokenText refusal blockText answerOf

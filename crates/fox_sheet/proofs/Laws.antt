@@ -13,7 +13,7 @@ use Rattle.fox_text.specs.Put.{Put}
 use Rattle.fox_text.proofs.Laws.Stores.{put-stored}
 use Rattle.fox_text.specs.Fields.{decimalLineText}
 use Rattle.fox_sheet.specs.Sheet.{settingTests, taskTests, brokenLine, Values, valuesOf}
-use Rattle.fox_sheet.specs.Answer.{refusalName, asked, brokenText, servedText, turned, refusal, blockText, answerOf, Answers}
+use Rattle.fox_sheet.specs.Answer.{refusalName, valuesFrom, brokenText, servedText, turned, refusal, blockText, answerOf, Answers}
 
 -- a broken line of the first three, and else of the others
 parts-broken : (f g h : Test) (tests : List Test) (t : List ℕ)
@@ -34,7 +34,7 @@ unfolding brokenLine settingTests
 first-broken t s k l = l ∙ rw (s, k) (parts-broken _ _ _ taskTests t)
 
 pub same-values : {v : Values} {sealing : Bool} {cipher rounds : ℕ} {key block : List ℕ} → sealing ≡ v .sealing → cipher ≡ v .cipher
-    → rounds ≡ v .rounds → key ≡ v .key → block ≡ v .block → asked sealing cipher rounds key block ≡ v
+    → rounds ≡ v .rounds → key ≡ v .key → block ≡ v .block → valuesFrom sealing cipher rounds key block ≡ v
 same-values o c r k b = rw (o, c, r, k, b)
 
 -- the answer stored

@@ -8,7 +8,7 @@ use Prim.Native.Nat.{ℕ}
 use native.Mathlib.Omega.{arith}
 use Rattle.fox_text.specs.Ascii.{codes, ascii, startsWith, same}
 use Rattle.fox_text.specs.Lines.{lines}
-use Rattle.fox_text.proofs.Laws.Written.{Plain, Plains, Kept, written-right, written-lines, right-lines}
+use Rattle.fox_text.proofs.Laws.Written.{Plain, Plains, Passing, written-right, written-lines, right-lines}
 use Rattle.fox_text.proofs.Laws.Values.{same-is, decimal-line-right, decimal-line-read, decimal-line-plain, decimal-line-again}
 use Rattle.fox_text.proofs.Laws.Values.{pairs-line-right, pairs-line-read, pairs-line-plain, pairs-line-again}
 use Rattle.fox_sheet.specs.Sheet.{cipherName, roundsName, keyName, sealWay, openWay, blockName, isWayLine, settingTests, taskTests}
@@ -52,9 +52,9 @@ way-read true = refl
 way-read false = refl
 
 module _ {v : Values} (r : InRange v) where
-  lines-kept : Kept (settingTests ++ taskTests) (linesOf v)
-  unfolding Kept settingTests taskTests linesOf
-  lines-kept = (
+  lines-passing : Passing (settingTests ++ taskTests) (linesOf v)
+  unfolding Passing settingTests taskTests linesOf
+  lines-passing = (
     decimal-line-right _ (v .cipher) cipherName (omega (arith, r .cipher)) (omega (arith, r .cipher)),
     (
       decimal-line-right _ (v .rounds) roundsName (omega (arith, r .rounds)) (omega (arith, r .rounds)),
@@ -97,7 +97,7 @@ pub written-is-read : {v : Values} {t : List ℕ} → WrittenFrom v t → Says v
 unfolding brokenLine sheetText valuesOf
 written-is-read {v} w =
     record {
-      right = rw (w .text) (written-right 1 (settingTests ++ taskTests) (linesOf v) (lines-kept (w .range)) (lines-plain (w .range)));
+      right = rw (w .text) (written-right 1 (settingTests ++ taskTests) (linesOf v) (lines-passing (w .range)) (lines-plain (w .range)));
       values = rw (w .text, read-again (w .range)) (lines-said (w .range));
     }
 
@@ -109,10 +109,10 @@ way-again true l e h = same-is sealWay l e
 way-again false l e h = same-is openWay l (rw e at h)
 
 pub right-is-written : (t : List ℕ) → brokenLine t ≡ 0 → WrittenFrom (valuesOf t) t
-unfolding brokenLine Kept settingTests taskTests lines valuesOf said sheetText linesOf
+unfolding brokenLine Passing settingTests taskTests lines valuesOf said sheetText linesOf
 right-is-written t right =
     let r = right-lines 0 (settingTests ++ taskTests) t right in
-    let k = r .kept in
+    let k = r .passing in
     let cipher = decimal-line-again _ cipherName _ (omega arith) (k .0) in
     let rounds = decimal-line-again _ roundsName _ (omega arith) (k .1 .0) in
     let key = pairs-line-again _ keyName _ (k .1 .1 .0) in

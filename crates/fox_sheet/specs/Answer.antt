@@ -32,8 +32,8 @@ servedText cipher rounds keyLen block =
     ++ pairsLineText blockName block
 
 -- what a block is turned from
-abbrev pub asked : Bool → ℕ → ℕ → List ℕ → List ℕ → Values
-asked sealing cipher rounds key block = record { cipher = cipher; rounds = rounds; key = key; sealing = sealing; block = block }
+abbrev pub valuesFrom : Bool → ℕ → ℕ → List ℕ → List ℕ → Values
+valuesFrom sealing cipher rounds key block = record { cipher = cipher; rounds = rounds; key = key; sealing = sealing; block = block }
 
 -- the block that the way asks for
 abbrev pub turned : Values → List ℕ

@@ -3,7 +3,7 @@ ghost use mathlib.Core.Path.{_≡_};
 ghost use Prim.Native.Nat.{_≤_};
 ghost use lib.ListN.{length};
 ghost use Rattle.fox_text.specs.Put.{Put};
-ghost use Rattle.fox_sheet.specs.Answer.{Answers, Room, asked, blockText, brokenText, servedText};
+ghost use Rattle.fox_sheet.specs.Answer.{Answers, Room, valuesFrom, blockText, brokenText, servedText};
 use fox_card_block::block::turn;
 use fox_sheet_read::sheet::first_broken;
 use fox_sheet_read::sheet::read_settings;
@@ -35,7 +35,7 @@ fn put_served(cipher: u32, rounds: u32, key: usize, block: &[u8], out: &mut [u8]
 }
 
 // `room` is where the turned block goes.
-fn tell(
+fn write_answer(
     sealing: bool,
     cipher: u32,
     rounds: u32,
@@ -46,7 +46,7 @@ fn tell(
 ) -> usize
     requires lengths { ⌜ Room (length (now key)) (now block) (now out) ⌝ }
     requires as_long { ⌜ length (now room) ≡ length (now block) ⌝ }
-    ensures { λ r. ⌜ Put 125 (blockText (asked sealing cipher rounds (now (key .entry)) (now (block .entry)))) (now (out .entry)) (now (out .exit)) 0 r ⌝ }
+    ensures { λ r. ⌜ Put 125 (blockText (valuesFrom sealing cipher rounds (now (key .entry)) (now (block .entry)))) (now (out .entry)) (now (out .exit)) 0 r ⌝ }
 {
     let a = turn(sealing, cipher, rounds, key, block, room);
     if a.refusal != 0 {
@@ -64,11 +64,11 @@ fn answer_block(
     out: &mut [u8],
 ) -> usize
     requires { ⌜ Room (length (now key)) (now block) (now out) ⌝ }
-    ensures { λ r. ⌜ Put 125 (blockText (asked sealing cipher rounds (now (key .entry)) (now (block .entry)))) (now (out .entry)) (now (out .exit)) 0 r ⌝ }
+    ensures { λ r. ⌜ Put 125 (blockText (valuesFrom sealing cipher rounds (now (key .entry)) (now (block .entry)))) (now (out .entry)) (now (out .exit)) 0 r ⌝ }
 {
     let mut room = [0; 32];
     let n = block.len();
-    tell(sealing, cipher, rounds, key, block, &mut room[..n], out)
+    write_answer(sealing, cipher, rounds, key, block, &mut room[..n], out)
 }
 
 // Every byte that the bench program prints for the sheet, at the start of the output; their count is handed back.

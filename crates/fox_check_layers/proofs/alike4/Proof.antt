@@ -1,4 +1,4 @@
--- `crate::alike4` is safe: it counts at most one for each word.
+-- `alike4` is safe: it counts at most one for each word.
 -- Assumes nothing.
 use Prim.Native.Nat.{_≤_, _-_}
 use borrow.Author.Needs.{needs}

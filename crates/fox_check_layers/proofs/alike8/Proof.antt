@@ -1,4 +1,4 @@
--- `crate::alike8` is safe: it counts at most one for each word.
+-- `alike8` is safe: it counts at most one for each word.
 -- Assumes nothing.
 use Prim.Native.Nat.{_≤_, _-_}
 use borrow.Author.Needs.{needs}

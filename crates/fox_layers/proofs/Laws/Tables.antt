@@ -8,12 +8,12 @@ use native.Mathlib.Nat.{zero-lt-suc, zero-add, div-div-eq-div-mul, div-add-mod'}
 use native.Mathlib.Omega.{arith}
 use lib.Bits.{xor-shifted}
 use lib.ListN.{length, getD, length-map}
-use Rattle.fox_layers.specs.Words.{_⊕_, joined, split, Bytes, sum, summed}
+use Rattle.fox_layers.specs.Words.{_⊕_, joined, split, Bytes, xorEach, xorOver}
 use Rattle.fox_layers.specs.Field.{product}
 use Rattle.fox_layers.specs.Substitution.{S₁, S₂, S₃, halves, whole, or4, lmid4, lmor4, sbox, sigma}
 use Rattle.fox_layers.specs.Diffusion.{times, diffused, mu4Rows, mu8Rows, mu4, mu8}
-use Rattle.fox_layers.specs.Tables.{listed, table, box, tables, TBS, column, scaled, boxed, TBSM, picked}
-use Rattle.fox_layers.proofs.Laws.Words.{length-split, split-bytes, split-above, split-joined, joined-sum, joined-lt, map-bytes}
+use Rattle.fox_layers.specs.Tables.{listed, table, sboxTable, tables, TBS, column, scaled, tbsmEntry, TBSM, picked}
+use Rattle.fox_layers.proofs.Laws.Words.{length-split, split-bytes, split-above, split-joined, joined-xorEach, joined-lt, map-bytes}
 use Rattle.fox_layers.proofs.Laws.Field.{product-lt}
 use Rattle.fox_layers.proofs.Laws.Bytewise.{below, listed-at, length-listed, table-at}
 use Rattle.fox_layers.proofs.Laws.Matrix.{Wide, multiple, columns, times-columns, length-columns, columns-bytes}
@@ -57,17 +57,17 @@ pub length-TBS : (n : ℕ) → length (TBS n) ≡ n * 256
 unfolding TBS
 length-TBS n = length-tables _ n
 
-pub TBSM-at : (rows : List (List ℕ)) (j x : ℕ) → j < length rows → x < 256 → getD (TBSM rows) (j * 256 + x) 0 ≡ boxed rows j x
+pub TBSM-at : (rows : List (List ℕ)) (j x : ℕ) → j < length rows → x < 256 → getD (TBSM rows) (j * 256 + x) 0 ≡ tbsmEntry rows j x
 unfolding TBSM
-TBSM-at rows j x h l = tables-at (boxed rows) (length rows) j x h l
+TBSM-at rows j x h l = tables-at (tbsmEntry rows) (length rows) j x h l
 
 pub length-TBSM : (rows : List (List ℕ)) → length (TBSM rows) ≡ length rows * 256
 unfolding TBSM
-length-TBSM rows = length-tables (boxed rows) (length rows)
+length-TBSM rows = length-tables (tbsmEntry rows) (length rows)
 
-pub box-entry : (x : ℕ) → x < 256 → getD box x 0 ≡ sbox x
-unfolding box
-box-entry x h = table-at sbox x h
+pub sboxTable-entry : (x : ℕ) → x < 256 → getD sboxTable x 0 ≡ sbox x
+unfolding sboxTable
+sboxTable-entry x h = table-at sbox x h
 
 -- n numbers from j on
 abbrev from : ℕ → ℕ → List ℕ
@@ -75,24 +75,24 @@ from n j = listed (λ (i : ℕ). i) n j
 
 -- what bytes pick from tables is the sum of what these have, from table number j on
 picked-from : (f : ℕ → ℕ → ℕ) (n j : ℕ) (xs : List ℕ) → Bytes xs → j + length xs ≡ n
-    → summed (λ (j x : ℕ). getD (tables f n) (j * 256 + x) 0) (from (length xs) j) xs ≡ summed f (from (length xs) j) xs
-unfolding summed listed
+    → xorOver (λ (j x : ℕ). getD (tables f n) (j * 256 + x) 0) (from (length xs) j) xs ≡ xorOver f (from (length xs) j) xs
+unfolding xorOver listed
 picked-from f n j [] h e = refl
 picked-from f n j (x ∷ xs) h e = rw (tables-at f n j x (omega arith) (h 0), picked-from f n (suc j) xs (λ i. h (suc i)) (omega arith))
 
-picked-tables : (f : ℕ → ℕ → ℕ) (n w : ℕ) → picked n (tables f n) w ≡ summed f (from n 0) (split n w)
+picked-tables : (f : ℕ → ℕ → ℕ) (n w : ℕ) → picked n (tables f n) w ≡ xorOver f (from n 0) (split n w)
 unfolding picked
 picked-tables f n w =
     rw (length-split n w) at (picked-from f n 0 (split n w) (split-bytes n w) (zero-add (length (split n w)) ∙ length-split n w))
 
 -- boxes moved to bytes of their own
-moved-joined : (n j : ℕ) (xs : List ℕ) → Bytes xs → j + length xs ≡ n
-    → summed (λ (j x : ℕ). sbox x * 2 ^ (8 * (n - 1 - j))) (from (length xs) j) xs ≡ joined (map sbox xs)
-unfolding summed listed joined
-moved-joined n j [] h e = refl
-moved-joined n j (x ∷ xs) h e =
+shifted-joined : (n j : ℕ) (xs : List ℕ) → Bytes xs → j + length xs ≡ n
+    → xorOver (λ (j x : ℕ). sbox x * 2 ^ (8 * (n - 1 - j))) (from (length xs) j) xs ≡ joined (map sbox xs)
+unfolding xorOver listed joined
+shifted-joined n j [] h e = refl
+shifted-joined n j (x ∷ xs) h e =
     let left : n - 1 - j ≡ length (map sbox xs) = omega (arith, length-map xs sbox) in
-    rw (left, moved-joined n (suc j) xs (λ i. h (suc i)) (omega arith))
+    rw (left, shifted-joined n (suc j) xs (λ i. h (suc i)) (omega arith))
     (xor-shifted (sbox x) (8 * length (map sbox xs)) (joined (map sbox xs)) (joined-lt (map sbox xs) (map-sbox-bytes xs (λ i. h (suc i)))))
 
 -- the lent list is the TBS tables: substitution
@@ -100,7 +100,7 @@ pub picked-TBS : (n w : ℕ) → picked n (TBS n) w ≡ sigma n w
 unfolding TBS sigma
 picked-TBS n w =
     picked-tables _ n w
-    ∙ rw (length-split n w) at (moved-joined n 0 (split n w) (split-bytes n w) (zero-add (length (split n w)) ∙ length-split n w))
+    ∙ rw (length-split n w) at (shifted-joined n 0 (split n w) (split-bytes n w) (zero-add (length (split n w)) ∙ length-split n w))
 
 -- substitution of a word in two halves
 low-half : (w : ℕ) → sigma 4 (w % 2 ^ 32) ≡ sigma 4 w
@@ -123,17 +123,17 @@ unfolding joined
 joined-zeros [] = refl
 joined-zeros (row ∷ rows) = omega (arith, joined-zeros rows)
 
-boxed-columns : (rows : List (List ℕ)) (j : ℕ) (xs : List ℕ) → Bytes xs
-    → summed (boxed rows) (from (length xs) j) xs ≡ joined (columns rows j (map sbox xs))
-unfolding summed listed boxed scaled column columns
-boxed-columns rows j [] h = sym (joined-zeros rows)
-boxed-columns rows j (x ∷ xs) h =
+tbsmEntry-columns : (rows : List (List ℕ)) (j : ℕ) (xs : List ℕ) → Bytes xs
+    → xorOver (tbsmEntry rows) (from (length xs) j) xs ≡ joined (columns rows j (map sbox xs))
+unfolding xorOver listed tbsmEntry scaled column columns
+tbsmEntry-columns rows j [] h = sym (joined-zeros rows)
+tbsmEntry-columns rows j (x ∷ xs) h =
     let ms = multiple (column j rows) (sbox x) in
     let rest = columns rows (suc j) (map sbox xs) in
     let same : length ms ≡ length rest = simp (length-map, length-columns) in
     let bytes = map-bytes (λ (m : ℕ). product m (sbox x)) (λ m. product-lt m (sbox x) (sbox-lt x (h 0))) (column j rows) in
     let more = columns-bytes rows (suc j) (map sbox xs) (map-sbox-bytes xs (λ i. h (suc i))) in
-    rw (boxed-columns rows (suc j) xs (λ i. h (suc i)), joined-sum ms rest bytes more same)
+    rw (tbsmEntry-columns rows (suc j) xs (λ i. h (suc i)), joined-xorEach ms rest bytes more same)
 
 -- the lent list is a matrix's TBSM tables: substitution, then diffusion
 pub picked-TBSM : (rows : List (List ℕ)) → Wide (length rows) rows → (w : ℕ)
@@ -143,9 +143,9 @@ picked-TBSM rows wide w =
     let n = length rows in
     let bs = split n w in
     let many : length (map sbox bs) ≡ n = simp (length-map, length-split) in
-    picked-tables (boxed rows) n w
+    picked-tables (tbsmEntry rows) n w
     ∙ rw (split-sigma n w, times-columns rows n (map sbox bs) wide many)
-    (rw (length-split n w) at (boxed-columns rows 0 bs (split-bytes n w)))
+    (rw (length-split n w) at (tbsmEntry-columns rows 0 bs (split-bytes n w)))
 
 pub picked-mu4 : (w : ℕ) → picked 4 (TBSM mu4Rows) w ≡ mu4 (sigma 4 w)
 unfolding mu4 mu4Rows

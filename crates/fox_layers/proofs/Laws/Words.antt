@@ -9,7 +9,7 @@ use lib.Arith.{digits-lt}
 use lib.Pow.{pow-add, pow-pos, mod-pow-add, high}
 use lib.ListN.{length, take, drop, length-append}
 use lib.Bits.{xor-block, xor-shr, xor-mod, xor-lt}
-use Rattle.fox_layers.specs.Words.{_⊕_, joined, split, Bytes, sum}
+use Rattle.fox_layers.specs.Words.{_⊕_, joined, split, Bytes, xorEach}
 
 -- 2 ^ (8 * suc n), the number of words of n + 1 bytes
 pub pow-byte : (n : ℕ) → 2 ^ (8 * suc n) ≡ 256 * 2 ^ (8 * n)
@@ -63,21 +63,21 @@ joined-append [] ys = omega arith
 joined-append (x ∷ xs) ys =
     rw (length-append xs ys, mul-add 8 (length xs) (length ys), pow-add 2 (8 * length xs) (8 * length ys), joined-append xs ys) (omega arith)
 
-pub length-sum : (xs ys : List ℕ) → length xs ≡ length ys → length (sum xs ys) ≡ length xs
-unfolding sum
-length-sum [] ys e = refl
-length-sum (x ∷ xs) [] e = absurd (omega arith)
-length-sum (x ∷ xs) (y ∷ ys) e = ap suc (length-sum xs ys (suc-inj e))
+pub length-xorEach : (xs ys : List ℕ) → length xs ≡ length ys → length (xorEach xs ys) ≡ length xs
+unfolding xorEach
+length-xorEach [] ys e = refl
+length-xorEach (x ∷ xs) [] e = absurd (omega arith)
+length-xorEach (x ∷ xs) (y ∷ ys) e = ap suc (length-xorEach xs ys (suc-inj e))
 
-pub joined-sum : (xs ys : List ℕ) → Bytes xs → Bytes ys → length xs ≡ length ys → joined (sum xs ys) ≡ joined xs ⊕ joined ys
-unfolding joined sum
-joined-sum [] [] hx hy e = refl
-joined-sum [] (y ∷ ys) hx hy e = absurd (omega arith)
-joined-sum (x ∷ xs) [] hx hy e = absurd (omega arith)
-joined-sum (x ∷ xs) (y ∷ ys) hx hy e =
+pub joined-xorEach : (xs ys : List ℕ) → Bytes xs → Bytes ys → length xs ≡ length ys → joined (xorEach xs ys) ≡ joined xs ⊕ joined ys
+unfolding joined xorEach
+joined-xorEach [] [] hx hy e = refl
+joined-xorEach [] (y ∷ ys) hx hy e = absurd (omega arith)
+joined-xorEach (x ∷ xs) [] hx hy e = absurd (omega arith)
+joined-xorEach (x ∷ xs) (y ∷ ys) hx hy e =
     let n : length xs ≡ length ys = suc-inj e in
     let bound : joined ys < 2 ^ (8 * length xs) = rw n (joined-lt ys (λ i. hy (suc i))) in
-    rw (length-sum xs ys n, joined-sum xs ys (λ i. hx (suc i)) (λ i. hy (suc i)) n, ← n)
+    rw (length-xorEach xs ys n, joined-xorEach xs ys (λ i. hx (suc i)) (λ i. hy (suc i)) n, ← n)
     (sym (xor-block (8 * length xs) x y (joined xs) (joined ys) (joined-lt xs (λ i. hx (suc i))) bound))
 
 pub map-bytes : {A : Type 0} (f : A → ℕ) → ((a : A) → f a < 256) → (xs : List A) → Bytes (map f xs)
@@ -101,18 +101,18 @@ append-bytes [] ys hx hy i = hy i
 append-bytes (x ∷ xs) ys hx hy zero = hx 0
 append-bytes (x ∷ xs) ys hx hy (suc i) = append-bytes xs ys (λ k. hx (suc k)) hy i
 
-pub sum-bytes : (xs ys : List ℕ) → Bytes xs → Bytes ys → Bytes (sum xs ys)
-unfolding sum
-sum-bytes [] ys hx hy i = zero-lt-suc 255
-sum-bytes (x ∷ xs) [] hx hy i = zero-lt-suc 255
-sum-bytes (x ∷ xs) (y ∷ ys) hx hy zero = xor-lt 8 x y (hx 0) (hy 0)
-sum-bytes (x ∷ xs) (y ∷ ys) hx hy (suc i) = sum-bytes xs ys (λ k. hx (suc k)) (λ k. hy (suc k)) i
+pub xorEach-bytes : (xs ys : List ℕ) → Bytes xs → Bytes ys → Bytes (xorEach xs ys)
+unfolding xorEach
+xorEach-bytes [] ys hx hy i = zero-lt-suc 255
+xorEach-bytes (x ∷ xs) [] hx hy i = zero-lt-suc 255
+xorEach-bytes (x ∷ xs) (y ∷ ys) hx hy zero = xor-lt 8 x y (hx 0) (hy 0)
+xorEach-bytes (x ∷ xs) (y ∷ ys) hx hy (suc i) = xorEach-bytes xs ys (λ k. hx (suc k)) (λ k. hy (suc k)) i
 
-pub split-xor : (n v w : ℕ) → split n (v ⊕ w) ≡ sum (split n v) (split n w)
-unfolding split sum
+pub split-xor : (n v w : ℕ) → split n (v ⊕ w) ≡ xorEach (split n v) (split n w)
+unfolding split xorEach
 split-xor zero v w = refl
 split-xor (suc n) v w =
-    rw (xor-shr v w (8 * n), split-xor n v w) (ap (λ (b : ℕ). b ∷ sum (split n v) (split n w)) (xor-mod (v / 2 ^ (8 * n)) (w / 2 ^ (8 * n)) 8))
+    rw (xor-shr v w (8 * n), split-xor n v w) (ap (λ (b : ℕ). b ∷ xorEach (split n v) (split n w)) (xor-mod (v / 2 ^ (8 * n)) (w / 2 ^ (8 * n)) 8))
 
 -- the bytes of a word of four and of eight, as code writes them: the last is not divided
 pub split-4 : (w : ℕ) → split 4 w ≡ w / 0x1000000 % 256 ∷ w / 0x10000 % 256 ∷ w / 0x100 % 256 ∷ w % 256 ∷ []

@@ -6,7 +6,7 @@ use Prim.Native.Nat.{ℕ, zero, suc, _+_, _*_, _/_, _%_, _<_}
 use native.Mathlib.Omega.{arith}
 use lib.Arith.{bin-ind}
 use lib.Bits.{xor-shr, xor-mod, xor-zero-l, xor-zero-r, xor-self}
-use Rattle.fox_layers.specs.Words.{_⊕_, total, summed}
+use Rattle.fox_layers.specs.Words.{_⊕_, xorAll, xorOver}
 pub use lib.Bits.{xor-comm, xor-zero-l as zero-xor, xor-zero-r as xor-zero, xor-self as xor-same, xor-lt}
 
 -- a number below two is 0 or 1, so the law of one digit has eight cases, which compute
@@ -52,10 +52,10 @@ abbrev pub running : ℕ → List ℕ → ℕ
 running a [] = a
 running a (x ∷ xs) = running (a ⊕ x) xs
 
-pub running-total : (a : ℕ) (xs : List ℕ) → running a xs ≡ a ⊕ total xs
-unfolding total
-running-total a [] = sym (xor-zero-r a)
-running-total a (x ∷ xs) = running-total (a ⊕ x) xs ∙ xor-assoc a x (total xs)
+pub running-xorAll : (a : ℕ) (xs : List ℕ) → running a xs ≡ a ⊕ xorAll xs
+unfolding xorAll
+running-xorAll a [] = sym (xor-zero-r a)
+running-xorAll a (x ∷ xs) = running-xorAll (a ⊕ x) xs ∙ xor-assoc a x (xorAll xs)
 
 infixr 40 _▸_
 -- the numbers of the third list are what f gives at each pair of the first two
@@ -63,16 +63,16 @@ pub data Terms {A : Type 0} (f : A → ℕ → ℕ) : List A → List ℕ → Li
   done : Terms f [] [] []
   _▸_ : {m : A} {x y : ℕ} {ms : List A} {xs ys : List ℕ} → y ≡ f m x → Terms f ms xs ys → Terms f (m ∷ ms) (x ∷ xs) (y ∷ ys)
 
-pub terms-summed : {A : Type 0} {f : A → ℕ → ℕ} {ms : List A} {xs ys : List ℕ} → Terms f ms xs ys → total ys ≡ summed f ms xs
-unfolding total summed
-terms-summed done = refl
-terms-summed (e ▸ es) = ap₂ (λ (a b : ℕ). a ⊕ b) e (terms-summed es)
+pub terms-xorOver : {A : Type 0} {f : A → ℕ → ℕ} {ms : List A} {xs ys : List ℕ} → Terms f ms xs ys → xorAll ys ≡ xorOver f ms xs
+unfolding xorAll xorOver
+terms-xorOver done = refl
+terms-xorOver (e ▸ es) = ap₂ (λ (a b : ℕ). a ⊕ b) e (terms-xorOver es)
 
 -- a number that was promised to be the sum of such a list
-pub sum-of-terms : {A : Type 0} {f : A → ℕ → ℕ} {ms : List A} {xs ys : List ℕ} {r : ℕ} → r ≡ total ys → Terms f ms xs ys → r ≡ summed f ms xs
-sum-of-terms e es = e ∙ terms-summed es
+pub xorOver-of-terms : {A : Type 0} {f : A → ℕ → ℕ} {ms : List A} {xs ys : List ℕ} {r : ℕ} → r ≡ xorAll ys → Terms f ms xs ys → r ≡ xorOver f ms xs
+xorOver-of-terms e es = e ∙ terms-xorOver es
 
 -- a sum of such a list that was built up from the left
-pub running-terms : {A : Type 0} {f : A → ℕ → ℕ} {ms : List A} {xs ys : List ℕ} {y : ℕ} → Terms f ms xs (y ∷ ys) → running y ys ≡ summed f ms xs
-unfolding total
-running-terms {ys} {y} es = running-total y ys ∙ terms-summed es
+pub running-terms : {A : Type 0} {f : A → ℕ → ℕ} {ms : List A} {xs ys : List ℕ} {y : ℕ} → Terms f ms xs (y ∷ ys) → running y ys ≡ xorOver f ms xs
+unfolding xorAll
+running-terms {ys} {y} es = running-xorAll y ys ∙ terms-xorOver es

@@ -15,7 +15,7 @@ use Rattle.fox_layers.proofs.Laws.Words.{length-split, joined-split-low, split-
 use Rattle.fox_key_mixing.specs.declared.key_bytes.Key16.{Key16}
 use Rattle.fox_key_mixing.specs.declared.key_bytes.Key32.{Key32}
 use Rattle.fox_key_mixing.specs.KeyBytes.{bytes16, bytes32}
-use Rattle.fox_key_mixing.proofs.Laws.KeyBytes.{held, held16, held32}
+use Rattle.fox_key_mixing.proofs.Laws.KeyBytes.{wordBytes, wordBytes16, wordBytes32}
 use Rattle.fox_nonlinear.specs.Nonlinear.{words}
 
 -- each word of two times n bytes, with its left half before it: words of n bytes, where what stands above does not count
@@ -23,12 +23,12 @@ abbrev halved : ℕ → List ℕ → List ℕ
 halved n [] = []
 halved n (w ∷ ws) = w / 2 ^ (8 * n) ∷ w ∷ halved n ws
 
-words-held : (n : ℕ) (ws : List ℕ) → words n (length ws) (held n ws) ≡ map (λ (w : ℕ). w % 2 ^ (8 * n)) ws
+words-wordBytes : (n : ℕ) (ws : List ℕ) → words n (length ws) (wordBytes n ws) ≡ map (λ (w : ℕ). w % 2 ^ (8 * n)) ws
 unfolding words
-words-held n [] = refl
-words-held n (w ∷ ws) =
+words-wordBytes n [] = refl
+words-wordBytes n (w ∷ ws) =
     let whole = length-split n w in
-    rw (take-at (split n w) (held n ws) n whole, drop-at (split n w) (held n ws) n whole, joined-split-low n w, words-held n ws)
+    rw (take-at (split n w) (wordBytes n ws) n whole, drop-at (split n w) (wordBytes n ws) n whole, joined-split-low n w, words-wordBytes n ws)
 
 -- the bytes above the lowest n, and these
 split-parts : (m n w : ℕ) → split (m + n) w ≡ split m (w / 2 ^ (8 * n)) ++ split n w
@@ -38,31 +38,31 @@ split-parts (suc m) n w =
     let place : 8 * (m + n) ≡ 8 * n + 8 * m = omega arith in
     rw (suc-add m n, place, ← (shr-shr w (8 * n) (8 * m)), split-parts m n w)
 
-held-halved : (n : ℕ) (ws : List ℕ) → held (n + n) ws ≡ held n (halved n ws)
-held-halved n [] = refl
-held-halved n (w ∷ ws) =
-    rw (split-parts n n w, held-halved n ws, append-assoc)
+wordBytes-halved : (n : ℕ) (ws : List ℕ) → wordBytes (n + n) ws ≡ wordBytes n (halved n ws)
+wordBytes-halved n [] = refl
+wordBytes-halved n (w ∷ ws) =
+    rw (split-parts n n w, wordBytes-halved n ws, append-assoc)
 
 module _ (k : Key16) (ha : k .a < 2 ^ 64) (hb : k .b < 2 ^ 64) where
   pub words16 : words 8 2 (bytes16 k) ≡ k .a ∷ k .b ∷ []
-  words16 = rw (held16 k) (words-held 8 (k .a ∷ k .b ∷ []) ∙ cc (mod-eq-of-lt ha, mod-eq-of-lt hb))
+  words16 = rw (wordBytes16 k) (words-wordBytes 8 (k .a ∷ k .b ∷ []) ∙ cc (mod-eq-of-lt ha, mod-eq-of-lt hb))
 
   -- in halves, as code writes them
   pub halves16 : words 4 4 (bytes16 k) ≡ k .a / 2 ^ 32 ∷ k .a % 2 ^ 32 ∷ k .b / 2 ^ 32 ∷ k .b % 2 ^ 32 ∷ []
   halves16 =
       let ws = k .a ∷ k .b ∷ [] in
-      rw (held16 k, held-halved 4 ws) (words-held 4 (halved 4 ws) ∙ cc (shr-mod 32 32 ha, shr-mod 32 32 hb))
+      rw (wordBytes16 k, wordBytes-halved 4 ws) (words-wordBytes 4 (halved 4 ws) ∙ cc (shr-mod 32 32 ha, shr-mod 32 32 hb))
 
 module _ (k : Key32) (ha : k .a < 2 ^ 64) (hb : k .b < 2 ^ 64) (hc : k .c < 2 ^ 64) (hd : k .d < 2 ^ 64) where
   pub words32 : words 8 4 (bytes32 k) ≡ k .a ∷ k .b ∷ k .c ∷ k .d ∷ []
   words32 =
-      rw (held32 k) (words-held 8 (k .a ∷ k .b ∷ k .c ∷ k .d ∷ []) ∙ cc (mod-eq-of-lt ha, mod-eq-of-lt hb, mod-eq-of-lt hc, mod-eq-of-lt hd))
+      rw (wordBytes32 k) (words-wordBytes 8 (k .a ∷ k .b ∷ k .c ∷ k .d ∷ []) ∙ cc (mod-eq-of-lt ha, mod-eq-of-lt hb, mod-eq-of-lt hc, mod-eq-of-lt hd))
 
   pub halves32 : words 4 8 (bytes32 k)
       ≡ k .a / 2 ^ 32 ∷ k .a % 2 ^ 32 ∷ k .b / 2 ^ 32 ∷ k .b % 2 ^ 32 ∷ k .c / 2 ^ 32 ∷ k .c % 2 ^ 32 ∷ k .d / 2 ^ 32 ∷ k .d % 2 ^ 32 ∷ []
   halves32 =
       let ws = k .a ∷ k .b ∷ k .c ∷ k .d ∷ [] in
-      rw (held32 k, held-halved 4 ws) (words-held 4 (halved 4 ws) ∙ cc (shr-mod 32 32 ha, shr-mod 32 32 hb, shr-mod 32 32 hc, shr-mod 32 32 hd))
+      rw (wordBytes32 k, wordBytes-halved 4 ws) (words-wordBytes 4 (halved 4 ws) ∙ cc (shr-mod 32 32 ha, shr-mod 32 32 hb, shr-mod 32 32 hc, shr-mod 32 32 hd))
 
   -- in pairs: the two numbers' halves are the four words
   pub pairs32 : words 16 2 (bytes32 k) ≡ (k .a * 2 ^ 64 + k .b) ∷ (k .c * 2 ^ 64 + k .d) ∷ []
@@ -70,7 +70,7 @@ module _ (k : Key32) (ha : k .a < 2 ^ 64) (hb : k .b < 2 ^ 64) (hc : k .c < 2 ^ 
       let p = k .a * 2 ^ 64 + k .b in
       let q = k .c * 2 ^ 64 + k .d in
       let ws = p ∷ q ∷ [] in
-      let same : held 8 (halved 8 ws) ≡ held 8 (k .a ∷ k .b ∷ k .c ∷ k .d ∷ []) =
+      let same : wordBytes 8 (halved 8 ws) ≡ wordBytes 8 (k .a ∷ k .b ∷ k .c ∷ k .d ∷ []) =
       cc (high (k .a) 64 hb, split-above 8 (k .a) (k .b), high (k .c) 64 hd, split-above 8 (k .c) (k .d)) in
-      rw (held32 k, ← same, ← (held-halved 8 ws))
-      (words-held 16 ws ∙ cc (mod-eq-of-lt {m = 2 ^ 128} (digits-lt {c = 2 ^ 64} ha hb), mod-eq-of-lt {m = 2 ^ 128} (digits-lt {c = 2 ^ 64} hc hd)))
+      rw (wordBytes32 k, ← same, ← (wordBytes-halved 8 ws))
+      (words-wordBytes 16 ws ∙ cc (mod-eq-of-lt {m = 2 ^ 128} (digits-lt {c = 2 ^ 64} ha hb), mod-eq-of-lt {m = 2 ^ 128} (digits-lt {c = 2 ^ 64} hc hd)))

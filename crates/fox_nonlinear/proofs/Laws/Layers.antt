@@ -4,7 +4,7 @@ use mathlib.Core.Path.{_≡_, refl, sym}
 use mathlib.Core.List.{List, [], _∷_, map}
 use mathlib.Core.Bool.{Bool, true, false, cond}
 use Prim.Native.Nat.{ℕ}
-use Rattle.fox_layers.specs.Words.{joined, sum}
+use Rattle.fox_layers.specs.Words.{joined, xorEach}
 use Rattle.fox_layers.specs.Substitution.{sigma}
 use Rattle.fox_key_mixing.specs.Padding.{pad}
 use Rattle.fox_nonlinear.specs.Nonlinear.{words, flipped, layers}
@@ -33,6 +33,6 @@ map-turned n false ws = refl
 
 -- from the words after the diffusion, and the pad's words
 pub layers-made : (n k : ℕ) (mu : ℕ → ℕ) (mix : List ℕ → List ℕ) (flip : Bool) (ts : List ℕ) {xs ps : List ℕ}
-    → xs ≡ map mu (map (sigma n) ts) → words n k pad ≡ ps → map (turned n flip) (sum (mix xs) ps) ≡ layers n k mu mix flip ts
+    → xs ≡ map mu (map (sigma n) ts) → words n k pad ≡ ps → map (turned n flip) (xorEach (mix xs) ps) ≡ layers n k mu mix flip ts
 unfolding layers
-layers-made n k mu mix flip ts made pads = rw (made, ← pads) (sym (map-turned n flip (sum (mix (map mu (map (sigma n) ts))) (words n k pad))))
+layers-made n k mu mix flip ts made pads = rw (made, ← pads) (sym (map-turned n flip (xorEach (mix (map mu (map (sigma n) ts))) (words n k pad))))

@@ -8,7 +8,7 @@ use mathlib.Core.List.{List, [], _∷_, _++_}
 use Prim.Native.Nat.{ℕ, _+_, _≤_}
 use lib.Dec.{ltb, eqb}
 use borrow.Author.Tests.{ltb-false, eqb-true, eqb-false, le-ltb, eq-eqb, ne-eqb, not-false}
-use Rattle.fox_refusals.specs.Refusals.{Refusal, refusalOf, First, here, later, orElse, differs, blockSize, noCipher, noRounds, longKey, noBlock, longData, noOutput, pastEnd, forKey, forBlock, forStretch, forRun, Keyed, Blocked, Stretched}
+use Rattle.fox_refusals.specs.Refusals.{Refusal, refusalOf, First, here, later, orElse, differs, blockSize, wrongCipher, wrongRounds, longKey, wrongBlockLength, longData, wrongOutputLength, pastEnd, forKey, forBlock, forStretch, forRun, Keyed, Blocked, Stretched}
 
 -- no test of the list applies
 unfoldable pub Passed : List Refusal → Type 0
@@ -109,8 +109,8 @@ differs-known a b e = eqb-true a b (not-false (eqb a b) e)
 
 -- cipher and rounds, each of two tests
 
-cipher-passed : (c : ℕ) → (c ≡ 64) ⊎ (c ≡ 128) → noCipher c .applies ≡ false
-unfolding noCipher
+cipher-passed : (c : ℕ) → (c ≡ 64) ⊎ (c ≡ 128) → wrongCipher c .applies ≡ false
+unfolding wrongCipher
 cipher-passed c (inl e) = rw (eq-eqb c 64 e)
 cipher-passed c (inr e) = by-test (eqb c 64) (λ t. rw t) (λ t. rw (t, eq-eqb c 128 e))
 
@@ -118,8 +118,8 @@ either : (a b : Bool) → cond a false (not b) ≡ false → (a ≡ true) ⊎ (b
 either true b e = inl refl
 either false b e = inr (not-false b e)
 
-cipher-known : (c : ℕ) → noCipher c .applies ≡ false → (c ≡ 64) ⊎ (c ≡ 128)
-unfolding noCipher
+cipher-known : (c : ℕ) → wrongCipher c .applies ≡ false → (c ≡ 64) ⊎ (c ≡ 128)
+unfolding wrongCipher
 cipher-known c e = ⊎-elim (λ t. inl (eqb-true c 64 t)) (λ t. inr (eqb-true c 128 t)) (either (eqb c 64) (eqb c 128) e)
 
 neither : (a b : Bool) → cond a true b ≡ false → (a ≡ false) × (b ≡ false)
@@ -129,12 +129,12 @@ neither false b e = (refl, e)
 -- a key
 
 keyed-passed : {c r k : ℕ} → Keyed c r k → Passed (forKey c r k)
-unfolding Passed forKey noRounds longKey
+unfolding Passed forKey wrongRounds longKey
 keyed-passed {c} {r} {k} h =
     (cipher-passed c (h .cipher), (rw (le-ltb r 12 (h .low), le-ltb 255 r (h .high)), (le-ltb 32 k (h .key), tt)))
 
-passed-keyed : (c r k : ℕ) → noCipher c .applies ≡ false → noRounds r .applies ≡ false → longKey k .applies ≡ false → Keyed c r k
-unfolding noRounds longKey
+passed-keyed : (c r k : ℕ) → wrongCipher c .applies ≡ false → wrongRounds r .applies ≡ false → longKey k .applies ≡ false → Keyed c r k
+unfolding wrongRounds longKey
 passed-keyed c r k pc pr pk =
     let t = neither (ltb r 12) (ltb 255 r) pr in
     record { cipher = cipher-known c pc; low = ltb-false r 12 (t .0); high = ltb-false 255 r (t .1); key = ltb-false 32 k pk }
@@ -143,7 +143,7 @@ pub keyed-served : {c r k : ℕ} → Keyed c r k → refusalOf (forKey c r k) �
 keyed-served {c} {r} {k} h = passed-served (forKey c r k) (keyed-passed h)
 
 pub keyed : (c r k : ℕ) → refusalOf (forKey c r k) ≡ 0 → Keyed c r k
-unfolding Passed numbered forKey noCipher noRounds longKey
+unfolding Passed numbered forKey wrongCipher wrongRounds longKey
 keyed c r k e =
     let p = served-passed (forKey c r k) refl e in
     passed-keyed c r k (p .0) (p .1 .0) (p .1 .1 .0)
@@ -151,14 +151,14 @@ keyed c r k e =
 -- one block
 
 pub blocked-served : (sealing : Bool) {c r k b o : ℕ} → Blocked c r k b o → refusalOf (forBlock sealing c r k b o) ≡ 0
-unfolding Passed forKey forBlock noBlock noOutput
+unfolding Passed forKey forBlock wrongBlockLength wrongOutputLength
 blocked-served sealing {c} {r} {k} {b} {o} h =
     let p = keyed-passed (h .keyed) in
     passed-served (forBlock sealing c r k b o)
     (p .0, (p .1 .0, (p .1 .1 .0, (differs-passed b (blockSize c) (h .block), (differs-passed o b (h .output), tt)))))
 
 pub blocked : (sealing : Bool) (c r k b o : ℕ) → refusalOf (forBlock sealing c r k b o) ≡ 0 → Blocked c r k b o
-unfolding Passed numbered forKey forBlock noCipher noRounds longKey noBlock noOutput
+unfolding Passed numbered forKey forBlock wrongCipher wrongRounds longKey wrongBlockLength wrongOutputLength
 blocked sealing c r k b o e =
     let p = served-passed (forBlock sealing c r k b o) refl e in
     let q = p .1 .1 .1 in
@@ -171,14 +171,14 @@ blocked sealing c r k b o e =
 -- a stretch of a run
 
 pub stretched-served : {c r k b n d o : ℕ} → Stretched c r k b n d o → refusalOf (forRun c r k b n d o) ≡ 0
-unfolding Passed forKey forStretch forRun noBlock longData noOutput pastEnd
+unfolding Passed forKey forStretch forRun wrongBlockLength longData wrongOutputLength pastEnd
 stretched-served {c} {r} {k} {b} {n} {d} {o} h =
     let p = keyed-passed (h .keyed) in
     passed-served (forRun c r k b n d o)
     (p .0, (p .1 .0, (p .1 .1 .0, (differs-passed b (blockSize c) (h .counter), (le-ltb 65536 d (h .short), (differs-passed o d (h .output), (le-ltb 1073741824 (n + d) (h .end), tt)))))))
 
 pub stretched : (c r k b n d o : ℕ) → refusalOf (forRun c r k b n d o) ≡ 0 → Stretched c r k b n d o
-unfolding Passed numbered forKey forStretch forRun noCipher noRounds longKey noBlock longData noOutput pastEnd
+unfolding Passed numbered forKey forStretch forRun wrongCipher wrongRounds longKey wrongBlockLength longData wrongOutputLength pastEnd
 stretched c r k b n d o e =
     let p = served-passed (forRun c r k b n d o) refl e in
     let q = p .1 .1 .1 in

@@ -72,7 +72,7 @@ same {rs₁} {rs₂} {value} e l a b =
       refusal = number;
       count = a .count ∙ ap₂ (λ (rs : List Refusal) (n : ℕ). cond (eqb (refusalOf rs) 0) n 0) e l ∙ sym (b .count);
       served = λ z. served a (sym (a .refusal) ∙ z) .output ∙ sym (served b (sym (b .refusal) ∙ sym number ∙ z) .output);
-      lent-alike = λ q. a .output ∙ ap₂ (λ (rs : List Refusal) (old : List ℕ). cond (eqb (refusalOf rs) 0) value old) e q ∙ sym (b .output);
+      same-before = λ q. a .output ∙ ap₂ (λ (rs : List Refusal) (old : List ℕ). cond (eqb (refusalOf rs) 0) value old) e q ∙ sym (b .output);
     }
 
 -- what a call over the C interface hands back is a reply, with the count that follows from the number

@@ -12,7 +12,7 @@ use Rattle.fox_layers.specs.Diffusion.{mu4}
 use Rattle.fox_layers.proofs.Laws.Xor.{xor-comm, xor-cancel, xor-cancel-right, xor-medial, xor-same, xor-zero, xor-lt}
 use Rattle.fox_layers.proofs.Laws.Words.{joined-lt, length-split, split-bytes}
 use Rattle.fox_layers.proofs.Laws.Tables.{map-sbox-bytes}
-use Rattle.fox_rounds.specs.Rounds.{left, right, or, io, f, f32, f64, lmid64, or64, io64, plus128, elmid128, or128, io128}
+use Rattle.fox_rounds.specs.Rounds.{left, right, or, io, f, f32, f64, lmid64, or64, io64, xor128, elmid128, or128, io128}
 use Rattle.fox_rounds.specs.declared.fox64.Fox64.{Fox64}
 use Rattle.fox_rounds.specs.declared.fox128.Fox128.{Fox128}
 use Rattle.fox_rounds.proofs.Laws.Halves.{left-lt, right-lt, left-pair, right-pair, pair, left-low, right-low}
@@ -21,24 +21,24 @@ use Rattle.fox_rounds.proofs.Laws.Halves.{left-lt, right-lt, left-pair,
 halves-lt : (a b : ℕ) → a < 2 ^ 16 → b < 2 ^ 16 → a * 2 ^ 16 + b < 2 ^ 32
 halves-lt a b ha hb = digits-lt ha hb
 
-sum-lt : (w : ℕ) → (left 16 w ⊕ right 16 w) < 2 ^ 16
-sum-lt w = xor-lt 16 (left 16 w) (right 16 w) (left-lt 16 w) (right-lt 16 w)
+halves-xor-lt : (w : ℕ) → (left 16 w ⊕ right 16 w) < 2 ^ 16
+halves-xor-lt w = xor-lt 16 (left 16 w) (right 16 w) (left-lt 16 w) (right-lt 16 w)
 
 pub or-lt : (w : ℕ) → or w < 2 ^ 32
 unfolding or
-or-lt w = halves-lt (right 16 w) (left 16 w ⊕ right 16 w) (right-lt 16 w) (sum-lt w)
+or-lt w = halves-lt (right 16 w) (left 16 w ⊕ right 16 w) (right-lt 16 w) (halves-xor-lt w)
 
 pub io-lt : (w : ℕ) → io w < 2 ^ 32
 unfolding io
-io-lt w = halves-lt (left 16 w ⊕ right 16 w) (left 16 w) (sum-lt w) (left-lt 16 w)
+io-lt w = halves-lt (left 16 w ⊕ right 16 w) (left 16 w) (halves-xor-lt w) (left-lt 16 w)
 
 pub io-or : (w : ℕ) → w < 2 ^ 32 → io (or w) ≡ w
 unfolding or io
 io-or w h =
     let p = left 16 w in
     let q = right 16 w in
-    let there : left 16 (q * 2 ^ 16 + (p ⊕ q)) ≡ q = left-pair 16 q (p ⊕ q) (right-lt 16 w) (sum-lt w) in
-    let here : right 16 (q * 2 ^ 16 + (p ⊕ q)) ≡ p ⊕ q = right-pair 16 q (p ⊕ q) (sum-lt w) in
+    let there : left 16 (q * 2 ^ 16 + (p ⊕ q)) ≡ q = left-pair 16 q (p ⊕ q) (right-lt 16 w) (halves-xor-lt w) in
+    let here : right 16 (q * 2 ^ 16 + (p ⊕ q)) ≡ p ⊕ q = right-pair 16 q (p ⊕ q) (halves-xor-lt w) in
     ap₂ (λ (a b : ℕ). (a ⊕ b) * 2 ^ 16 + a) there here
     ∙ ap (λ (a : ℕ). a * 2 ^ 16 + q) (xor-comm q (p ⊕ q) ∙ xor-cancel-right p q)
     ∙ pair 16 w h
@@ -48,7 +48,7 @@ unfolding or io
 or-io w h =
     let p = left 16 w in
     let q = right 16 w in
-    let there : left 16 ((p ⊕ q) * 2 ^ 16 + p) ≡ p ⊕ q = left-pair 16 (p ⊕ q) p (sum-lt w) (left-lt 16 w) in
+    let there : left 16 ((p ⊕ q) * 2 ^ 16 + p) ≡ p ⊕ q = left-pair 16 (p ⊕ q) p (halves-xor-lt w) (left-lt 16 w) in
     let here : right 16 ((p ⊕ q) * 2 ^ 16 + p) ≡ p = right-pair 16 (p ⊕ q) p (left-lt 16 w) in
     ap₂ (λ (a b : ℕ). b * 2 ^ 16 + (a ⊕ b)) there here
     ∙ ap (λ (b : ℕ). p * 2 ^ 16 + b) (xor-comm (p ⊕ q) p ∙ xor-cancel p q)
@@ -76,8 +76,8 @@ f-made n mu x rk {k} {l} {m} {s} ek el em es =
     ∙ ap₂ (λ (a b : ℕ). sigma n (mu (sigma n (x ⊕ a)) ⊕ b) ⊕ a) (sym ek) (sym el)
 
 -- what is added to both sides leaves the sum
-same-sum : (a b t : ℕ) → (a ⊕ t) ⊕ b ⊕ t ≡ a ⊕ b
-same-sum a b t = xor-medial a t b t ∙ ap (λ (n : ℕ). (a ⊕ b) ⊕ n) (xor-same t) ∙ xor-zero (a ⊕ b)
+same-xor : (a b t : ℕ) → (a ⊕ t) ⊕ b ⊕ t ≡ a ⊕ b
+same-xor a b t = xor-medial a t b t ∙ ap (λ (n : ℕ). (a ⊕ b) ⊕ n) (xor-same t) ∙ xor-zero (a ⊕ b)
 
 -- the words of a state have 32 bits
 pub record Words64 (x : Fox64) : Type 0 where
@@ -101,7 +101,7 @@ pub lmid64-twice : (rk : ℕ) (x : Fox64) → lmid64 rk (lmid64 rk x) ≡ x
 unfolding lmid64
 lmid64-twice rk x =
     let t = f32 (x .l ⊕ x .r) rk in
-    let again : f32 ((x .l ⊕ t) ⊕ x .r ⊕ t) rk ≡ t = ap (λ (n : ℕ). f32 n rk) (same-sum (x .l) (x .r) t) in
+    let again : f32 ((x .l ⊕ t) ⊕ x .r ⊕ t) rk ≡ t = ap (λ (n : ℕ). f32 n rk) (same-xor (x .l) (x .r) t) in
     let back : (a : ℕ) → (a ⊕ t) ⊕ f32 ((x .l ⊕ t) ⊕ x .r ⊕ t) rk ≡ a =
     λ a. ap (λ (n : ℕ). (a ⊕ t) ⊕ n) again ∙ xor-cancel-right a t in
     λ i. record { l = back (x .l) i; r = back (x .r) i }
@@ -123,7 +123,7 @@ unfolding or64 io64
 or64-io64 x w = λ i. record { l = or-io (x .l) (w .left-word) i; r = x .r }
 
 pub elmid128-words : (rk : ℕ) (x : Fox128) → Words128 x → Words128 (elmid128 rk x)
-unfolding elmid128 plus128
+unfolding elmid128 xor128
 elmid128-words rk x w =
     let t = f64 ((x .ll ⊕ x .lr) * 2 ^ 32 + (x .rl ⊕ x .rr)) rk in
     record {
@@ -134,14 +134,14 @@ elmid128-words rk x w =
     }
 
 pub elmid128-twice : (rk : ℕ) (x : Fox128) → elmid128 rk (elmid128 rk x) ≡ x
-unfolding elmid128 plus128
+unfolding elmid128 xor128
 elmid128-twice rk x =
     let t = f64 ((x .ll ⊕ x .lr) * 2 ^ 32 + (x .rl ⊕ x .rr)) rk in
     let a = left 32 t in
     let b = right 32 t in
     let u = f64 (((x .ll ⊕ a) ⊕ x .lr ⊕ a) * 2 ^ 32 + ((x .rl ⊕ b) ⊕ x .rr ⊕ b)) rk in
     let again : u ≡ t =
-    ap₂ (λ (m n : ℕ). f64 (m * 2 ^ 32 + n) rk) (same-sum (x .ll) (x .lr) a) (same-sum (x .rl) (x .rr) b) in
+    ap₂ (λ (m n : ℕ). f64 (m * 2 ^ 32 + n) rk) (same-xor (x .ll) (x .lr) a) (same-xor (x .rl) (x .rr) b) in
     let on-left : (n : ℕ) → (n ⊕ a) ⊕ left 32 u ≡ n =
     λ n. ap (λ (m : ℕ). (n ⊕ a) ⊕ left 32 m) again ∙ xor-cancel-right n a in
     let on-right : (n : ℕ) → (n ⊕ b) ⊕ right 32 u ≡ n =

@@ -34,21 +34,21 @@ module _ {S : Type 0} (round : ℕ → S → S) (between : S → S) (k : ℕ →
       ap (λ (m : ℕ). through round between (numbered k (suc m) n) x) none
 
   -- where a loop stands: n rounds are followed by "or" or "io", i of them are done, and they have made y of x
-  abbrev pub Going : ℕ → S → ℕ → S → Type 0
-  Going n x i y = through round between (numbered k (suc (n - i)) i) y ≡ through round between (numbered k (suc n) 0) x
+  abbrev pub RoundsLeft : ℕ → S → ℕ → S → Type 0
+  RoundsLeft n x i y = through round between (numbered k (suc (n - i)) i) y ≡ through round between (numbered k (suc n) 0) x
 
-  pub going-first : (n : ℕ) (x : S) → Going n x 0 x
-  going-first n x =
+  pub roundsLeft-first : (n : ℕ) (x : S) → RoundsLeft n x 0 x
+  roundsLeft-first n x =
       let all : n - 0 ≡ n = omega arith in
       ap (λ (m : ℕ). through round between (numbered k (suc m) 0) x) all
 
-  pub going-on : (n i : ℕ) (x y z : S) → i < n → Going n x i y → z ≡ between (round (k i) y) → Going n x (i + 1) z
-  going-on n i x y z h g e =
+  pub roundsLeft-on : (n i : ℕ) (x y z : S) → i < n → RoundsLeft n x i y → z ≡ between (round (k i) y) → RoundsLeft n x (i + 1) z
+  roundsLeft-on n i x y z h g e =
       ap (through round between (numbered k (suc (n - (i + 1))) (i + 1))) e ∙ sym (turn n i y h) ∙ g
 
-  pub going-last : (m i : ℕ) (x y z : S) → 1 ≤ m → i ≤ m - 1 → m - 1 ≤ i → Going (m - 1) x i y → z ≡ round (k (m - 1)) y
+  pub roundsLeft-last : (m i : ℕ) (x y z : S) → 1 ≤ m → i ≤ m - 1 → m - 1 ≤ i → RoundsLeft (m - 1) x i y → z ≡ round (k (m - 1)) y
       → z ≡ through round between (numbered k m 0) x
-  going-last m i x y z some low high g e =
+  roundsLeft-last m i x y z some low high g e =
       let here : m - 1 ≡ i = omega arith in
       let whole : suc (m - 1) ≡ m = omega arith in
       e
@@ -124,20 +124,20 @@ inOrder-numbered false k m some = reversed k m some
 
 -- a state turned by m rounds, one after the other, as a loop does them: i of them are done, and they have made y of x
 module _ (d : Bool) (k : ℕ → ℕ) (m : ℕ) where
-  abbrev pub Turning : State → ℕ → State → Type 0
-  Turning x i y = Going round (between d) (λ (j : ℕ). k (place d m j)) (m - 1) x i y
+  abbrev pub TurnLeft : State → ℕ → State → Type 0
+  TurnLeft x i y = RoundsLeft round (between d) (λ (j : ℕ). k (place d m j)) (m - 1) x i y
 
-  pub turning-first : (x : State) → Turning x 0 x
-  turning-first x = going-first round (between d) (λ (j : ℕ). k (place d m j)) (m - 1) x
+  pub turnLeft-first : (x : State) → TurnLeft x 0 x
+  turnLeft-first x = roundsLeft-first round (between d) (λ (j : ℕ). k (place d m j)) (m - 1) x
 
-  pub turning-on : (i : ℕ) (x y z : State) → i < m - 1 → Turning x i y → z ≡ between d (round (k (place d m i)) y) → Turning x (i + 1) z
-  turning-on i x y z h t e = going-on round (between d) (λ (j : ℕ). k (place d m j)) (m - 1) i x y z h t e
+  pub turnLeft-on : (i : ℕ) (x y z : State) → i < m - 1 → TurnLeft x i y → z ≡ between d (round (k (place d m i)) y) → TurnLeft x (i + 1) z
+  turnLeft-on i x y z h t e = roundsLeft-on round (between d) (λ (j : ℕ). k (place d m j)) (m - 1) i x y z h t e
 
-  pub turning-last : (i : ℕ) (x y z : State) → 1 ≤ m → i ≤ m - 1 → m - 1 ≤ i → Turning x i y → z ≡ round (k (place d m (m - 1))) y
+  pub turnLeft-last : (i : ℕ) (x y z : State) → 1 ≤ m → i ≤ m - 1 → m - 1 ≤ i → TurnLeft x i y → z ≡ round (k (place d m (m - 1))) y
       → z ≡ turned d (numbered k m 0) x
   unfolding turned
-  turning-last i x y z some low high t e =
-      going-last round (between d) (λ (j : ℕ). k (place d m j)) m i x y z some low high t e
+  turnLeft-last i x y z some low high t e =
+      roundsLeft-last round (between d) (λ (j : ℕ). k (place d m j)) m i x y z some low high t e
       ∙ ap (λ (ks : List ℕ). through round (between d) ks x) (sym (inOrder-numbered d k m some))
 
 -- FOX64 and FOX128 sealed are cases of it
@@ -176,25 +176,25 @@ through-snoc round between l (m ∷ ms) k x = through-snoc round between m ms k 
 
 -- a state turned by m rounds, as a loop does them that has no round after it: the rounds done so far are those of the first i round keys
 module _ (d : Bool) (k : ℕ → ℕ) (m : ℕ) where
-  abbrev pub Turned : State → ℕ → State → Type 0
-  Turned x i y = y ≡ through round (between d) (numbered (λ (j : ℕ). k (place d m j)) i 0) x
+  abbrev pub TurnDone : State → ℕ → State → Type 0
+  TurnDone x i y = y ≡ through round (between d) (numbered (λ (j : ℕ). k (place d m j)) i 0) x
 
-  pub turned-none : (x : State) → Turned x 0 x
+  pub turnDone-none : (x : State) → TurnDone x 0 x
   unfolding through numbered
-  turned-none x = refl
+  turnDone-none x = refl
 
-  pub turned-one : (x y z : State) (i : ℕ) → i ≡ 0 → Turned x i y → z ≡ round (k (place d m i)) y → Turned x (i + 1) z
+  pub turnDone-one : (x y z : State) (i : ℕ) → i ≡ 0 → TurnDone x i y → z ≡ round (k (place d m i)) y → TurnDone x (i + 1) z
   unfolding through numbered
-  turned-one x y z i none t e =
+  turnDone-one x y z i none t e =
       let keys : ℕ → ℕ = λ j. k (place d m j) in
       e
       ∙ ap₂ (λ (j : ℕ) (w : State). round (keys j) w) none (t ∙ ap (λ (j : ℕ). through round (between d) (numbered keys j 0) x) none)
       ∙ ap (λ (j : ℕ). through round (between d) (numbered keys (j + 1) 0) x) (sym none)
 
-  pub turned-more : (x y z : State) (i : ℕ) → 0 < i → Turned x i y → z ≡ round (k (place d m i)) (between d y) → Turned x (i + 1) z
+  pub turnDone-more : (x y z : State) (i : ℕ) → 0 < i → TurnDone x i y → z ≡ round (k (place d m i)) (between d y) → TurnDone x (i + 1) z
   unfolding numbered
-  turned-more x y z zero some t e = absurd (not-suc-le-zero some)
-  turned-more x y z (suc i) some t e =
+  turnDone-more x y z zero some t e = absurd (not-suc-le-zero some)
+  turnDone-more x y z (suc i) some t e =
       let keys : ℕ → ℕ = λ j. k (place d m j) in
       let next : suc (suc i) ≡ suc i + 1 = omega arith in
       e
@@ -203,8 +203,8 @@ module _ (d : Bool) (k : ℕ → ℕ) (m : ℕ) where
       ∙ ap (λ (ks : List ℕ). through round (between d) ks x) (sym (numbered-snoc keys (suc i) 0 ∙ ap (λ (j : ℕ). numbered keys (suc i) 0 ++ (keys j ∷ [])) (zero-add (suc i))))
       ∙ ap (λ (j : ℕ). through round (between d) (numbered keys j 0) x) next
 
-  pub turned-all : (x y : State) {i : ℕ} → 1 ≤ m → i ≡ m → Turned x i y → y ≡ turned d (numbered k m 0) x
+  pub turnDone-all : (x y : State) {i : ℕ} → 1 ≤ m → i ≡ m → TurnDone x i y → y ≡ turned d (numbered k m 0) x
   unfolding turned
-  turned-all x y some all t =
+  turnDone-all x y some all t =
       t ∙ ap (λ (j : ℕ). through round (between d) (numbered (λ (j : ℕ). k (place d m j)) j 0) x) all
       ∙ ap (λ (ks : List ℕ). through round (between d) ks x) (sym (inOrder-numbered d k m some))

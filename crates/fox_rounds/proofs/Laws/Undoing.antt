@@ -92,21 +92,21 @@ between-undone false true (Of128 x) w = absurd w
 between-undone false false (Of64 x) w = absurd w
 between-undone false false (Of128 x) w = ap Of128 (or128-io128 x w)
 
-either-way : (d b : Bool) → Undone (Fits b) round (between d) (between (not d))
-either-way d b = record { round-wide = round-fits b; there-wide = between-fits d b; twice = round-twice; undone = between-undone d b }
+either-direction : (d b : Bool) → Undone (Fits b) round (between d) (between (not d))
+either-direction d b = record { round-wide = round-fits b; there-wide = between-fits d b; twice = round-twice; undone = between-undone d b }
 
 -- a state that fits is turned into one that fits
 pub turned-fits : (d b : Bool) (ks : List ℕ) (x : State) → Fits b x → Fits b (turned d ks x)
 unfolding turned
-turned-fits d b ks x w = through-wide (either-way d b) (inOrder d ks) x w
+turned-fits d b ks x w = through-wide (either-direction d b) (inOrder d ks) x w
 
 -- opening undoes sealing, and sealing opening
 pub turned-back : (d b : Bool) (ks : List ℕ) (x : State) → Fits b x → turned (not d) ks (turned d ks x) ≡ x
 unfolding turned inOrder
-turned-back true b ks x w = undo (either-way true b) ks x w
+turned-back true b ks x w = undo (either-direction true b) ks x w
 turned-back false b ks x w =
     ap (λ (ls : List ℕ). through round (between true) ls (through round (between false) (reverse ks) x)) (sym (reverse-reverse ks))
-    ∙ undo (either-way false b) (reverse ks) x w
+    ∙ undo (either-direction false b) (reverse ks) x w
 
 pub seal128-words : (ks : List ℕ) (x : Fox128) → Words128 x → Words128 (seal128 ks x)
 unfolding Fits

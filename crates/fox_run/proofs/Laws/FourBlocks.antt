@@ -8,20 +8,20 @@ use native.Mathlib.Nat.{div-add-mod'}
 use native.Mathlib.Omega.{arith}
 use borrow.Rule.Slice.PartMut.{midOf, putMid}
 use lib.ListN.{length, take, drop}
-use Rattle.fox_layers.specs.Words.{sum}
-use Rattle.fox_run.specs.Run.{streamed, addedFrom}
-use Rattle.fox_run.specs.Parts.{Laid}
-use Rattle.fox_run.proofs.Laws.XorEach.{length-sum-min, sum-append, laid-after}
+use Rattle.fox_layers.specs.Words.{xorEach}
+use Rattle.fox_run.specs.Run.{streamed, xorFrom}
+use Rattle.fox_run.specs.Parts.{XoredTo}
+use Rattle.fox_run.proofs.Laws.XorEach.{length-xorEach-min, xorEach-append, xoredTo-after}
 use Rattle.fox_run.proofs.Laws.Streams.{blocksFrom, whole-blocks}
 use Rattle.fox_run.proofs.Laws.Loop.{part-end}
 
 -- two sums laid one after the other, as the checker says it of parts from a to the end
-pub laid-two : (a : ℕ) (xs ys ds os l p : List ℕ) → length xs ≡ a → a ≤ length ds → l ≡ sum xs ds ++ drop a os
-    → p ≡ sum ys (midOf a (length ds - a) ds) ++ drop a (midOf a (length l - a) l) → putMid a (length l - a) l p ≡ sum (xs ++ ys) ds ++ drop (a + a) os
-laid-two a xs ys ds os l p n h e f =
-    laid-after a a (sum xs ds) (sum ys (drop a ds)) os l p (omega (arith, length-sum-min xs ds)) e
-    (f ∙ ap (λ (zs : List ℕ). sum ys zs ++ drop a (midOf a (length l - a) l)) (part-end a ds))
-    ∙ ap (λ (zs : List ℕ). zs ++ drop (a + a) os) (sym (sum-append xs ys ds a n h))
+pub xoredTo-two : (a : ℕ) (xs ys ds os l p : List ℕ) → length xs ≡ a → a ≤ length ds → l ≡ xorEach xs ds ++ drop a os
+    → p ≡ xorEach ys (midOf a (length ds - a) ds) ++ drop a (midOf a (length l - a) l) → putMid a (length l - a) l p ≡ xorEach (xs ++ ys) ds ++ drop (a + a) os
+xoredTo-two a xs ys ds os l p n h e f =
+    xoredTo-after a a (xorEach xs ds) (xorEach ys (drop a ds)) os l p (omega (arith, length-xorEach-min xs ds)) e
+    (f ∙ ap (λ (zs : List ℕ). xorEach ys zs ++ drop a (midOf a (length l - a) l)) (part-end a ds))
+    ∙ ap (λ (zs : List ℕ). zs ++ drop (a + a) os) (sym (xorEach-append xs ys ds a n h))
 
 both : {ps qs xs ys : List ℕ} → ps ≡ xs → qs ≡ ys → ps ++ qs ≡ xs ++ ys
 both e f = ap₂ (λ (zs ws : List ℕ). zs ++ ws) e f
@@ -35,12 +35,12 @@ module _ (block : ℕ → List ℕ) where
       append-assoc p q (u ++ v)
       ∙ both ep (both (eq ∙ ap block (omega arith)) (both (eu ∙ ap block (omega arith)) (ev ∙ ap block (omega arith) ∙ sym (append-nil _))))
 
-  pub four-laid : (B n : ℕ) (p q u v ds os : List ℕ) {after : List ℕ} → 0 < B → ((i : ℕ) → length (block i) ≡ B) → n % B ≡ 0
+  pub four-xoredTo : (B n : ℕ) (p q u v ds os : List ℕ) {after : List ℕ} → 0 < B → ((i : ℕ) → length (block i) ≡ B) → n % B ≡ 0
       → p ≡ block (n / B) → q ≡ block (n / B + 1) → u ≡ block (n / B + 2) → v ≡ block (n / B + 3)
-      → after ≡ sum ((p ++ q) ++ (u ++ v)) ds ++ drop (4 * B) os → Laid (streamed B block) n ds os (4 * B) after
-  four-laid B n p q u v ds os pos size whole ep eq eu ev e =
+      → after ≡ xorEach ((p ++ q) ++ (u ++ v)) ds ++ drop (4 * B) os → XoredTo (streamed B block) n ds os (4 * B) after
+  four-xoredTo B n p q u v ds os pos size whole ep eq eu ev e =
       let start : n / B * B ≡ n = omega (arith, div-add-mod' n B) in
       e
       ∙ ap (λ (xs : List ℕ). xs ++ drop (4 * B) os)
-      (ap (λ (xs : List ℕ). sum xs ds) (four-blocks (n / B) p q u v ep eq eu ev) ∙ sym (whole-blocks B block pos size (n / B) 4 ds)
-      ∙ ap (λ (m : ℕ). addedFrom (streamed B block) m (take (4 * B) ds)) start)
+      (ap (λ (xs : List ℕ). xorEach xs ds) (four-blocks (n / B) p q u v ep eq eu ev) ∙ sym (whole-blocks B block pos size (n / B) 4 ds)
+      ∙ ap (λ (m : ℕ). xorFrom (streamed B block) m (take (4 * B) ds)) start)

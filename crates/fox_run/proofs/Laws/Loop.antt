@@ -9,9 +9,9 @@ use borrow.Rule.Slice.PartMut.{midOf, putMid}
 use lib.ListN.{length, take, drop, length-append, length-drop, drop-of-length-le}
 use lib.Seq.{length-take-le, take-all, take-at, drop-at, take-add, drop-drop}
 use Rattle.fox_bytes.proofs.Laws.Blocks.{put-end}
-use Rattle.fox_run.specs.Run.{addedFrom}
-use Rattle.fox_run.specs.Parts.{Laid}
-use Rattle.fox_run.proofs.Laws.XorFrom.{length-addedFrom, addedFrom-append}
+use Rattle.fox_run.specs.Run.{xorFrom}
+use Rattle.fox_run.specs.Parts.{XoredTo}
+use Rattle.fox_run.proofs.Laws.XorFrom.{length-xorFrom, xorFrom-append}
 
 -- the part of a list from one place to the end
 pub part-end : (at : ℕ) (xs : List ℕ) → midOf at (length xs - at) xs ≡ drop at xs
@@ -21,37 +21,37 @@ pub length-end : (at : ℕ) (xs : List ℕ) → length (midOf at (length xs - at
 length-end at xs = ap length (part-end at xs) ∙ length-drop at xs
 
 module _ (f : ℕ → ℕ) (n : ℕ) (ds os : List ℕ) where
-  pub laid-first : Laid f n ds os 0 os
-  unfolding addedFrom
-  laid-first = refl
+  pub xoredTo-first : XoredTo f n ds os 0 os
+  unfolding xorFrom
+  xoredTo-first = refl
 
-  pub laid-on : (at m : ℕ) {now part next : List ℕ} → at + m ≤ length ds → length os ≡ length ds → Laid f n ds os at now
-      → part ≡ addedFrom f (n + at) (take m (drop at ds)) ++ drop m (drop at now) → next ≡ take at now ++ part → Laid f n ds os (at + m) next
-  laid-on at m {now} {part} {next} h same laid ep en =
-      let front = addedFrom f n (take at ds) in
-      let more = addedFrom f (n + at) (take m (drop at ds)) in
+  pub xoredTo-on : (at m : ℕ) {now part next : List ℕ} → at + m ≤ length ds → length os ≡ length ds → XoredTo f n ds os at now
+      → part ≡ xorFrom f (n + at) (take m (drop at ds)) ++ drop m (drop at now) → next ≡ take at now ++ part → XoredTo f n ds os (at + m) next
+  xoredTo-on at m {now} {part} {next} h same laid ep en =
+      let front = xorFrom f n (take at ds) in
+      let more = xorFrom f (n + at) (take m (drop at ds)) in
       let size : length (take at ds) ≡ at = length-take-le at ds (omega arith) in
-      let done : take at now ≡ front = ap (take at) laid ∙ take-at front (drop at os) at (length-addedFrom f n (take at ds) ∙ size) in
-      let left : drop at now ≡ drop at os = ap (drop at) laid ∙ drop-at front (drop at os) at (length-addedFrom f n (take at ds) ∙ size) in
-      let whole : front ++ more ≡ addedFrom f n (take (at + m) ds) =
-      ap (λ (k : ℕ). front ++ addedFrom f (n + k) (take m (drop at ds))) (sym size)
-      ∙ sym (addedFrom-append f n (take at ds) (take m (drop at ds))) ∙ ap (addedFrom f n) (sym (take-add at m ds)) in
+      let done : take at now ≡ front = ap (take at) laid ∙ take-at front (drop at os) at (length-xorFrom f n (take at ds) ∙ size) in
+      let left : drop at now ≡ drop at os = ap (drop at) laid ∙ drop-at front (drop at os) at (length-xorFrom f n (take at ds) ∙ size) in
+      let whole : front ++ more ≡ xorFrom f n (take (at + m) ds) =
+      ap (λ (k : ℕ). front ++ xorFrom f (n + k) (take m (drop at ds))) (sym size)
+      ∙ sym (xorFrom-append f n (take at ds) (take m (drop at ds))) ∙ ap (xorFrom f n) (sym (take-add at m ds)) in
       en ∙ ap₂ (λ (xs ys : List ℕ). xs ++ ys) done (ep ∙ ap (λ (xs : List ℕ). more ++ drop m xs) left)
       ∙ sym (append-assoc front more (drop m (drop at os))) ∙ ap₂ (λ (xs ys : List ℕ). xs ++ ys) whole (drop-drop m at os)
 
   -- the same as the checker says it of parts from at to the end, one lent for reading and one for writing
-  pub laid-next : (at m : ℕ) (now part : List ℕ) → at + m ≤ length ds → length os ≡ length ds → Laid f n ds os at now
-      → Laid f (n + at) (midOf at (length ds - at) ds) (midOf at (length now - at) now) m part → Laid f n ds os (at + m) (putMid at (length now - at) now part)
-  laid-next at m now part h same laid ep =
-      laid-on at m h same laid
-      (ep ∙ ap₂ (λ (xs ys : List ℕ). addedFrom f (n + at) (take m xs) ++ drop m ys) (part-end at ds) (part-end at now)) (put-end at now part)
+  pub xoredTo-next : (at m : ℕ) (now part : List ℕ) → at + m ≤ length ds → length os ≡ length ds → XoredTo f n ds os at now
+      → XoredTo f (n + at) (midOf at (length ds - at) ds) (midOf at (length now - at) now) m part → XoredTo f n ds os (at + m) (putMid at (length now - at) now part)
+  xoredTo-next at m now part h same laid ep =
+      xoredTo-on at m h same laid
+      (ep ∙ ap₂ (λ (xs ys : List ℕ). xorFrom f (n + at) (take m xs) ++ drop m ys) (part-end at ds) (part-end at now)) (put-end at now part)
 
-  pub laid-length : (at : ℕ) {now : List ℕ} → at ≤ length ds → length os ≡ length ds → Laid f n ds os at now → length now ≡ length ds
-  laid-length at h same laid =
-      ap length laid ∙ length-append (addedFrom f n (take at ds)) (drop at os)
-      ∙ ap₂ (λ (i j : ℕ). i + j) (length-addedFrom f n (take at ds) ∙ length-take-le at ds h) (length-drop at os) ∙ omega arith
+  pub xoredTo-length : (at : ℕ) {now : List ℕ} → at ≤ length ds → length os ≡ length ds → XoredTo f n ds os at now → length now ≡ length ds
+  xoredTo-length at h same laid =
+      ap length laid ∙ length-append (xorFrom f n (take at ds)) (drop at os)
+      ∙ ap₂ (λ (i j : ℕ). i + j) (length-xorFrom f n (take at ds) ∙ length-take-le at ds h) (length-drop at os) ∙ omega arith
 
-  pub laid-last : (at : ℕ) {now : List ℕ} → length os ≡ length ds → at ≡ length ds → Laid f n ds os at now → now ≡ addedFrom f n ds
-  laid-last at same e laid =
-      laid ∙ ap₂ (λ (xs ys : List ℕ). addedFrom f n xs ++ ys) (take-all at ds (omega arith)) (drop-of-length-le os {i = at} (omega arith))
-      ∙ append-nil (addedFrom f n ds)
+  pub xoredTo-last : (at : ℕ) {now : List ℕ} → length os ≡ length ds → at ≡ length ds → XoredTo f n ds os at now → now ≡ xorFrom f n ds
+  xoredTo-last at same e laid =
+      laid ∙ ap₂ (λ (xs ys : List ℕ). xorFrom f n xs ++ ys) (take-all at ds (omega arith)) (drop-of-length-le os {i = at} (omega arith))
+      ∙ append-nil (xorFrom f n ds)

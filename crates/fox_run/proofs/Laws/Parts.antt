@@ -8,17 +8,17 @@ use native.Mathlib.Nat.{mod-lt}
 use native.Mathlib.Omega.{arith}
 use borrow.Rule.Slice.PartMut.{midOf, putMid}
 use lib.ListN.{length, take, drop}
-use Rattle.fox_layers.specs.Words.{sum}
-use Rattle.fox_run.specs.Run.{streamed, addedFrom}
-use Rattle.fox_run.specs.Parts.{Added, Laid, Part}
+use Rattle.fox_layers.specs.Words.{xorEach}
+use Rattle.fox_run.specs.Run.{streamed, xorFrom}
+use Rattle.fox_run.specs.Parts.{Xored, XoredTo, Part}
 use Rattle.fox_run.proofs.Laws.Streams.{length-within, within-taken}
-use Rattle.fox_run.proofs.Laws.Loop.{laid-next, laid-length, length-end}
+use Rattle.fox_run.proofs.Laws.Loop.{xoredTo-next, xoredTo-length, length-end}
 
 -- from byte n to the end of its block, or of the input where that comes first
 pub part-made : (B : ℕ) (block : ℕ → List ℕ) → 0 < B → ((i : ℕ) → length (block i) ≡ B) → (n : ℕ) {pad ds os after : List ℕ} {r : ℕ}
-    → pad ≡ block (n / B) → Added (drop (n % B) pad) ds os after r → Part (streamed B block) n ds os after r
+    → pad ≡ block (n / B) → Xored (drop (n % B) pad) ds os after r → Part (streamed B block) n ds os after r
 part-made B block pos size n {pad} {ds} {os} {after} {r} made added =
-    let here = ap (λ (p : List ℕ). sum (drop (n % B) p) ds) made in
+    let here = ap (λ (p : List ℕ). xorEach (drop (n % B) p) ds) made in
     let many = added .count ∙ ap length here in
     let least = many ∙ length-within B block pos size n ds in
     record {
@@ -26,7 +26,7 @@ part-made B block pos size n {pad} {ds} {os} {after} {r} made added =
       within = omega (arith, least);
       output = added .output
           ∙ ap (λ (xs : List ℕ). xs ++ drop r os)
-          (here ∙ sym (ap (λ (m : ℕ). addedFrom (streamed B block) n (take m ds)) many ∙ within-taken B block pos size n ds));
+          (here ∙ sym (ap (λ (m : ℕ). xorFrom (streamed B block) n (take m ds)) many ∙ within-taken B block pos size n ds));
     }
 
 -- a part in a loop that lays the stretch ds down from byte n on: at bytes of it are laid, and the part is of what is left
@@ -39,8 +39,8 @@ module _ (n at : ℕ) (ds now : List ℕ) {f : ℕ → ℕ} {part : List ℕ} {r
   pub part-some : at < length ds → 1 ≤ r
   part-some more = p .some (omega (arith, length-end at ds))
 
-  pub part-laid : (os : List ℕ) → length os ≡ length ds → Laid f n ds os at now
-      → (at + r ≤ length ds) × (length (putMid at (length now - at) now part) ≡ length ds) × Laid f n ds os (at + r) (putMid at (length now - at) now part)
-  part-laid os l laid =
-      let next = laid-next f n ds os at r now part part-within l laid (p .output) in
-      (part-within, laid-length f n ds os (at + r) part-within l next, next)
+  pub part-xoredTo : (os : List ℕ) → length os ≡ length ds → XoredTo f n ds os at now
+      → (at + r ≤ length ds) × (length (putMid at (length now - at) now part) ≡ length ds) × XoredTo f n ds os (at + r) (putMid at (length now - at) now part)
+  part-xoredTo os l laid =
+      let next = xoredTo-next f n ds os at r now part part-within l laid (p .output) in
+      (part-within, xoredTo-length f n ds os (at + r) part-within l next, next)

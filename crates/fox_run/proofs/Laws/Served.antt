@@ -12,11 +12,11 @@ use Rattle.fox_refusals.proofs.Laws.Refusals.{stretched, stretched-served}
 use Rattle.fox_refusals.proofs.Laws.Reply.{served}
 use Rattle.fox_run.specs.Run.{runWith}
 use Rattle.fox_run.specs.Promise.{RunsWith}
-use Rattle.fox_run.proofs.Laws.XorFrom.{length-addedFrom}
+use Rattle.fox_run.proofs.Laws.XorFrom.{length-xorFrom}
 
 pub length-runWith : (c : ℕ) (rks counter : List ℕ) (n : ℕ) (ds : List ℕ) → length (runWith c rks counter n ds) ≡ length ds
 unfolding runWith
-length-runWith c rks counter n ds = length-addedFrom _ n ds
+length-runWith c rks counter n ds = length-xorFrom _ n ds
 
 module _ (c rounds k : ℕ) (rks counter : List ℕ) (offset : ℕ) (ds : List ℕ) {before after : List ℕ} {r : Answer}
     (call : RunsWith c rounds k rks counter offset ds before after r) where

@@ -10,7 +10,7 @@ use native.Mathlib.Omega.{arith}
 use lib.Dec.{eqb, lit≤}
 use lib.ListN.{length, take, drop, getD, length-append, length-drop, take-append-drop}
 use lib.Seq.{length-take-le, take-all, drop-at, take-append-le, drop-append-le, getD-drop}
-use Rattle.fox_layers.specs.Words.{_⊕_, joined, split, sum}
+use Rattle.fox_layers.specs.Words.{_⊕_, joined, split, xorEach}
 use Rattle.fox_layers.proofs.Laws.Words.{length-split, joined-split}
 use Rattle.fox_rounds.specs.Skeleton.{size, turned}
 use Rattle.fox_rounds.specs.declared.state.State.{State}
@@ -19,31 +19,31 @@ use Rattle.fox_refusals.specs.Refusals.{blockSize}
 use Rattle.fox_block.specs.Block.{state64, state128, state, bytes, turnWith}
 use Rattle.fox_block.proofs.Laws.Block.{state-size, turned-size, length-bytes}
 use Rattle.fox_run.specs.Counter.{counterBlock}
-use Rattle.fox_run.specs.Run.{streamed, addedFrom, keyStream, runWith}
+use Rattle.fox_run.specs.Run.{streamed, xorFrom, keyStream, runWith}
 use Rattle.fox_run.specs.States.{counted64, counted128, counted, sealed, stream}
-use Rattle.fox_run.proofs.Laws.XorEach.{length-sum-min, take-sum}
-use Rattle.fox_run.proofs.Laws.XorFrom.{addedFrom-same}
+use Rattle.fox_run.proofs.Laws.XorEach.{length-xorEach-min, take-xorEach}
+use Rattle.fox_run.proofs.Laws.XorFrom.{xorFrom-same}
 
 -- the bytes of a stream from its byte number n on are those of a list, as far as that goes
-abbrev pub Stands : (ℕ → ℕ) → ℕ → List ℕ → Type 0
-Stands f n pad = (i : ℕ) → i < length pad → f (n + i) ≡ getD pad i 0
+abbrev pub StreamHas : (ℕ → ℕ) → ℕ → List ℕ → Type 0
+StreamHas f n pad = (i : ℕ) → i < length pad → f (n + i) ≡ getD pad i 0
 
-pub added-pad : (f : ℕ → ℕ) (n : ℕ) (pad ds : List ℕ) → Stands f n pad → addedFrom f n (take (length pad) ds) ≡ sum pad ds
-unfolding addedFrom sum
-added-pad f n [] ds h = refl
-added-pad f n (p ∷ ps) [] h = refl
-added-pad f n (p ∷ ps) (d ∷ ds) h =
+pub xored-block : (f : ℕ → ℕ) (n : ℕ) (pad ds : List ℕ) → StreamHas f n pad → xorFrom f n (take (length pad) ds) ≡ xorEach pad ds
+unfolding xorFrom xorEach
+xored-block f n [] ds h = refl
+xored-block f n (p ∷ ps) [] h = refl
+xored-block f n (p ∷ ps) (d ∷ ds) h =
     let here : f n ≡ p = ap f (sym (add-zero n)) ∙ h 0 (omega arith) in
-    let later : Stands f (suc n) ps = λ i l. ap f (omega arith) ∙ h (suc i) (omega arith) in
-    ap₂ (λ (x : ℕ) (xs : List ℕ). x ∷ xs) (ap (λ (x : ℕ). x ⊕ d) here) (added-pad f (suc n) ps ds later)
+    let later : StreamHas f (suc n) ps = λ i l. ap f (omega arith) ∙ h (suc i) (omega arith) in
+    ap₂ (λ (x : ℕ) (xs : List ℕ). x ∷ xs) (ap (λ (x : ℕ). x ⊕ d) here) (xored-block f (suc n) ps ds later)
 
-stands-append : (f : ℕ → ℕ) (n : ℕ) (xs ys : List ℕ) → Stands f n xs → Stands f (n + length xs) ys → Stands f n (xs ++ ys)
-stands-append f n [] ys hx hy i l = ap f (omega arith) ∙ hy i l
-stands-append f n (x ∷ xs) ys hx hy zero l = hx 0 (omega arith)
-stands-append f n (x ∷ xs) ys hx hy (suc i) l =
-    let later : Stands f (suc n) xs = λ j h. ap f (omega arith) ∙ hx (suc j) (omega arith) in
-    let after : Stands f (suc n + length xs) ys = λ j h. ap f (omega arith) ∙ hy j h in
-    ap f (omega arith) ∙ stands-append f (suc n) xs ys later after i (omega arith)
+streamHas-append : (f : ℕ → ℕ) (n : ℕ) (xs ys : List ℕ) → StreamHas f n xs → StreamHas f (n + length xs) ys → StreamHas f n (xs ++ ys)
+streamHas-append f n [] ys hx hy i l = ap f (omega arith) ∙ hy i l
+streamHas-append f n (x ∷ xs) ys hx hy zero l = hx 0 (omega arith)
+streamHas-append f n (x ∷ xs) ys hx hy (suc i) l =
+    let later : StreamHas f (suc n) xs = λ j h. ap f (omega arith) ∙ hx (suc j) (omega arith) in
+    let after : StreamHas f (suc n + length xs) ys = λ j h. ap f (omega arith) ∙ hy j h in
+    ap f (omega arith) ∙ streamHas-append f (suc n) xs ys later after i (omega arith)
 
 -- blocks
 
@@ -66,40 +66,40 @@ module _ (B : ℕ) (block : ℕ → List ℕ) (pos : 0 < B) (size : (i : ℕ) �
   pub length-rest : (n : ℕ) → length (drop (n % B) (block (n / B))) ≡ B - n % B
   length-rest n = rw (length-drop (n % B) (block (n / B)), size (n / B))
 
-  rest-stands : (n : ℕ) → Stands (streamed B block) n (drop (n % B) (block (n / B)))
-  rest-stands n i h =
+  rest-in-stream : (n : ℕ) → StreamHas (streamed B block) n (drop (n % B) (block (n / B)))
+  rest-in-stream n i h =
       let l : n % B + i < B = omega (arith, length-rest n, mod-lt n pos) in
       ap (streamed B block) (omega (arith, div-add-mod' n B)) ∙ streamed-at B block (n / B) (n % B + i) l ∙ sym (getD-drop (n % B) (block (n / B)) i 0)
 
   -- one block's part: from byte n to the block's end, as far as the bytes go
-  pub length-within : (n : ℕ) (ds : List ℕ) → length (sum (drop (n % B) (block (n / B))) ds) ≡ min (B - n % B) (length ds)
-  length-within n ds = length-sum-min _ ds ∙ ap (λ (k : ℕ). min k (length ds)) (length-rest n)
+  pub length-within : (n : ℕ) (ds : List ℕ) → length (xorEach (drop (n % B) (block (n / B))) ds) ≡ min (B - n % B) (length ds)
+  length-within n ds = length-xorEach-min _ ds ∙ ap (λ (k : ℕ). min k (length ds)) (length-rest n)
 
   pub within-taken : (n : ℕ) (ds : List ℕ)
-      → addedFrom (streamed B block) n (take (length (sum (drop (n % B) (block (n / B))) ds)) ds) ≡ sum (drop (n % B) (block (n / B))) ds
-  within-taken n ds = ap (addedFrom (streamed B block) n) (take-sum _ ds) ∙ added-pad (streamed B block) n _ ds (rest-stands n)
+      → xorFrom (streamed B block) n (take (length (xorEach (drop (n % B) (block (n / B))) ds)) ds) ≡ xorEach (drop (n % B) (block (n / B))) ds
+  within-taken n ds = ap (xorFrom (streamed B block) n) (take-xorEach _ ds) ∙ xored-block (streamed B block) n _ ds (rest-in-stream n)
 
   -- whole blocks
 
-  block-stands : (i : ℕ) → Stands (streamed B block) (i * B) (block i)
-  block-stands i j h = streamed-at B block i j (omega (arith, size i))
+  block-in-stream : (i : ℕ) → StreamHas (streamed B block) (i * B) (block i)
+  block-in-stream i j h = streamed-at B block i j (omega (arith, size i))
 
   pub length-blocksFrom : (i k : ℕ) → length (blocksFrom block i k) ≡ k * B
   unfolding blocksFrom
   length-blocksFrom i zero = sym (zero-mul B)
   length-blocksFrom i (suc k) = length-append (block i) (blocksFrom block (suc i) k) ∙ omega (arith, size i, length-blocksFrom (suc i) k)
 
-  blocks-stand : (i k : ℕ) → Stands (streamed B block) (i * B) (blocksFrom block i k)
+  blocks-in-stream : (i k : ℕ) → StreamHas (streamed B block) (i * B) (blocksFrom block i k)
   unfolding blocksFrom
-  blocks-stand i zero = λ j h. absurd (omega arith)
-  blocks-stand i (suc k) =
-      stands-append (streamed B block) (i * B) (block i) (blocksFrom block (suc i) k) (block-stands i)
-      (λ j h. ap (streamed B block) (omega (arith, size i)) ∙ blocks-stand (suc i) k j h)
+  blocks-in-stream i zero = λ j h. absurd (omega arith)
+  blocks-in-stream i (suc k) =
+      streamHas-append (streamed B block) (i * B) (block i) (blocksFrom block (suc i) k) (block-in-stream i)
+      (λ j h. ap (streamed B block) (omega (arith, size i)) ∙ blocks-in-stream (suc i) k j h)
 
-  pub whole-blocks : (i k : ℕ) (ds : List ℕ) → addedFrom (streamed B block) (i * B) (take (k * B) ds) ≡ sum (blocksFrom block i k) ds
+  pub whole-blocks : (i k : ℕ) (ds : List ℕ) → xorFrom (streamed B block) (i * B) (take (k * B) ds) ≡ xorEach (blocksFrom block i k) ds
   whole-blocks i k ds =
-      ap (λ (m : ℕ). addedFrom (streamed B block) (i * B) (take m ds)) (sym (length-blocksFrom i k))
-      ∙ added-pad (streamed B block) (i * B) (blocksFrom block i k) ds (blocks-stand i k)
+      ap (λ (m : ℕ). xorFrom (streamed B block) (i * B) (take m ds)) (sym (length-blocksFrom i k))
+      ∙ xored-block (streamed B block) (i * B) (blocksFrom block i k) ds (blocks-in-stream i k)
 
 -- the sealed counter blocks as a stream of blocks
 
@@ -168,8 +168,8 @@ counted-state c counter i e = there (eqb c 64) e
 
 -- a run is the bytes added to the stream of the first counter block's state
 pub run-streamed : (c : ℕ) (rks counter : List ℕ) (n : ℕ) (ds : List ℕ) → length counter ≡ blockSize c
-    → addedFrom (stream rks (state c counter)) n ds ≡ runWith c rks counter n ds
+    → xorFrom (stream rks (state c counter)) n ds ≡ runWith c rks counter n ds
 unfolding runWith keyStream stream sealed turnWith
 run-streamed c rks counter n ds e =
-    sym (ap (λ (B : ℕ). addedFrom (streamed B (λ (i : ℕ). turnWith true c rks (counterBlock counter i))) n ds) (sym (state-size c counter))
-    ∙ addedFrom-same _ _ n ds (streamed-same _ _ _ (λ i. ap (λ (x : State). bytes (turned true rks x)) (counted-state c counter i e))))
+    sym (ap (λ (B : ℕ). xorFrom (streamed B (λ (i : ℕ). turnWith true c rks (counterBlock counter i))) n ds) (sym (state-size c counter))
+    ∙ xorFrom-same _ _ n ds (streamed-same _ _ _ (λ i. ap (λ (x : State). bytes (turned true rks x)) (counted-state c counter i e))))

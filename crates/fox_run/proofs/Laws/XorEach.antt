@@ -10,45 +10,45 @@ use native.Mathlib.Omega.{arith}
 use borrow.Rule.Slice.PartMut.{midOf, putMid}
 use lib.ListN.{length, take, drop, getD, set, length-drop}
 use lib.Seq.{take-suc, drop-cons, set-at, length-take-le, append-snoc, take-all, take-at, drop-at, drop-drop}
-use Rattle.fox_layers.specs.Words.{_⊕_, joined, split, Bytes, sum}
+use Rattle.fox_layers.specs.Words.{_⊕_, joined, split, Bytes, xorEach}
 use Rattle.fox_layers.proofs.Laws.Words.{split-joined, split-xor, take-bytes, drop-bytes}
 use Rattle.fox_bytes.proofs.Laws.Blocks.{put-end}
 
-pub length-sum-min : (xs ys : List ℕ) → length (sum xs ys) ≡ min (length xs) (length ys)
-unfolding sum
-length-sum-min [] ys = omega arith
-length-sum-min (x ∷ xs) [] = omega arith
-length-sum-min (x ∷ xs) (y ∷ ys) = omega (arith, length-sum-min xs ys)
+pub length-xorEach-min : (xs ys : List ℕ) → length (xorEach xs ys) ≡ min (length xs) (length ys)
+unfolding xorEach
+length-xorEach-min [] ys = omega arith
+length-xorEach-min (x ∷ xs) [] = omega arith
+length-xorEach-min (x ∷ xs) (y ∷ ys) = omega (arith, length-xorEach-min xs ys)
 
-pub take-sum : (xs ys : List ℕ) → take (length (sum xs ys)) ys ≡ take (length xs) ys
-unfolding sum
-take-sum [] ys = refl
-take-sum (x ∷ xs) [] = refl
-take-sum (x ∷ xs) (y ∷ ys) = ap (λ (zs : List ℕ). y ∷ zs) (take-sum xs ys)
+pub take-xorEach : (xs ys : List ℕ) → take (length (xorEach xs ys)) ys ≡ take (length xs) ys
+unfolding xorEach
+take-xorEach [] ys = refl
+take-xorEach (x ∷ xs) [] = refl
+take-xorEach (x ∷ xs) (y ∷ ys) = ap (λ (zs : List ℕ). y ∷ zs) (take-xorEach xs ys)
 
-pub getD-sum : (xs ys : List ℕ) (i : ℕ) → i < length xs → i < length ys → getD (sum xs ys) i 0 ≡ getD xs i 0 ⊕ getD ys i 0
-unfolding sum
-getD-sum [] ys i g h = absurd (not-suc-le-zero g)
-getD-sum (x ∷ xs) [] i g h = absurd (not-suc-le-zero h)
-getD-sum (x ∷ xs) (y ∷ ys) zero g h = refl
-getD-sum (x ∷ xs) (y ∷ ys) (suc i) g h = getD-sum xs ys i (le-of-suc-le-suc g) (le-of-suc-le-suc h)
+pub getD-xorEach : (xs ys : List ℕ) (i : ℕ) → i < length xs → i < length ys → getD (xorEach xs ys) i 0 ≡ getD xs i 0 ⊕ getD ys i 0
+unfolding xorEach
+getD-xorEach [] ys i g h = absurd (not-suc-le-zero g)
+getD-xorEach (x ∷ xs) [] i g h = absurd (not-suc-le-zero h)
+getD-xorEach (x ∷ xs) (y ∷ ys) zero g h = refl
+getD-xorEach (x ∷ xs) (y ∷ ys) (suc i) g h = getD-xorEach xs ys i (le-of-suc-le-suc g) (le-of-suc-le-suc h)
 
 -- the first list in two parts
-sum-parts : (xs ys zs : List ℕ) → length xs ≤ length zs → sum (xs ++ ys) zs ≡ sum xs zs ++ sum ys (drop (length xs) zs)
-unfolding sum
-sum-parts [] ys zs h = refl
-sum-parts (x ∷ xs) ys [] h = absurd (not-suc-le-zero h)
-sum-parts (x ∷ xs) ys (z ∷ zs) h = ap (λ (l : List ℕ). (x ⊕ z) ∷ l) (sum-parts xs ys zs (le-of-suc-le-suc h))
+xorEach-parts : (xs ys zs : List ℕ) → length xs ≤ length zs → xorEach (xs ++ ys) zs ≡ xorEach xs zs ++ xorEach ys (drop (length xs) zs)
+unfolding xorEach
+xorEach-parts [] ys zs h = refl
+xorEach-parts (x ∷ xs) ys [] h = absurd (not-suc-le-zero h)
+xorEach-parts (x ∷ xs) ys (z ∷ zs) h = ap (λ (l : List ℕ). (x ⊕ z) ∷ l) (xorEach-parts xs ys zs (le-of-suc-le-suc h))
 
-pub sum-append : (xs ys zs : List ℕ) (n : ℕ) → length xs ≡ n → n ≤ length zs → sum (xs ++ ys) zs ≡ sum xs zs ++ sum ys (drop n zs)
-sum-append xs ys zs n e h = sum-parts xs ys zs (omega arith) ∙ ap (λ (m : ℕ). sum xs zs ++ sum ys (drop m zs)) e
+pub xorEach-append : (xs ys zs : List ℕ) (n : ℕ) → length xs ≡ n → n ≤ length zs → xorEach (xs ++ ys) zs ≡ xorEach xs zs ++ xorEach ys (drop n zs)
+xorEach-append xs ys zs n e h = xorEach-parts xs ys zs (omega arith) ∙ ap (λ (m : ℕ). xorEach xs zs ++ xorEach ys (drop m zs)) e
 
 -- only as much of the second list counts as the first one has
-pub sum-take : (xs ys : List ℕ) → sum xs (take (length xs) ys) ≡ sum xs ys
-unfolding sum
-sum-take [] ys = refl
-sum-take (x ∷ xs) [] = refl
-sum-take (x ∷ xs) (y ∷ ys) = ap (λ (l : List ℕ). (x ⊕ y) ∷ l) (sum-take xs ys)
+pub xorEach-take : (xs ys : List ℕ) → xorEach xs (take (length xs) ys) ≡ xorEach xs ys
+unfolding xorEach
+xorEach-take [] ys = refl
+xorEach-take (x ∷ xs) [] = refl
+xorEach-take (x ∷ xs) (y ∷ ys) = ap (λ (l : List ℕ). (x ⊕ y) ∷ l) (xorEach-take xs ys)
 
 -- a list written over the front of another, one place more
 pub written-next : (s os now : List ℕ) (i : ℕ) → i < length s → length s ≤ length os → now ≡ take i s ++ drop i os
@@ -61,26 +61,26 @@ written-next s os now i h l e =
     ∙ ap (λ (j : ℕ). take j s ++ drop j os) (sym (add-one i))
 
 -- the shorter of two lists bounds their sum
-pub shorter-sum : (xs ys : List ℕ) (n : ℕ) → n ≤ length xs → n ≤ length ys → (n ≡ length xs) ⊎ (n ≡ length ys) → n ≡ length (sum xs ys)
-shorter-sum xs ys n g h (inl e) = omega (arith, length-sum-min xs ys)
-shorter-sum xs ys n g h (inr e) = omega (arith, length-sum-min xs ys)
+pub shorter-xorEach : (xs ys : List ℕ) (n : ℕ) → n ≤ length xs → n ≤ length ys → (n ≡ length xs) ⊎ (n ≡ length ys) → n ≡ length (xorEach xs ys)
+shorter-xorEach xs ys n g h (inl e) = omega (arith, length-xorEach-min xs ys)
+shorter-xorEach xs ys n g h (inr e) = omega (arith, length-xorEach-min xs ys)
 
 -- a word added to the word that four bytes join to
-pub word-added : (w v k : ℕ) (ds : List ℕ) → Bytes ds → k + 4 ≤ length ds → v ≡ joined (take 4 (drop k ds)) → split 4 (w ⊕ v) ≡ sum (split 4 w) (drop k ds)
+pub word-xored : (w v k : ℕ) (ds : List ℕ) → Bytes ds → k + 4 ≤ length ds → v ≡ joined (take 4 (drop k ds)) → split 4 (w ⊕ v) ≡ xorEach (split 4 w) (drop k ds)
 unfolding split
-word-added w v k ds h l e =
+word-xored w v k ds h l e =
     let four : length (take 4 (drop k ds)) ≡ 4 = length-take-le 4 (drop k ds) (rw (length-drop k ds) (omega arith)) in
     ap (λ (u : ℕ). split 4 (w ⊕ u)) e
     ∙ split-xor 4 w (joined (take 4 (drop k ds)))
-    ∙ ap (λ (xs : List ℕ). sum (split 4 w) xs)
+    ∙ ap (λ (xs : List ℕ). xorEach (split 4 w) xs)
     (ap (λ (n : ℕ). split n (joined (take 4 (drop k ds)))) (sym four)
     ∙ split-joined (take 4 (drop k ds)) (take-bytes 4 (drop k ds) (drop-bytes k ds h)))
-    ∙ sum-take (split 4 w) (drop k ds)
+    ∙ xorEach-take (split 4 w) (drop k ds)
 
 -- what is laid over the front of a list, and then over what comes next
-pub laid-after : (a b : ℕ) (xs ys os l p : List ℕ) → length xs ≡ a → l ≡ xs ++ drop a os → p ≡ ys ++ drop b (midOf a (length l - a) l)
+pub xoredTo-after : (a b : ℕ) (xs ys os l p : List ℕ) → length xs ≡ a → l ≡ xs ++ drop a os → p ≡ ys ++ drop b (midOf a (length l - a) l)
     → putMid a (length l - a) l p ≡ (xs ++ ys) ++ drop (a + b) os
-laid-after a b xs ys os l p n e f =
+xoredTo-after a b xs ys os l p n e f =
     let rest : drop a l ≡ drop a os = ap (λ (m : List ℕ). drop a m) e ∙ drop-at xs (drop a os) a n in
     let mid : midOf a (length l - a) l ≡ drop a os = take-all (length l - a) (drop a l) (rw (length-drop a l) (omega arith)) ∙ rest in
     put-end a l p

@@ -9,7 +9,7 @@ use lib.Dec.{lit≤}
 use Rattle.fox_register.specs.Register.{seed, clocked, clockedBack, iterate, LFSR}
 use Rattle.fox_register.proofs.Laws.Register.{LFSR-forward, LFSR-back}
 use Rattle.fox_rounds.specs.Skeleton.{place}
-use Rattle.fox_schedule.specs.Step.{made, steps, keyAt, Stands, stepped, Moved}
+use Rattle.fox_schedule.specs.Step.{roundKeyAt, steps, roundKeyOf, RegisterAt, stepped, RegisterNext}
 use Rattle.fox_schedule.specs.declared.schedule.Schedule.{Schedule}
 use Rattle.fox_schedule.specs.declared.schedule.Schedule.the-variants.{Ks64, Ks64h, Ks128}
 
@@ -21,8 +21,8 @@ one-more : (i g : ℕ) → i * g + g ≡ (i + 1) * g
 one-more i g = ap (λ (n : ℕ). i * g + n) (sym (one-mul g)) ∙ sym (add-mul i 1 g)
 
 reg-next : (i r : ℕ) {g steps reg to : ℕ} → steps ≡ g → reg ≡ LFSR (i * g) r → to ≡ iterate steps clocked reg → to ≡ LFSR ((i + 1) * g) r
-reg-next i r {g} e at made =
-    made
+reg-next i r {g} e at moved =
+    moved
     ∙ ap₂ (λ (n x : ℕ). iterate n clocked x) e at
     ∙ LFSR-forward (i * g) g r
     ∙ ap (λ (n : ℕ). LFSR n r) (one-more i g)
@@ -30,18 +30,18 @@ reg-next i r {g} e at made =
 -- all n steps at once, to the last round key
 reg-last : (n r : ℕ) {g steps reg to : ℕ} → steps ≡ g → reg ≡ seed r → to ≡ iterate (n * steps) clocked reg → to ≡ LFSR ((n - 0) * g) r
 unfolding LFSR
-reg-last n r {g} e at made =
+reg-last n r {g} e at moved =
     let all : n ≡ n - 0 = omega arith in
-    made
+    moved
     ∙ ap₂ (λ (m x : ℕ). iterate (n * m) clocked x) e at
     ∙ ap (λ (m : ℕ). iterate (m * g) clocked (seed r)) all
 
 reg-back : (n i r : ℕ) {g steps reg to : ℕ} → r < 256 → i < n → steps ≡ g → reg ≡ LFSR ((n - i) * g) r → to ≡ iterate steps clockedBack reg
     → to ≡ LFSR ((n - (i + 1)) * g) r
-reg-back n i r {g} small h e at made =
+reg-back n i r {g} small h e at moved =
     let less : n - i ≡ n - (i + 1) + 1 = omega arith in
     let here : (n - i) * g ≡ (n - (i + 1)) * g + g = ap (λ (m : ℕ). m * g) less ∙ sym (one-more (n - (i + 1)) g) in
-    made
+    moved
     ∙ ap₂ (λ (m x : ℕ). iterate m clockedBack x) e (at ∙ ap (λ (m : ℕ). LFSR m r) here)
     ∙ LFSR-back ((n - (i + 1)) * g) g r small
 
@@ -59,26 +59,26 @@ few-steps n s {k} h e =
     omega arith
 
 module _ (s : Schedule) (r : ℕ) where
-  pub stands-first : {reg : ℕ} → reg ≡ seed r → reg < 2 ^ 24 → Stands s true r 0 reg
+  pub registerAt-first : {reg : ℕ} → reg ≡ seed r → reg < 2 ^ 24 → RegisterAt s true r 0 reg
   unfolding place
-  stands-first {reg} e h = record { here = reg-first (steps s) r reg e; small = h }
+  registerAt-first {reg} e h = record { here = reg-first (steps s) r reg e; small = h }
 
-  pub stands-last : {k reg to : ℕ} → k ≡ steps s → reg ≡ seed r → to ≡ iterate ((r - 1) * k) clocked reg → to < 2 ^ 24 → Stands s false r 0 to
+  pub registerAt-last : {k reg to : ℕ} → k ≡ steps s → reg ≡ seed r → to ≡ iterate ((r - 1) * k) clocked reg → to < 2 ^ 24 → RegisterAt s false r 0 to
   unfolding place
-  stands-last e at made h = record { here = reg-last (r - 1) r e at made; small = h }
+  registerAt-last e at moved h = record { here = reg-last (r - 1) r e at moved; small = h }
 
   -- sealing goes on, past the last round too
-  pub stands-on : (i : ℕ) {reg to : ℕ} → Stands s true r i reg → Moved s true reg to → Stands s true r (i + 1) to
+  pub registerAt-on : (i : ℕ) {reg to : ℕ} → RegisterAt s true r i reg → RegisterNext s true reg to → RegisterAt s true r (i + 1) to
   unfolding place stepped
-  stands-on i at m = record { here = reg-next i r refl (at .here) (m .there); small = m .small }
+  registerAt-on i at m = record { here = reg-next i r refl (at .here) (m .there); small = m .small }
 
   -- either direction, from a round to the next
-  pub stands-next : (d : Bool) (i : ℕ) {reg to : ℕ} → r < 256 → i < r - 1 → Stands s d r i reg → Moved s d reg to → Stands s d r (i + 1) to
+  pub registerAt-next : (d : Bool) (i : ℕ) {reg to : ℕ} → r < 256 → i < r - 1 → RegisterAt s d r i reg → RegisterNext s d reg to → RegisterAt s d r (i + 1) to
   unfolding place stepped
-  stands-next true i few h at m = stands-on i at m
-  stands-next false i few h at m = record { here = reg-back (r - 1) i r few h refl (at .here) (m .there); small = m .small }
+  registerAt-next true i few h at m = registerAt-on i at m
+  registerAt-next false i few h at m = record { here = reg-back (r - 1) i r few h refl (at .here) (m .there); small = m .small }
 
   -- the round key made there
-  pub stands-key : (d : Bool) (i : ℕ) {reg : ℕ} → Stands s d r i reg → made s reg ≡ keyAt s r (place d r i)
-  unfolding keyAt
-  stands-key d i at = ap (made s) (at .here)
+  pub registerAt-key : (d : Bool) (i : ℕ) {reg : ℕ} → RegisterAt s d r i reg → roundKeyAt s reg ≡ roundKeyOf s r (place d r i)
+  unfolding roundKeyOf
+  registerAt-key d i at = ap (roundKeyAt s) (at .here)

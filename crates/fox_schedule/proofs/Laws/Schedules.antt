@@ -10,29 +10,29 @@ use lib.Dec.{eqb}
 use lib.ListN.{length}
 use borrow.Author.Tests.{le-leb, lt-leb, eq-eqb, ne-eqb}
 use Rattle.fox_rounds.specs.Skeleton.{numbered}
-use Rattle.fox_rounds.proofs.Laws.Skeleton.{numbered-next, numbered-same}
+use Rattle.fox_rounds.proofs.Laws.Skeleton.{numbered-same}
 use Rattle.fox_key_mixing.specs.Padding.{mkey}
 use Rattle.fox_register.specs.Register.{LFSR}
 use Rattle.fox_key_mixing.specs.Diversification.{groups, dkey}
 use Rattle.fox_nonlinear.specs.Nonlinear.{NL64, NL64h, NL128}
 use Rattle.fox_nonlinear.proofs.Laws.Width.{NL128-lt}
 use Rattle.fox_nonlinear.specs.declared.nl128.Key128.{Key128}
-use Rattle.fox_schedule.specs.Schedule.{ek64, ek128, key64, key128, roundKey64, roundKey128, roundKey, roundKeys}
-use Rattle.fox_schedule.specs.Step.{made, steps, Scheduled, keyAt, narrow, Made}
+use Rattle.fox_schedule.specs.Schedule.{ek64, ek128, roundKeyAt64, roundKeyAt128, roundKey64, roundKey128, roundKey, roundKeys}
+use Rattle.fox_schedule.specs.Step.{roundKeyAt, steps, Scheduled, roundKeyOf, narrow, RoundKeyAt}
 use Rattle.fox_schedule.specs.declared.schedule.Schedule.{Schedule}
 use Rattle.fox_schedule.specs.declared.schedule.Schedule.the-variants.{Ks64, Ks64h, Ks128}
 
 -- KS64
-pub key64-ks64 : (key : List ℕ) (reg : ℕ) → length key ≤ 16
-    → key64 key reg ≡ NL64 (eqb (length key) 16) (dkey (mkey 16 key) reg)
-unfolding key64 ek64
-key64-ks64 key reg h = simp (le-leb _ _ h)
+pub roundKeyAt64-ks64 : (key : List ℕ) (reg : ℕ) → length key ≤ 16
+    → roundKeyAt64 key reg ≡ NL64 (eqb (length key) 16) (dkey (mkey 16 key) reg)
+unfolding roundKeyAt64 ek64
+roundKeyAt64-ks64 key reg h = simp (le-leb _ _ h)
 
 -- KS64h
-pub key64-ks64h : (key : List ℕ) (reg : ℕ) → 16 < length key
-    → key64 key reg ≡ NL64h (eqb (length key) 32) (dkey (mkey 32 key) reg)
-unfolding key64 ek64
-key64-ks64h key reg h = simp (lt-leb _ _ h)
+pub roundKeyAt64-ks64h : (key : List ℕ) (reg : ℕ) → 16 < length key
+    → roundKeyAt64 key reg ≡ NL64h (eqb (length key) 32) (dkey (mkey 32 key) reg)
+unfolding roundKeyAt64 ek64
+roundKeyAt64-ks64h key reg h = simp (lt-leb _ _ h)
 
 pub groups-ks64 : (len : ℕ) → len ≤ 16 → groups (ek64 len) ≡ 6
 unfolding groups ek64
@@ -52,40 +52,35 @@ roundKey-128 c r key i n = simp (ne-eqb c 64 n)
 
 -- the round keys of FOX128 fit two words
 pub roundKey128-lt : (r : ℕ) (key : List ℕ) (i : ℕ) → roundKey128 r key i < 2 ^ 128
-unfolding roundKey128 key128
+unfolding roundKey128 roundKeyAt128
 roundKey128-lt r key i = NL128-lt _ _
 
 -- the schedule of a key makes the round keys of that key
-scheduled-key : (c r : ℕ) (key : List ℕ) (s : Schedule) → Scheduled c key s → (i : ℕ) → roundKey c r key (suc i) ≡ keyAt s r i
-unfolding Scheduled keyAt made steps roundKey64 roundKey128 key128 ek128 groups
+scheduled-key : (c r : ℕ) (key : List ℕ) (s : Schedule) → Scheduled c key s → (i : ℕ) → roundKey c r key i ≡ roundKeyOf s r i
+unfolding Scheduled roundKeyOf roundKeyAt steps roundKey64 roundKey128 roundKeyAt128 ek128 groups
 scheduled-key c r key (Ks64 m flip) is i =
-    let back : suc i - 1 ≡ i = omega arith in
-    roundKey-64 c r key (suc i) (is .0)
-    ∙ ap₂ (λ (j g : ℕ). key64 key (LFSR (j * g) r)) back (groups-ks64 (length key) (is .1))
-    ∙ key64-ks64 key (LFSR (i * 6) r) (is .1)
+    roundKey-64 c r key i (is .0)
+    ∙ ap (λ (g : ℕ). roundKeyAt64 key (LFSR (i * g) r)) (groups-ks64 (length key) (is .1))
+    ∙ roundKeyAt64-ks64 key (LFSR (i * 6) r) (is .1)
     ∙ ap₂ (λ (f : Bool) (ms : List ℕ). NL64 f (dkey ms (LFSR (i * 6) r))) (sym (is .3)) (sym (is .2))
 scheduled-key c r key (Ks64h m flip) is i =
-    let back : suc i - 1 ≡ i = omega arith in
-    roundKey-64 c r key (suc i) (is .0)
-    ∙ ap₂ (λ (j g : ℕ). key64 key (LFSR (j * g) r)) back (groups-ks64h (length key) (is .1))
-    ∙ key64-ks64h key (LFSR (i * 11) r) (is .1)
+    roundKey-64 c r key i (is .0)
+    ∙ ap (λ (g : ℕ). roundKeyAt64 key (LFSR (i * g) r)) (groups-ks64h (length key) (is .1))
+    ∙ roundKeyAt64-ks64h key (LFSR (i * 11) r) (is .1)
     ∙ ap₂ (λ (f : Bool) (ms : List ℕ). NL64h f (dkey ms (LFSR (i * 11) r))) (sym (is .3)) (sym (is .2))
 scheduled-key c r key (Ks128 m flip) is i =
-    let back : suc i - 1 ≡ i = omega arith in
-    roundKey-128 c r key (suc i) (is .0)
-    ∙ ap (λ (j : ℕ). key128 key (LFSR (j * 11) r)) back
+    roundKey-128 c r key i (is .0)
     ∙ ap₂ (λ (f : Bool) (ms : List ℕ). NL128 f (dkey ms (LFSR (i * 11) r))) (sym (is .2)) (sym (is .1))
 
--- the round keys in a row, numbered from 0
-pub roundKeys-made : (c r : ℕ) (key : List ℕ) (s : Schedule) → Scheduled c key s → roundKeys c r key ≡ numbered (keyAt s r) r 0
+-- and in a row
+pub roundKeys-scheduled : (c r : ℕ) (key : List ℕ) (s : Schedule) → Scheduled c key s → roundKeys c r key ≡ numbered (roundKeyOf s r) r 0
 unfolding roundKeys
-roundKeys-made c r key s is =
-    numbered-next (roundKey c r key) r 0
-    ∙ numbered-same (λ (i : ℕ). roundKey c r key (suc i)) (keyAt s r) r 0 (λ i h. scheduled-key c r key s is i)
+roundKeys-scheduled c r key s is =
+    numbered-same (roundKey c r key) (roundKeyOf s r) r 0 (λ i h. scheduled-key c r key s is i)
 
 -- a round key of 64 bits is its right word, and one of 128 bits has these halves
-pub right-made : {s : Schedule} {reg : ℕ} {k : Key128} → Made s reg k → narrow s ≡ true → k .right ≡ made s reg
-right-made {k = k} m e = sym (zero-add (k .right)) ∙ ap (λ (l : ℕ). l * 2 ^ 64 + k .right) (sym (m .short e)) ∙ m .whole
+pub right-roundKeyAt : {s : Schedule} {reg : ℕ} {k : Key128} → RoundKeyAt s reg k → narrow s ≡ true → k .right ≡ roundKeyAt s reg
+right-roundKeyAt {k = k} m e = sym (zero-add (k .right)) ∙ ap (λ (l : ℕ). l * 2 ^ 64 + k .right) (sym (m .short e)) ∙ m .whole
 
 -- where a schedule of a key is of FOX64
 pub scheduled-narrow : (c : ℕ) (key : List ℕ) (s : Schedule) → Scheduled c key s → c ≡ 64 → narrow s ≡ true

@@ -12,10 +12,10 @@ use Rattle.fox_refusals.specs.Refusals.{refusalOf, blockSize, forKey, Keyed}
 use Rattle.fox_refusals.proofs.Laws.Refusals.{keyed-served}
 use Rattle.fox_refusals.proofs.Laws.Reply.{chosen, passed-over}
 use Rattle.fox_schedule.specs.Schedule.{roundKeys}
-use Rattle.fox_server_key.specs.Prepared.{preparedKey, noKey, Prepares, heldKeys}
+use Rattle.fox_server_key.specs.Prepared.{preparedKey, noKey, Prepares, roundKeysIn}
 use Rattle.fox_server_key.specs.declared.prepared.Prepared.{Prepared}
 use Rattle.fox_server_key.specs.declared.prepared.Preparation.{Preparation}
-use Rattle.fox_server_key.proofs.Laws.RoundKeys.{held-prepared}
+use Rattle.fox_server_key.proofs.Laws.RoundKeys.{roundKeysIn-prepared}
 
 module _ (c n : ℕ) (key : List ℕ) (r : Preparation) where
   pub served-key : refusalOf (forKey c n (length key)) ≡ 0 → r .answer .refusal ≡ 0 → r .answer .count ≡ blockSize c * n → r .key ≡ preparedKey c n key
@@ -44,10 +44,10 @@ in-use c n {b} e few =
 
 -- what holds of a call with a key prepared within it, and the round keys that it holds, holds with the key's own length and round keys
 pub from-prepared : (P : ℕ → ℕ → ℕ → List ℕ → Type 0) (c n : ℕ) (key : List ℕ) (made : Preparation) → Keyed c n (length key) → Prepares c n key made
-    → P (made .key .cipher) (made .key .rounds) (made .key .«key_len») (heldKeys (made .key)) → P c n (length key) (roundKeys c n key)
+    → P (made .key .cipher) (made .key .rounds) (made .key .«key_len») (roundKeysIn (made .key)) → P c n (length key) (roundKeys c n key)
 unfolding preparedKey
 from-prepared P c n key made keyed is held =
     let e : made .key ≡ preparedKey c n key = is .key ∙ sym (chosen _ _ _ (keyed-served keyed)) in
-    let at-key : P c n (length key) (heldKeys (preparedKey c n key)) =
-    subst (λ (p : Prepared). P (p .cipher) (p .rounds) (p .«key_len») (heldKeys p)) e held in
-    subst (P c n (length key)) (held-prepared (preparedKey c n key) key refl) at-key
+    let at-key : P c n (length key) (roundKeysIn (preparedKey c n key)) =
+    subst (λ (p : Prepared). P (p .cipher) (p .rounds) (p .«key_len») (roundKeysIn p)) e held in
+    subst (P c n (length key)) (roundKeysIn-prepared (preparedKey c n key) key refl) at-key

@@ -13,14 +13,14 @@ use Rattle.fox_rounds.specs.Rounds.{left, right}
 use Rattle.fox_rounds.specs.Skeleton.{numbered, turned}
 use Rattle.fox_rounds.specs.declared.state.State.{State}
 use Rattle.fox_rounds.specs.declared.state.State.the-variants.{Of64, Of128}
-use Rattle.fox_rounds.specs.RoundKeys.{held64, held128}
+use Rattle.fox_rounds.specs.RoundKeys.{roundKeyIn64, roundKeyIn128}
 use Rattle.fox_rounds.proofs.Laws.Halves.{pair}
 use Rattle.fox_rounds.proofs.Laws.Skeleton.{length-numbered, numbered-next, numbered-same, numbered-at}
 use Rattle.fox_schedule.specs.Schedule.{roundKey, roundKeys}
 use Rattle.fox_schedule.proofs.Laws.Schedules.{roundKey-128, roundKey128-lt}
 use Rattle.fox_block.specs.Block.{state64, state128, bytes, turnWith}
 use Rattle.fox_block.proofs.Laws.Block.{by-cipher, state-64, state-128}
-use Rattle.fox_server_key.specs.Prepared.{inHalves, filled, preparedWords, heldKeys}
+use Rattle.fox_server_key.specs.Prepared.{inHalves, filled, preparedWords, roundKeysIn}
 use Rattle.fox_server_key.specs.declared.prepared.Prepared.{Prepared}
 use Rattle.fox_server_key.proofs.Laws.Filled.{length-inHalves}
 
@@ -48,9 +48,9 @@ pub filled-at : (ws : List ℕ) (i : ℕ) → i < length ws → getD (filled ws)
 unfolding filled
 filled-at ws i h = List·getD-append ws (replicate (510 - length ws) 0) 0 i h
 
-pub held64-filled : (ks : List ℕ) (n : ℕ) → length ks ≡ n → numbered (held64 (filled ks)) n 0 ≡ ks
-unfolding held64
-held64-filled ks n e =
+pub roundKeyIn64-filled : (ks : List ℕ) (n : ℕ) → length ks ≡ n → numbered (roundKeyIn64 (filled ks)) n 0 ≡ ks
+unfolding roundKeyIn64
+roundKeyIn64-filled ks n e =
     ap (λ (m : ℕ). numbered (λ (i : ℕ). getD (filled ks) i 0) m 0) (sym e)
     ∙ numbered-same (λ (i : ℕ). getD (filled ks) i 0) (λ (i : ℕ). getD ks i 0) (length ks) 0
     (λ i h. filled-at ks i (omega arith))
@@ -72,13 +72,13 @@ right-at (k ∷ ks) (suc i) h =
     let next : 2 * suc i + 1 ≡ suc (suc (2 * i + 1)) = omega arith in
     ap (λ (j : ℕ). getD (left 64 k ∷ right 64 k ∷ inHalves ks) j 0) next ∙ right-at ks i (le-of-suc-le-suc h)
 
-pub held128-filled : (ks : List ℕ) (n : ℕ) → ((i : ℕ) → i < n → getD ks i 0 < 2 ^ 128) → length ks ≡ n
-    → numbered (held128 (filled (inHalves ks))) n 0 ≡ ks
-unfolding held128
-held128-filled ks n wide e =
+pub roundKeyIn128-filled : (ks : List ℕ) (n : ℕ) → ((i : ℕ) → i < n → getD ks i 0 < 2 ^ 128) → length ks ≡ n
+    → numbered (roundKeyIn128 (filled (inHalves ks))) n 0 ≡ ks
+unfolding roundKeyIn128
+roundKeyIn128-filled ks n wide e =
     let long = length-inHalves ks in
-    ap (λ (m : ℕ). numbered (held128 (filled (inHalves ks))) m 0) (sym e)
-    ∙ numbered-same (held128 (filled (inHalves ks))) (λ (i : ℕ). getD ks i 0) (length ks) 0
+    ap (λ (m : ℕ). numbered (roundKeyIn128 (filled (inHalves ks))) m 0) (sym e)
+    ∙ numbered-same (roundKeyIn128 (filled (inHalves ks))) (λ (i : ℕ). getD ks i 0) (length ks) 0
     (λ i h.
     let here : i < length ks = omega arith in
     ap₂ (λ (a b : ℕ). a * 2 ^ 64 + b) (filled-at (inHalves ks) (2 * i) (omega arith) ∙ left-at ks i here)
@@ -94,46 +94,46 @@ pub preparedWords-128 : (c r : ℕ) (key : List ℕ) → (c ≡ 64 → ⊥) → 
 unfolding preparedWords
 preparedWords-128 c r key n = simp (ne-eqb c 64 n)
 
-pub heldKeys-64 : (p : Prepared) → p .cipher ≡ 64 → heldKeys p ≡ numbered (held64 (p .keys)) (p .rounds) 0
-unfolding heldKeys
-heldKeys-64 p e = simp (eq-eqb (p .cipher) 64 e)
+pub roundKeysIn-64 : (p : Prepared) → p .cipher ≡ 64 → roundKeysIn p ≡ numbered (roundKeyIn64 (p .keys)) (p .rounds) 0
+unfolding roundKeysIn
+roundKeysIn-64 p e = simp (eq-eqb (p .cipher) 64 e)
 
-pub heldKeys-128 : (p : Prepared) → (p .cipher ≡ 64 → ⊥) → heldKeys p ≡ numbered (held128 (p .keys)) (p .rounds) 0
-unfolding heldKeys
-heldKeys-128 p n = simp (ne-eqb (p .cipher) 64 n)
+pub roundKeysIn-128 : (p : Prepared) → (p .cipher ≡ 64 → ⊥) → roundKeysIn p ≡ numbered (roundKeyIn128 (p .keys)) (p .rounds) 0
+unfolding roundKeysIn
+roundKeysIn-128 p n = simp (ne-eqb (p .cipher) 64 n)
 
 -- the round keys of FOX128 fit two words
 pub wide : (c r : ℕ) (key : List ℕ) (i : ℕ) → (c ≡ 64 → ⊥) → roundKey c r key i < 2 ^ 128
 wide c r key i isnt = rw (roundKey-128 c r key i isnt) (roundKey128-lt r key i)
 
 -- a prepared key with the words of a key holds the round keys of the definition
-pub held-prepared : (p : Prepared) (key : List ℕ) → p .keys ≡ preparedWords (p .cipher) (p .rounds) key
-    → heldKeys p ≡ roundKeys (p .cipher) (p .rounds) key
+pub roundKeysIn-prepared : (p : Prepared) (key : List ℕ) → p .keys ≡ preparedWords (p .cipher) (p .rounds) key
+    → roundKeysIn p ≡ roundKeys (p .cipher) (p .rounds) key
 unfolding roundKeys
-held-prepared p key e =
+roundKeysIn-prepared p key e =
     let c = p .cipher in
     let r = p .rounds in
     let k = roundKey c r key in
     by-cipher c
     (λ is.
-    heldKeys-64 p is
-    ∙ ap (λ (ws : List ℕ). numbered (held64 ws) r 0) (e ∙ preparedWords-64 c r key is)
-    ∙ held64-filled (numbered k r 1) r (length-numbered k r 1))
+    roundKeysIn-64 p is
+    ∙ ap (λ (ws : List ℕ). numbered (roundKeyIn64 ws) r 0) (e ∙ preparedWords-64 c r key is)
+    ∙ roundKeyIn64-filled (numbered k r 0) r (length-numbered k r 0))
     (λ isnt.
-    heldKeys-128 p isnt
-    ∙ ap (λ (ws : List ℕ). numbered (held128 ws) r 0) (e ∙ preparedWords-128 c r key isnt)
-    ∙ held128-filled (numbered k r 1) r (λ i h. rw (numbered-at k r 1 i 0 h) (wide c r key (1 + i) isnt)) (length-numbered k r 1))
+    roundKeysIn-128 p isnt
+    ∙ ap (λ (ws : List ℕ). numbered (roundKeyIn128 ws) r 0) (e ∙ preparedWords-128 c r key isnt)
+    ∙ roundKeyIn128-filled (numbered k r 0) r (λ i h. rw (numbered-at k r 0 i 0 h) (wide c r key (0 + i) isnt)) (length-numbered k r 0))
 
 -- a block turned by the round keys that a prepared key holds, by cases of the cipher
 module _ (d : Bool) (p : Prepared) (bs : List ℕ) where
-  pub held-turned-64 : p .cipher ≡ 64
-      → bytes (turned d (numbered (held64 (p .keys)) (p .rounds) 0) (Of64 (state64 bs))) ≡ turnWith d (p .cipher) (heldKeys p) bs
+  pub turned-in-64 : p .cipher ≡ 64
+      → bytes (turned d (numbered (roundKeyIn64 (p .keys)) (p .rounds) 0) (Of64 (state64 bs))) ≡ turnWith d (p .cipher) (roundKeysIn p) bs
   unfolding turnWith
-  held-turned-64 is =
-      ap₂ (λ (ks : List ℕ) (x : State). bytes (turned d ks x)) (sym (heldKeys-64 p is)) (sym (state-64 (p .cipher) bs is))
+  turned-in-64 is =
+      ap₂ (λ (ks : List ℕ) (x : State). bytes (turned d ks x)) (sym (roundKeysIn-64 p is)) (sym (state-64 (p .cipher) bs is))
 
-  pub held-turned-128 : (p .cipher ≡ 64 → ⊥)
-      → bytes (turned d (numbered (held128 (p .keys)) (p .rounds) 0) (Of128 (state128 bs))) ≡ turnWith d (p .cipher) (heldKeys p) bs
+  pub turned-in-128 : (p .cipher ≡ 64 → ⊥)
+      → bytes (turned d (numbered (roundKeyIn128 (p .keys)) (p .rounds) 0) (Of128 (state128 bs))) ≡ turnWith d (p .cipher) (roundKeysIn p) bs
   unfolding turnWith
-  held-turned-128 isnt =
-      ap₂ (λ (ks : List ℕ) (x : State). bytes (turned d ks x)) (sym (heldKeys-128 p isnt)) (sym (state-128 (p .cipher) bs isnt))
+  turned-in-128 isnt =
+      ap₂ (λ (ks : List ℕ) (x : State). bytes (turned d ks x)) (sym (roundKeysIn-128 p isnt)) (sym (state-128 (p .cipher) bs isnt))

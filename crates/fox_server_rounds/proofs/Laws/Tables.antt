@@ -11,36 +11,36 @@ use Rattle.fox_layers.specs.Substitution.{sigma}
 use Rattle.fox_layers.specs.Diffusion.{mu4Rows, mu8Rows, mu4, mu8}
 use Rattle.fox_layers.specs.Tables.{picked}
 use Rattle.fox_layers.proofs.Laws.Tables.{picked-TBS, sigma-halves, picked-mu4, picked-mu8}
-use Rattle.fox_rounds.specs.Rounds.{left, right, plus128}
+use Rattle.fox_rounds.specs.Rounds.{left, right, xor128}
 use Rattle.fox_rounds.specs.declared.fox128.Fox128.{Fox128}
 use Rattle.fox_rounds.proofs.Laws.Halves.{left-pair, right-pair}
-use Rattle.fox_server_rounds.specs.Tables.{Lent}
+use Rattle.fox_server_rounds.specs.Tables.{TablesOf}
 
-pub lent-sigma4 : {rows : List (List ℕ)} {s t : List ℕ} → Lent rows s t → (w : ℕ) → picked 4 s w ≡ sigma 4 w
-lent-sigma4 lent w = ap (λ (l : List ℕ). picked 4 l w) (lent .s) ∙ picked-TBS 4 w
+pub tables-sigma4 : {rows : List (List ℕ)} {s t : List ℕ} → TablesOf rows s t → (w : ℕ) → picked 4 s w ≡ sigma 4 w
+tables-sigma4 lent w = ap (λ (l : List ℕ). picked 4 l w) (lent .s) ∙ picked-TBS 4 w
 
-pub lent-sigma8 : {rows : List (List ℕ)} {s t : List ℕ} → Lent rows s t → (w : ℕ)
+pub tables-sigma8 : {rows : List (List ℕ)} {s t : List ℕ} → TablesOf rows s t → (w : ℕ)
     → picked 4 s (w / 2 ^ 32) * 2 ^ 32 + picked 4 s (w % 2 ^ 32) ≡ sigma 8 w
-lent-sigma8 lent w =
-    ap₂ (λ (l r : ℕ). l * 2 ^ 32 + r) (lent-sigma4 lent (w / 2 ^ 32)) (lent-sigma4 lent (w % 2 ^ 32)) ∙ sigma-halves w
+tables-sigma8 lent w =
+    ap₂ (λ (l r : ℕ). l * 2 ^ 32 + r) (tables-sigma4 lent (w / 2 ^ 32)) (tables-sigma4 lent (w % 2 ^ 32)) ∙ sigma-halves w
 
-pub lent-mu4 : {s t : List ℕ} → Lent mu4Rows s t → (w : ℕ) → picked 4 t w ≡ mu4 (sigma 4 w)
-lent-mu4 lent w = ap (λ (l : List ℕ). picked 4 l w) (lent .t) ∙ picked-mu4 w
+pub tables-mu4 : {s t : List ℕ} → TablesOf mu4Rows s t → (w : ℕ) → picked 4 t w ≡ mu4 (sigma 4 w)
+tables-mu4 lent w = ap (λ (l : List ℕ). picked 4 l w) (lent .t) ∙ picked-mu4 w
 
-pub lent-mu8 : {s t : List ℕ} → Lent mu8Rows s t → (w : ℕ) → picked 8 t w ≡ mu8 (sigma 8 w)
-lent-mu8 lent w = ap (λ (l : List ℕ). picked 8 l w) (lent .t) ∙ picked-mu8 w
+pub tables-mu8 : {s t : List ℕ} → TablesOf mu8Rows s t → (w : ℕ) → picked 8 t w ≡ mu8 (sigma 8 w)
+tables-mu8 lent w = ap (λ (l : List ℕ). picked 8 l w) (lent .t) ∙ picked-mu8 w
 
 -- a word added to another half by half
-pub halves-added : (p q k : ℕ) → p < 2 ^ 32 → q < 2 ^ 32 → (p * 2 ^ 32 + q) ⊕ k ≡ (p ⊕ k / 2 ^ 32) * 2 ^ 32 + (q ⊕ k % 2 ^ 32)
-halves-added p q k hp hq =
+pub halves-xored : (p q k : ℕ) → p < 2 ^ 32 → q < 2 ^ 32 → (p * 2 ^ 32 + q) ⊕ k ≡ (p ⊕ k / 2 ^ 32) * 2 ^ 32 + (q ⊕ k % 2 ^ 32)
+halves-xored p q k hp hq =
     ap (λ (x : ℕ). (p * 2 ^ 32 + q) ⊕ x) (sym (div-add-mod' k (2 ^ 32)))
     ∙ xor-block 32 p (k / 2 ^ 32) q (k % 2 ^ 32) hq (mod-lt k (pow-pos 32))
 
 -- the round from its two halves
-pub halves-plus : (p q t : ℕ) (x : Fox128) → p < 2 ^ 32 → q < 2 ^ 32 → t ≡ p * 2 ^ 32 + q
-    → record { ll = x .ll ⊕ p; lr = x .lr ⊕ p; rl = x .rl ⊕ q; rr = x .rr ⊕ q } ≡ plus128 t x
-unfolding plus128
-halves-plus p q t x hp hq e =
+pub halves-xor128 : (p q t : ℕ) (x : Fox128) → p < 2 ^ 32 → q < 2 ^ 32 → t ≡ p * 2 ^ 32 + q
+    → record { ll = x .ll ⊕ p; lr = x .lr ⊕ p; rl = x .rl ⊕ q; rr = x .rr ⊕ q } ≡ xor128 t x
+unfolding xor128
+halves-xor128 p q t x hp hq e =
     let l : p ≡ left 32 t = sym (ap (left 32) e ∙ left-pair 32 p q hp hq) in
     let r : q ≡ right 32 t = sym (ap (right 32) e ∙ right-pair 32 p q hq) in
     λ i. record { ll = x .ll ⊕ l i; lr = x .lr ⊕ l i; rl = x .rl ⊕ r i; rr = x .rr ⊕ r i }

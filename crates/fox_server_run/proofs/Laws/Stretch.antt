@@ -9,14 +9,14 @@ use lib.ListN.{length}
 use Rattle.fox_rounds.specs.Skeleton.{numbered}
 use Rattle.fox_rounds.specs.declared.state.State.{State}
 use Rattle.fox_rounds.specs.declared.state.State.the-variants.{Of64, Of128}
-use Rattle.fox_rounds.specs.RoundKeys.{held64, held128}
+use Rattle.fox_rounds.specs.RoundKeys.{roundKeyIn64, roundKeyIn128}
 use Rattle.fox_refusals.specs.Refusals.{blockSize, Stretched}
 use Rattle.fox_block.specs.Block.{state64, state128}
 use Rattle.fox_block.proofs.Laws.Block.{size-64, size-128, state-64, state-128}
-use Rattle.fox_server_key.specs.Prepared.{heldKeys}
+use Rattle.fox_server_key.specs.Prepared.{roundKeysIn}
 use Rattle.fox_server_key.specs.declared.prepared.Prepared.{Prepared}
-use Rattle.fox_server_key.proofs.Laws.RoundKeys.{heldKeys-64, heldKeys-128}
-use Rattle.fox_run.specs.Run.{addedFrom, runWith}
+use Rattle.fox_server_key.proofs.Laws.RoundKeys.{roundKeysIn-64, roundKeysIn-128}
+use Rattle.fox_run.specs.Run.{xorFrom, runWith}
 use Rattle.fox_run.specs.States.{stream}
 use Rattle.fox_run.specs.Parts.{Ready}
 use Rattle.fox_run.proofs.Laws.Streams.{run-streamed}
@@ -27,14 +27,14 @@ ready counter input out s size =
     record { some = omega (arith, s .keyed .low); few = s .keyed .high; block = s .counter ∙ size; end = s .end; output = s .output }
 
 module _ (p : Prepared) (counter : List ℕ) (n : ℕ) (ds : List ℕ) (e : length counter ≡ blockSize (p .cipher)) where
-  pub held-run-64 : p .cipher ≡ 64
-      → addedFrom (stream (numbered (held64 (p .keys)) (p .rounds) 0) (Of64 (state64 counter))) n ds ≡ runWith (p .cipher) (heldKeys p) counter n ds
-  held-run-64 is =
-      ap₂ (λ (ks : List ℕ) (x : State). addedFrom (stream ks x) n ds) (sym (heldKeys-64 p is)) (sym (state-64 (p .cipher) counter is))
-      ∙ run-streamed (p .cipher) (heldKeys p) counter n ds e
+  pub run-in-64 : p .cipher ≡ 64
+      → xorFrom (stream (numbered (roundKeyIn64 (p .keys)) (p .rounds) 0) (Of64 (state64 counter))) n ds ≡ runWith (p .cipher) (roundKeysIn p) counter n ds
+  run-in-64 is =
+      ap₂ (λ (ks : List ℕ) (x : State). xorFrom (stream ks x) n ds) (sym (roundKeysIn-64 p is)) (sym (state-64 (p .cipher) counter is))
+      ∙ run-streamed (p .cipher) (roundKeysIn p) counter n ds e
 
-  pub held-run-128 : (p .cipher ≡ 64 → ⊥)
-      → addedFrom (stream (numbered (held128 (p .keys)) (p .rounds) 0) (Of128 (state128 counter))) n ds ≡ runWith (p .cipher) (heldKeys p) counter n ds
-  held-run-128 isnt =
-      ap₂ (λ (ks : List ℕ) (x : State). addedFrom (stream ks x) n ds) (sym (heldKeys-128 p isnt)) (sym (state-128 (p .cipher) counter isnt))
-      ∙ run-streamed (p .cipher) (heldKeys p) counter n ds e
+  pub run-in-128 : (p .cipher ≡ 64 → ⊥)
+      → xorFrom (stream (numbered (roundKeyIn128 (p .keys)) (p .rounds) 0) (Of128 (state128 counter))) n ds ≡ runWith (p .cipher) (roundKeysIn p) counter n ds
+  run-in-128 isnt =
+      ap₂ (λ (ks : List ℕ) (x : State). xorFrom (stream ks x) n ds) (sym (roundKeysIn-128 p isnt)) (sym (state-128 (p .cipher) counter isnt))
+      ∙ run-streamed (p .cipher) (roundKeysIn p) counter n ds e

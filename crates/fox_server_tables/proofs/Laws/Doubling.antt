@@ -11,7 +11,7 @@ use borrow.Author.Tests.{eqb-true}
 use Rattle.fox_layers.specs.Words.{_⊕_, joined}
 use Rattle.fox_layers.specs.Field.{double, halve, product}
 use Rattle.fox_layers.specs.Substitution.{sbox}
-use Rattle.fox_layers.specs.Tables.{listed, table, column, scaled, boxed}
+use Rattle.fox_layers.specs.Tables.{listed, table, column, scaled, tbsmEntry}
 use Rattle.fox_layers.proofs.Laws.Bytewise.{by-test}
 use Rattle.fox_layers.proofs.Laws.Field.{products}
 use Rattle.fox_layers.proofs.Laws.Tables.{sbox-lt}
@@ -62,13 +62,13 @@ unfolding listed
 listed-same f g same zero i h = refl
 listed-same f g same (suc n) i h = cc (same i (omega arith), listed-same f g same n (suc i) (omega arith))
 
-boxed-quick : (rows : List (List ℕ)) (j : ℕ) → table (boxed rows j) ≡ table (λ (x : ℕ). quickScaled (column j rows) (sbox x))
-unfolding table boxed
-boxed-quick rows j =
+tbsmEntry-quick : (rows : List (List ℕ)) (j : ℕ) → table (tbsmEntry rows j) ≡ table (λ (x : ℕ). quickScaled (column j rows) (sbox x))
+unfolding table tbsmEntry
+tbsmEntry-quick rows j =
     listed-same (λ (x : ℕ). scaled (column j rows) (sbox x)) (λ (x : ℕ). quickScaled (column j rows) (sbox x))
     (λ x h. quick-scaled (column j rows) (sbox x) (sbox-lt x h)) 256 0 (omega arith)
 
 -- table number j, where j is k, from what antt computes at k
 pub by-number : (rows : List (List ℕ)) (k : ℕ) {j : ℕ} {t : List ℕ} → j ≡ k → t ≡ table (λ (x : ℕ). quickScaled (column k rows) (sbox x))
-    → t ≡ table (boxed rows j)
-by-number rows k e computed = rw e (computed ∙ sym (boxed-quick rows k))
+    → t ≡ table (tbsmEntry rows j)
+by-number rows k e computed = rw e (computed ∙ sym (tbsmEntry-quick rows k))

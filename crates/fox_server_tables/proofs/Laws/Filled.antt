@@ -7,8 +7,8 @@ use native.Mathlib.Numerals.{add-one}
 use native.Mathlib.Omega.{arith}
 use lib.ListN.{length, take, getD, set}
 use lib.Seq.{take-suc, take-suc-set, take-all}
-use Rattle.fox_layers.specs.Tables.{table, boxed, TBSM}
-use Rattle.fox_server_tables.specs.Filled.{Begun}
+use Rattle.fox_layers.specs.Tables.{table, tbsmEntry, TBSM}
+use Rattle.fox_server_tables.specs.Filled.{FilledTo}
 use Rattle.fox_layers.proofs.Laws.Bytewise.{table-at}
 use Rattle.fox_layers.proofs.Laws.Tables.{TBSM-at, length-TBSM}
 
@@ -22,22 +22,22 @@ pub filled : (whole t : List ℕ) (i : ℕ) → length whole ≤ i → length t 
 filled whole t i h l same = sym (take-all i t (omega arith)) ∙ same ∙ take-all i whole h
 
 -- one entry more of a matrix's TBSM number j
-pub boxed-entered : (rows : List (List ℕ)) (j x : ℕ) (a t : List ℕ) → j < length rows → x < 256 → a ≡ table (boxed rows j)
+pub tbsmEntry-entered : (rows : List (List ℕ)) (j x : ℕ) (a t : List ℕ) → j < length rows → x < 256 → a ≡ table (tbsmEntry rows j)
     → length t ≡ length (TBSM rows) → take (j * 256 + x) t ≡ take (j * 256 + x) (TBSM rows)
     → take (j * 256 + (x + 1)) (set t (j * 256 + x) (getD a x 0)) ≡ take (j * 256 + (x + 1)) (TBSM rows)
-boxed-entered rows j x a t h l is long same =
+tbsmEntry-entered rows j x a t h l is long same =
     let value : getD a x 0 ≡ getD (TBSM rows) (j * 256 + x) 0 =
-    ap (λ (b : List ℕ). getD b x 0) is ∙ table-at (boxed rows j) x l ∙ sym (TBSM-at rows j x h l) in
+    ap (λ (b : List ℕ). getD b x 0) is ∙ table-at (tbsmEntry rows j) x l ∙ sym (TBSM-at rows j x h l) in
     let next : j * 256 + x + 1 ≡ j * 256 + (x + 1) = omega arith in
     rw next at (entered (TBSM rows) t (j * 256 + x) (getD a x 0) (omega (arith, length-TBSM rows)) long value same)
 
 -- one table more
-pub begun-next : (whole t : List ℕ) (j x : ℕ) → x ≡ 256 → length t ≡ length whole → take (j * 256 + x) t ≡ take (j * 256 + x) whole
-    → Begun whole (j + 1) t
-begun-next whole t j x e long same =
+pub filledTo-next : (whole t : List ℕ) (j x : ℕ) → x ≡ 256 → length t ≡ length whole → take (j * 256 + x) t ≡ take (j * 256 + x) whole
+    → FilledTo whole (j + 1) t
+filledTo-next whole t j x e long same =
     let place : j * 256 + x ≡ (j + 1) * 256 = omega arith in
     record { long = long; same = rw place at same }
 
 -- all tables
-pub begun-all : (rows : List (List ℕ)) (t : List ℕ) → Begun (TBSM rows) (length rows) t → t ≡ TBSM rows
-begun-all rows t begun = filled (TBSM rows) t (length rows * 256) (omega (arith, length-TBSM rows)) (begun .long) (begun .same)
+pub filledTo-all : (rows : List (List ℕ)) (t : List ℕ) → FilledTo (TBSM rows) (length rows) t → t ≡ TBSM rows
+filledTo-all rows t begun = filled (TBSM rows) t (length rows * 256) (omega (arith, length-TBSM rows)) (begun .long) (begun .same)

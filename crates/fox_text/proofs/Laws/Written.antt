@@ -26,11 +26,11 @@ plain-append [] b p q = q
 plain-append (x ∷ xs) b p q = (p .0, plain-append xs b (p .1) q)
 
 -- lines that pass tests, one after the other; lines without a line feed
-unfoldable pub Kept : List Test → List (List ℕ) → Type 0
-Kept [] [] = Unit {0}
-Kept [] (l ∷ ls) = ⊥
-Kept (test ∷ tests) [] = ⊥
-Kept (test ∷ tests) (l ∷ ls) = (test l ≡ true) × Kept tests ls
+unfoldable pub Passing : List Test → List (List ℕ) → Type 0
+Passing [] [] = Unit {0}
+Passing [] (l ∷ ls) = ⊥
+Passing (test ∷ tests) [] = ⊥
+Passing (test ∷ tests) (l ∷ ls) = (test l ≡ true) × Passing tests ls
 
 unfoldable pub Plains : List (List ℕ) → Type 0
 Plains [] = Unit {0}
@@ -61,8 +61,8 @@ module _ (l r : List ℕ) (plain : Plain l) where
   unfolding afterLine
   afterLine-written = rw (lineEnd-written l r plain) (drop-written l 10 r)
 
-pub written-right : (n : ℕ) (tests : List Test) (ls : List (List ℕ)) → Kept tests ls → Plains ls → brokenFrom n tests (textOf ls) ≡ 0
-unfolding Kept Plains brokenFrom textOf
+pub written-right : (n : ℕ) (tests : List Test) (ls : List (List ℕ)) → Passing tests ls → Plains ls → brokenFrom n tests (textOf ls) ≡ 0
+unfolding Passing Plains brokenFrom textOf
 written-right n [] [] k p = refl
 written-right n [] (l ∷ ls) k p = absurd k
 written-right n (test ∷ tests) [] k p = absurd k
@@ -93,13 +93,13 @@ nothing (x ∷ xs) e = absurd (omega arith)
 
 -- the lines of a text that breaks no rule, and that it is made of them
 pub record Right (tests : List Test) (t : List ℕ) : Type 0 where
-  pub kept : Kept tests (lines (length tests) t)
+  pub passing : Passing tests (lines (length tests) t)
   pub text : t ≡ textOf (lines (length tests) t)
 
 pub right-lines : (n : ℕ) (tests : List Test) (t : List ℕ) → brokenFrom (suc n) tests t ≡ 0 → Right tests t
-unfolding Kept brokenFrom lines textOf isLine
+unfolding Passing brokenFrom lines textOf isLine
 right-lines n [] t right =
-    by-test (empty t) (λ e. record { kept = tt; text = nothing t (eqb-true (length t) 0 e) })
+    by-test (empty t) (λ e. record { passing = tt; text = nothing t (eqb-true (length t) 0 e) })
     (λ e. let z : suc n ≡ 0 = rw e at right in absurd (omega arith))
 right-lines n (test ∷ tests) t right =
     by-test (isLine test t)
@@ -107,7 +107,7 @@ right-lines n (test ∷ tests) t right =
     let (ended, passed) = both (hasLine t) (test (line t)) e in
     let later = right-lines (suc n) tests (afterLine t) (rw e at right) in
     record {
-      kept = (passed, later .kept);
+      passing = (passed, later .passing);
       text = split-line t (ltb-true (lineEnd t) (length t) ended) ∙ ap (λ (r : List ℕ). line t ++ 10 ∷ r) (later .text);
     })
     (λ e. let z : suc n ≡ 0 = rw e at right in absurd (omega arith))

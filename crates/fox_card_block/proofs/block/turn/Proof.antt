@@ -9,7 +9,7 @@ use native.Mathlib.Omega.{arith}
 use Rattle.fox_rounds.specs.Skeleton.{size, turned}
 use Rattle.fox_rounds.specs.declared.state.State.{State}
 use Rattle.fox_schedule.specs.Schedule.{roundKeys}
-use Rattle.fox_schedule.proofs.Laws.Schedules.{roundKeys-made}
+use Rattle.fox_schedule.proofs.Laws.Schedules.{roundKeys-scheduled}
 use Rattle.fox_refusals.proofs.Laws.Refusals.{blocked}
 use Rattle.fox_refusals.proofs.Laws.Reply.{served-reply, refused-reply}
 use Rattle.fox_block.specs.Block.{bytes, turnWith}
@@ -62,7 +62,7 @@ returns-2 c =
     ∙ ap bytes
     (made .turned .ensures
     ∙ ap₂ (λ (ks : List ℕ) (x : State). turned (a .sealing) ks x)
-    (sym (roundKeys-made (a .cipher) _ (a .key .now) (of .of .result) (of .of .ensures)) ∙ ap (λ (n : ℕ). roundKeys (a .cipher) n (a .key .now)) whole)
+    (sym (roundKeys-scheduled (a .cipher) _ (a .key .now) (of .of .result) (of .of .ensures)) ∙ ap (λ (n : ℕ). roundKeys (a .cipher) n (a .key .now)) whole)
     (read .read .ensures)))
 
 pub turn-spec : {M : Type 1} → statement M

@@ -9,44 +9,44 @@ use native.Mathlib.Omega.{arith}
 use Prim.Native.Nat.{ℕ, _+_, _-_, _≤_, _<_}
 use Rattle.fox_rounds.specs.Skeleton.{round, between, place}
 use Rattle.fox_rounds.specs.declared.state.State.{State}
-use Rattle.fox_rounds.proofs.Laws.Skeleton.{Turned, turned-none, turned-one, turned-more, turned-all}
-use Rattle.fox_schedule.specs.Step.{made, keyAt, Stands, Moved}
+use Rattle.fox_rounds.proofs.Laws.Skeleton.{TurnDone, turnDone-none, turnDone-one, turnDone-more, turnDone-all}
+use Rattle.fox_schedule.specs.Step.{roundKeyAt, roundKeyOf, RegisterAt, RegisterNext}
 use Rattle.fox_schedule.specs.declared.schedule.Schedule.{Schedule}
-use Rattle.fox_schedule.proofs.Laws.RegisterAt.{stands-next, stands-key}
+use Rattle.fox_schedule.proofs.Laws.RegisterAt.{registerAt-next, registerAt-key}
 use Rattle.fox_card_block.proofs.rounds.turned.Statement.{statement}
 use Rattle.fox_card_block.proofs.rounds.turned.Tie as tie
 
 -- the register stands at the round key of round number i, and that round makes i + 1 of the rounds done
 record Comes (d : Bool) (s : Schedule) (m : ℕ) (x : State) (i reg : ℕ) (y : State) : Type 0 where
-  stands : Stands s d m i reg
-  after : Stands s d m (i + 1 - 1) reg
-  more : (z : State) → z ≡ round (made s reg) y → Turned d (keyAt s m) m x (i + 1) z
+  stands : RegisterAt s d m i reg
+  after : RegisterAt s d m (i + 1 - 1) reg
+  more : (z : State) → z ≡ round (roundKeyAt s reg) y → TurnDone d (roundKeyOf s m) m x (i + 1) z
 
 module _ (d : Bool) (s : Schedule) (m : ℕ) (x : State) (i : ℕ) where
-  comes : {reg : ℕ} {y : State} → Stands s d m i reg → ((z : State) → z ≡ round (keyAt s m (place d m i)) y → Turned d (keyAt s m) m x (i + 1) z) → Comes d s m x i reg y
+  comes : {reg : ℕ} {y : State} → RegisterAt s d m i reg → ((z : State) → z ≡ round (roundKeyOf s m (place d m i)) y → TurnDone d (roundKeyOf s m) m x (i + 1) z) → Comes d s m x i reg y
   comes {reg} {y} at more =
       let same : i ≡ i + 1 - 1 = omega arith in
       record {
         stands = at;
-        after = subst (λ (j : ℕ). Stands s d m j reg) same at;
-        more = λ z e. more z (e ∙ ap (λ (k : ℕ). round k y) (stands-key s m d i at));
+        after = subst (λ (j : ℕ). RegisterAt s d m j reg) same at;
+        more = λ z e. more z (e ∙ ap (λ (k : ℕ). round k y) (registerAt-key s m d i at));
       }
 
-  comes-next : {reg reg₁ reg₂ : ℕ} {y y₁ y₂ : State} → 0 < i → i < m → m < 256 → Stands s d m (i - 1) reg → Turned d (keyAt s m) m x i y
-      → y₁ ≡ between d y → Moved s d reg reg₁ → reg₂ ≡ reg₁ → y₂ ≡ y₁ → Comes d s m x i reg₂ y₂
+  comes-next : {reg reg₁ reg₂ : ℕ} {y y₁ y₂ : State} → 0 < i → i < m → m < 256 → RegisterAt s d m (i - 1) reg → TurnDone d (roundKeyOf s m) m x i y
+      → y₁ ≡ between d y → RegisterNext s d reg reg₁ → reg₂ ≡ reg₁ → y₂ ≡ y₁ → Comes d s m x i reg₂ y₂
   comes-next {reg₁ = reg₁} {y = y} some few small at t ey moved er e =
       let here : i - 1 + 1 ≡ i = omega arith in
-      let stands = subst (λ (j : ℕ). Stands s d m j reg₁) here (stands-next s m d (i - 1) small (omega arith) at moved) in
-      rw er (comes stands (λ z f. turned-more d (keyAt s m) m x y z i some t (f ∙ ap (round (keyAt s m (place d m i))) (e ∙ ey))))
+      let stands = subst (λ (j : ℕ). RegisterAt s d m j reg₁) here (registerAt-next s m d (i - 1) small (omega arith) at moved) in
+      rw er (comes stands (λ z f. turnDone-more d (roundKeyOf s m) m x y z i some t (f ∙ ap (round (roundKeyOf s m (place d m i))) (e ∙ ey))))
 
-  comes-first : {reg reg₂ : ℕ} {y y₂ : State} → i ≡ 0 → Stands s d m (i - 1) reg → Turned d (keyAt s m) m x i y → reg₂ ≡ reg → y₂ ≡ y → Comes d s m x i reg₂ y₂
+  comes-first : {reg reg₂ : ℕ} {y y₂ : State} → i ≡ 0 → RegisterAt s d m (i - 1) reg → TurnDone d (roundKeyOf s m) m x i y → reg₂ ≡ reg → y₂ ≡ y → Comes d s m x i reg₂ y₂
   comes-first {reg} {y = y} none at t er e =
       let here : i - 1 ≡ i = omega arith in
-      rw er (comes (subst (λ (j : ℕ). Stands s d m j reg) here at)
-      (λ z f. turned-one d (keyAt s m) m x y z i none t (f ∙ ap (round (keyAt s m (place d m i))) e)))
+      rw er (comes (subst (λ (j : ℕ). RegisterAt s d m j reg) here at)
+      (λ z f. turnDone-one d (roundKeyOf s m) m x y z i none t (f ∙ ap (round (roundKeyOf s m (place d m i))) e)))
 
 abbrev Inv-loop : tie.InvT-loop
-Inv-loop sealing s rounds reg₀ y₀ i₀ reg y i = (i ≤ rounds) × Stands s sealing rounds (i - 1) reg × Turned sealing (keyAt s rounds) rounds y₀ i y
+Inv-loop sealing s rounds reg₀ y₀ i₀ reg y i = (i ≤ rounds) × RegisterAt s sealing rounds (i - 1) reg × TurnDone sealing (roundKeyOf s rounds) rounds y₀ i y
 
 abbrev μ-loop : tie.MeasureT-loop
 μ-loop sealing s rounds reg₀ y₀ i₀ reg y i = rounds - i
@@ -54,7 +54,7 @@ abbrev μ-loop : tie.MeasureT-loop
 loop-holds : tie.Need-loop-holds Inv-loop μ-loop
 loop-holds c =
     let a = c .before .args in
-    (search needs, c .first .ensures, turned-none (a .sealing) (keyAt (a .s) (a .rounds)) (a .rounds) (a .x))
+    (search needs, c .first .ensures, turnDone-none (a .sealing) (roundKeyOf (a .s) (a .rounds)) (a .rounds) (a .x))
 
 -- where the round comes, whether or not the register was moved for it: the register stands at its round key, and the round makes one more
 round-comes : (c : tie.Joined1 Inv-loop μ-loop) → Comes (c .before .before .before .before .args .sealing) (c .before .before .before .before .args .s)
@@ -80,7 +80,7 @@ returns : tie.Need-returns Inv-loop μ-loop
 returns c =
     let at = c .before in
     let a = at .before .before .args in
-    turned-all (a .sealing) (keyAt (a .s) (a .rounds)) (a .rounds) (a .x) (at .loop .y) (search needs) (search needs) (at .loop .inv .2)
+    turnDone-all (a .sealing) (roundKeyOf (a .s) (a .rounds)) (a .rounds) (a .x) (at .loop .y) (search needs) (search needs) (at .loop .inv .2)
 
 pub turned-spec : {M : Type 1} → statement M
 turned-spec =

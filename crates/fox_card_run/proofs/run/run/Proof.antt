@@ -8,11 +8,11 @@ use Prim.Native.Nat.{ℕ}
 use native.Mathlib.Omega.{arith}
 use Rattle.fox_rounds.specs.declared.state.State.{State}
 use Rattle.fox_schedule.specs.Schedule.{roundKeys}
-use Rattle.fox_schedule.proofs.Laws.Schedules.{roundKeys-made}
+use Rattle.fox_schedule.proofs.Laws.Schedules.{roundKeys-scheduled}
 use Rattle.fox_refusals.proofs.Laws.Refusals.{stretched}
 use Rattle.fox_refusals.proofs.Laws.Reply.{served-reply, refused-reply}
 use Rattle.fox_block.proofs.Laws.Block.{rounds-whole}
-use Rattle.fox_run.specs.Run.{addedFrom}
+use Rattle.fox_run.specs.Run.{xorFrom}
 use Rattle.fox_run.specs.States.{stream}
 use Rattle.fox_run.proofs.Laws.Streams.{run-streamed}
 use Rattle.fox_card_run.proofs.run.run.Statement.{statement}
@@ -32,8 +32,8 @@ read-requires c κs =
     let at = c .before in
     stretched _ _ _ _ _ _ _ (sym (at .before .for-run .ensures) ∙ at .if1 .left) .counter
 
-lay-requires : tie.Need-lay-requires
-lay-requires c κs =
+stretch-requires : tie.Need-stretch-requires
+stretch-requires c κs =
     let at = c .before .before .before in
     let known = stretched _ _ _ _ _ _ _ (sym (at .before .for-run .ensures) ∙ at .if1 .left) in
     (omega (arith, known .keyed .low, known .keyed .high), known .end, known .output)
@@ -47,15 +47,15 @@ returns-2 c =
     let a = at .before .before .before .before .before .before .args in
     let zero = sym (at .before .for-run .ensures) ∙ at .if1 .left in
     let known = stretched _ _ _ _ _ _ _ zero in
-    served-reply _ _ _ _ _ zero (c .served .ensures .0) (c .served .ensures .1 ∙ laid .lay .kept .1 .1 .1 .1 .1 .0)
-    (laid .lay .ensures
-    ∙ ap₂ (λ (ks : List ℕ) (x : State). addedFrom (stream ks x) (a .offset) (a .input .now))
-    (sym (roundKeys-made (a .cipher) _ (a .key .now) (of .of .result) (of .of .ensures))
+    served-reply _ _ _ _ _ zero (c .served .ensures .0) (c .served .ensures .1 ∙ laid .stretch .kept .1 .1 .1 .1 .1 .0)
+    (laid .stretch .ensures
+    ∙ ap₂ (λ (ks : List ℕ) (x : State). xorFrom (stream ks x) (a .offset) (a .input .now))
+    (sym (roundKeys-scheduled (a .cipher) _ (a .key .now) (of .of .result) (of .of .ensures))
     ∙ ap (λ (n : ℕ). roundKeys (a .cipher) n (a .key .now)) (rounds-whole (known .keyed)))
     (read .read .ensures)
     ∙ run-streamed (a .cipher) (roundKeys (a .cipher) (a .rounds) (a .key .now)) (a .counter .now) (a .offset) (a .input .now) (known .counter))
 
 pub run-spec : {M : Type 1} → statement M
 run-spec =
-    tie.close (tie.spec (λ c κs. search needs) (λ c κs. search needs) returns of-requires read-requires (λ c. search needs) lay-requires
+    tie.close (tie.spec (λ c κs. search needs) (λ c κs. search needs) returns of-requires read-requires (λ c. search needs) stretch-requires
     (λ c κs. search needs) (λ c. search needs) returns-2)

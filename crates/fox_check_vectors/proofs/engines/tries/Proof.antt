@@ -1,4 +1,4 @@
--- `ways::tries` is safe: the output that it lends is as long as what is to be put out.
+-- `engines::tries` is safe: the output that it lends is as long as what is to be put out.
 -- Assumes nothing.
 use mathlib.Core.Path.{sym}
 use lib.Seq.{length-take-le}

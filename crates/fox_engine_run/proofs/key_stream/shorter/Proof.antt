@@ -1,4 +1,4 @@
--- `pads::shorter` meets its contract, by its test.
+-- `key_stream::shorter` meets its contract, by its test.
 -- Assumes nothing.
 use mathlib.Core.Path.{refl}
 use mathlib.Core.Logic.{inl, inr}

@@ -8,7 +8,7 @@ use Rattle.fox_key_mixing.specs.declared.key_bytes.Key32.{Key32}
 use Rattle.fox_key_mixing.specs.KeyBytes.{bytes16, bytes32}
 use Rattle.fox_register.specs.Register.{clocked, iterate}
 use Rattle.fox_key_mixing.specs.Diversification.{dkey, groups}
-use Rattle.fox_key_mixing.proofs.Laws.KeyBytes.{sum-bytes32, sum-surplus, length-bytes32}
+use Rattle.fox_key_mixing.proofs.Laws.KeyBytes.{xorEach-bytes32, xorEach-surplus, length-bytes32}
 use Rattle.fox_key_mixing.proofs.Laws.Stream.{eleven}
 use borrow.Author.Needs.{needs}
 use Rattle.fox_key_mixing.proofs.diversification.dkey32.Statement.{statement}
@@ -26,8 +26,8 @@ returns c =
     let left = drop 2 (split 3 (iterate 5 clocked (f .result .last))) in
     let all = eleven (a .reg) (f .result .last) xs (bytes16 (g .result)) left (f .ensures .1) (f .ensures .0) (g .ensures) in
     let cut = append-assoc xs (split 8 (g .result .a)) (split 8 (g .result .b)) in
-    let more = sum-surplus (bytes32 (a .m)) (bytes32 row) left (length-bytes32 (a .m) ∙ sym (length-bytes32 row)) in
-    sum-bytes32 (a .m) row ∙ rw (length-bytes32 (a .m), ← all, ← cut) (sym more)
+    let more = xorEach-surplus (bytes32 (a .m)) (bytes32 row) left (length-bytes32 (a .m) ∙ sym (length-bytes32 row)) in
+    xorEach-bytes32 (a .m) row ∙ rw (length-bytes32 (a .m), ← all, ← cut) (sym more)
 
 pub dkey32-spec : {M : Type 1} → statement M
 dkey32-spec = tie.close (tie.spec (λ c κs. search needs) (λ c κs. search needs) returns)

@@ -1,4 +1,4 @@
--- `held::load16` meets its contract: two words of eight bytes in a row are the first sixteen bytes.
+-- `key_bytes::load16` meets its contract: two words of eight bytes in a row are the first sixteen bytes.
 -- Assumes nothing.
 use borrow.Author.Needs.{needs}
 use lib.Seq.{take-add}

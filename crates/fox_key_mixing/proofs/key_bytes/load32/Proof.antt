@@ -1,4 +1,4 @@
--- `held::load32` meets its contract: four words of eight bytes in a row are the first thirty-two bytes.
+-- `key_bytes::load32` meets its contract: four words of eight bytes in a row are the first thirty-two bytes.
 -- Assumes nothing.
 use borrow.Author.Needs.{needs}
 use lib.Seq.{take-add}

@@ -1,4 +1,4 @@
--- `small_boxes::sbox` meets its contract: it takes the definition's steps in the definition's order. Each index and the last sum rest on the
+-- `substitution::sbox` meets its contract: it takes the definition's steps in the definition's order. Each index and the last sum rest on the
 -- halves staying below 16, which is tested over all bytes.
 -- Assumes nothing.
 use mathlib.Core.Path.{refl}

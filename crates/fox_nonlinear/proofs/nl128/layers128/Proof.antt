@@ -2,7 +2,7 @@
 -- Assumes nothing.
 use mathlib.Core.Path.{sym, ap, _∙_}
 use mathlib.Core.List.{[], _∷_}
-use Rattle.fox_layers.specs.Words.{sum}
+use Rattle.fox_layers.specs.Words.{xorEach}
 use Rattle.fox_layers.specs.Diffusion.{mu8}
 use Rattle.fox_nonlinear.specs.Nonlinear.{mix64, mix128, layers}
 use Rattle.fox_nonlinear.proofs.Laws.KeyWords.{words32}
@@ -11,7 +11,7 @@ use Rattle.fox_nonlinear.proofs.nl128.layers128.Statement.{statement}
 use Rattle.fox_nonlinear.proofs.nl128.layers128.Tie as tie
 
 returns : tie.Need-returns
-unfolding mix64 mix128 sum
+unfolding mix64 mix128 xorEach
 returns c =
     let c4 = c .before .before .before .before in
     let start = c4 .before .before .before .before in

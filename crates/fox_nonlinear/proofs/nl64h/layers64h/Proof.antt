@@ -3,7 +3,7 @@
 use borrow.Author.Needs.{needs}
 use mathlib.Core.Path.{sym, ap, _∙_}
 use mathlib.Core.List.{[], _∷_}
-use Rattle.fox_layers.specs.Words.{sum}
+use Rattle.fox_layers.specs.Words.{xorEach}
 use Rattle.fox_layers.specs.Diffusion.{mu4}
 use Rattle.fox_nonlinear.specs.Nonlinear.{mix64h, layers}
 use Rattle.fox_nonlinear.proofs.Laws.KeyWords.{halves32}
@@ -12,7 +12,7 @@ use Rattle.fox_nonlinear.proofs.nl64h.layers64h.Statement.{statement}
 use Rattle.fox_nonlinear.proofs.nl64h.layers64h.Tie as tie
 
 returns : tie.Need-returns
-unfolding mix64h sum
+unfolding mix64h xorEach
 returns c =
     let c4 = c .before .before .before .before in
     let c8 = c4 .before .before .before .before in

@@ -3,14 +3,14 @@
 use mathlib.Core.Path.{refl, ap, ap₂, _∙_}
 use Prim.Native.Nat.{ℕ}
 use mathlib.Core.List.{[], _∷_}
-use Rattle.fox_refusals.specs.Refusals.{orElse, differs, forKey, forBlock, noCipher, noRounds, longKey, noBlock, noOutput}
+use Rattle.fox_refusals.specs.Refusals.{orElse, differs, forKey, forBlock, wrongCipher, wrongRounds, longKey, wrongBlockLength, wrongOutputLength}
 use Rattle.fox_refusals.proofs.Laws.Refusals.{numbered, chain, chained}
 use borrow.Author.Needs.{needs}
 use Rattle.fox_refusals.proofs.refusals.for_block.Statement.{statement}
 use Rattle.fox_refusals.proofs.refusals.for_block.Tie as tie
 
 returns : tie.Need-returns
-unfolding numbered chain forKey forBlock noCipher noRounds longKey noBlock noOutput
+unfolding numbered chain forKey forBlock wrongCipher wrongRounds longKey wrongBlockLength wrongOutputLength
 returns c =
     let of-block = c .before in
     let size = of-block .before in
@@ -19,7 +19,7 @@ returns c =
     c .or-else2 .ensures
     ∙ ap (λ (r : ℕ). orElse r (differs (a .out-len) (a .block-len)) 6)
     (of-block .or-else .ensures ∙ ap₂ (λ (r b : ℕ). orElse r (differs (a .block-len) b) 4) (key .for-key .ensures) (size .block-size .ensures))
-    ∙ chained (forKey (a .cipher) (a .rounds) (a .key-len)) (noBlock (a .cipher) (a .block-len) ∷ noOutput (a .block-len) (a .out-len) ∷ []) refl
+    ∙ chained (forKey (a .cipher) (a .rounds) (a .key-len)) (wrongBlockLength (a .cipher) (a .block-len) ∷ wrongOutputLength (a .block-len) (a .out-len) ∷ []) refl
 
 pub for-block-spec : {M : Type 1} → statement M
 for-block-spec = tie.close (tie.spec (λ c κs. search needs) (λ c κs. search needs) (λ c κs. search needs) (λ c κs. search needs) returns)

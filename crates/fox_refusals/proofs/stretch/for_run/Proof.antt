@@ -3,14 +3,14 @@
 use mathlib.Core.Path.{refl, ap, ap₂, _∙_}
 use mathlib.Core.Bool.{Bool}
 use Prim.Native.Nat.{ℕ}
-use Rattle.fox_refusals.specs.Refusals.{orElse, above, differs, forKey, forStretch, forRun, noCipher, noRounds, longKey, noBlock, longData, noOutput, pastEnd}
+use Rattle.fox_refusals.specs.Refusals.{orElse, above, differs, forKey, forStretch, forRun, wrongCipher, wrongRounds, longKey, wrongBlockLength, longData, wrongOutputLength, pastEnd}
 use Rattle.fox_refusals.proofs.Laws.Refusals.{numbered, chain, chained}
 use borrow.Author.Needs.{needs}
 use Rattle.fox_refusals.proofs.stretch.for_run.Statement.{statement}
 use Rattle.fox_refusals.proofs.stretch.for_run.Tie as tie
 
 returns : tie.Need-returns
-unfolding numbered chain forKey forStretch forRun noCipher noRounds longKey noBlock longData noOutput pastEnd
+unfolding numbered chain forKey forStretch forRun wrongCipher wrongRounds longKey wrongBlockLength longData wrongOutputLength pastEnd
 returns c =
     let past = c .before in
     let of-output = past .before in

@@ -10,14 +10,14 @@ use Rattle.fox_rounds.proofs.Laws.Halves.{left-div}
 use Rattle.fox_rounds.proofs.fox64.io.Statement.{statement}
 use Rattle.fox_rounds.proofs.fox64.io.Tie as tie
 
-sum-lt : (c : tie.Start) → (c .args .w / 65536 ⊕ c .args .w % 65536) < 65536
-sum-lt c = xor-lt 16 (c .args .w / 65536) (c .args .w % 65536) (omega arith) (omega arith)
+halves-xor-lt : (c : tie.Start) → (c .args .w / 65536 ⊕ c .args .w % 65536) < 65536
+halves-xor-lt c = xor-lt 16 (c .args .w / 65536) (c .args .w % 65536) (omega arith) (omega arith)
 
 mul-result : tie.Need-mul-result
-mul-result c = omega (arith, sum-lt c)
+mul-result c = omega (arith, halves-xor-lt c)
 
 add-result : tie.Need-add-result
-add-result c = omega (arith, sum-lt c)
+add-result c = omega (arith, halves-xor-lt c)
 
 returns : tie.Need-returns
 unfolding io right

@@ -7,7 +7,7 @@ use Rattle.fox_refusals.proofs.Laws.Refusals.{blocked}
 use Rattle.fox_refusals.proofs.Laws.Reply.{served-reply, refused-reply}
 use Rattle.fox_block.proofs.Laws.Block.{size-64, size-128}
 use Rattle.fox_server_block.proofs.Laws.Ready.{ready}
-use Rattle.fox_server_key.proofs.Laws.RoundKeys.{held-turned-64, held-turned-128}
+use Rattle.fox_server_key.proofs.Laws.RoundKeys.{turned-in-64, turned-in-128}
 use Rattle.fox_server_block.proofs.block.turn.Statement.{statement}
 use Rattle.fox_server_block.proofs.block.turn.Tie as tie
 
@@ -31,7 +31,7 @@ returns-2 c =
     let a = at .before .before .before .before .args in
     served-reply _ _ _ _ _ (sym (at .before .for-block .ensures) ∙ at .if1 .left) (c .served .ensures .0)
     (c .served .ensures .1 ∙ block .block64 .kept .1 .1 .1 .1 .0)
-    (block .block64 .ensures ∙ held-turned-64 (a .sealing) (a .p) (a .block .now) (test .if2 .taken))
+    (block .block64 .ensures ∙ turned-in-64 (a .sealing) (a .p) (a .block .now) (test .if2 .taken))
 
 block128-requires : tie.Need-block128-requires
 block128-requires c κs =
@@ -47,7 +47,7 @@ returns-3 c =
     let a = at .before .before .before .before .args in
     served-reply _ _ _ _ _ (sym (at .before .for-block .ensures) ∙ at .if1 .left) (c .served2 .ensures .0)
     (c .served2 .ensures .1 ∙ block .block128 .kept .1 .1 .1 .1 .0)
-    (block .block128 .ensures ∙ held-turned-128 (a .sealing) (a .p) (a .block .now) (test .if2 .left))
+    (block .block128 .ensures ∙ turned-in-128 (a .sealing) (a .p) (a .block .now) (test .if2 .left))
 
 pub turn-spec : {M : Type 1} → statement M
 turn-spec =

@@ -8,15 +8,15 @@ use Prim.Native.Nat.{ℕ, _-_, _≤_}
 use Rattle.fox_rounds.specs.Rounds.{left, right}
 use Rattle.fox_rounds.specs.Skeleton.{numbered, place}
 use Rattle.fox_rounds.proofs.Laws.Halves.{left-pair, right-pair}
-use Rattle.fox_schedule.specs.Step.{keyAt, Stands}
-use Rattle.fox_schedule.proofs.Laws.RegisterAt.{stands-on, stands-key}
+use Rattle.fox_schedule.specs.Step.{roundKeyOf, RegisterAt}
+use Rattle.fox_schedule.proofs.Laws.RegisterAt.{registerAt-on, registerAt-key}
 use Rattle.fox_server_key.specs.Prepared.{inHalves, filled}
 use Rattle.fox_server_key.proofs.Laws.Filled.{filled-128}
 use Rattle.fox_server_key.proofs.prepared.fill128.Statement.{statement}
 use Rattle.fox_server_key.proofs.prepared.fill128.Tie as tie
 
 abbrev Inv-loop : tie.InvT-loop
-Inv-loop s rounds keys₀ reg₀ i₀ keys reg i = (i ≤ rounds) × Stands s true rounds i reg × (keys ≡ filled (inHalves (numbered (keyAt s rounds) i 0)))
+Inv-loop s rounds keys₀ reg₀ i₀ keys reg i = (i ≤ rounds) × RegisterAt s true rounds i reg × (keys ≡ filled (inHalves (numbered (roundKeyOf s rounds) i 0)))
 
 abbrev μ-loop : tie.MeasureT-loop
 μ-loop s rounds keys₀ reg₀ i₀ keys reg i = rounds - i
@@ -32,10 +32,10 @@ loop-again c =
     let a = at .before .before .args in
     let l = c .before .round-key .result .left in
     let r = c .before .round-key .result .right in
-    let made = c .before .round-key .ensures .whole ∙ stands-key (a .s) (a .rounds) true (at .loop .i) (at .loop .inv .1) in (
+    let made = c .before .round-key .ensures .whole ∙ registerAt-key (a .s) (a .rounds) true (at .loop .i) (at .loop .inv .1) in (
       search needs,
-      stands-on (a .s) (a .rounds) (at .loop .i) (at .loop .inv .1) (c .next .ensures),
-      filled-128 (keyAt (a .s) (a .rounds)) (at .loop .i) l r (at .loop .keys) (search needs)
+      registerAt-on (a .s) (a .rounds) (at .loop .i) (at .loop .inv .1) (c .next .ensures),
+      filled-128 (roundKeyOf (a .s) (a .rounds)) (at .loop .i) l r (at .loop .keys) (search needs)
           (sym (left-pair 64 l r (search needs) (search needs)) ∙ ap (left 64) made) (sym (right-pair 64 l r (search needs)) ∙ ap (right 64) made) (at .loop .inv .2),
     )
 
@@ -44,7 +44,7 @@ returns c =
     let at = c .before in
     let a = at .before .before .args in
     let all : at .loop .i ≡ a .rounds = search needs in
-    at .loop .inv .2 ∙ ap (λ (n : ℕ). filled (inHalves (numbered (keyAt (a .s) (a .rounds)) n 0))) all
+    at .loop .inv .2 ∙ ap (λ (n : ℕ). filled (inHalves (numbered (roundKeyOf (a .s) (a .rounds)) n 0))) all
 
 pub fill128-spec : {M : Type 1} → statement M
 fill128-spec =

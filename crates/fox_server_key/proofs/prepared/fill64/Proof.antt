@@ -6,16 +6,16 @@ use mathlib.Core.Path.{_≡_, refl, ap, _∙_}
 use mathlib.Core.Bool.{true}
 use Prim.Native.Nat.{ℕ, _-_, _≤_}
 use Rattle.fox_rounds.specs.Skeleton.{numbered, place}
-use Rattle.fox_schedule.specs.Step.{keyAt, Stands}
-use Rattle.fox_schedule.proofs.Laws.RegisterAt.{stands-on, stands-key}
-use Rattle.fox_schedule.proofs.Laws.Schedules.{right-made}
+use Rattle.fox_schedule.specs.Step.{roundKeyOf, RegisterAt}
+use Rattle.fox_schedule.proofs.Laws.RegisterAt.{registerAt-on, registerAt-key}
+use Rattle.fox_schedule.proofs.Laws.Schedules.{right-roundKeyAt}
 use Rattle.fox_server_key.specs.Prepared.{filled}
 use Rattle.fox_server_key.proofs.Laws.Filled.{filled-64}
 use Rattle.fox_server_key.proofs.prepared.fill64.Statement.{statement}
 use Rattle.fox_server_key.proofs.prepared.fill64.Tie as tie
 
 abbrev Inv-loop : tie.InvT-loop
-Inv-loop s rounds keys₀ reg₀ i₀ keys reg i = (i ≤ rounds) × Stands s true rounds i reg × (keys ≡ filled (numbered (keyAt s rounds) i 0))
+Inv-loop s rounds keys₀ reg₀ i₀ keys reg i = (i ≤ rounds) × RegisterAt s true rounds i reg × (keys ≡ filled (numbered (roundKeyOf s rounds) i 0))
 
 abbrev μ-loop : tie.MeasureT-loop
 μ-loop s rounds keys₀ reg₀ i₀ keys reg i = rounds - i
@@ -31,9 +31,9 @@ loop-again c =
     let a = at .before .before .args in
     let key = c .before .round-key .ensures in (
       search needs,
-      stands-on (a .s) (a .rounds) (at .loop .i) (at .loop .inv .1) (c .next .ensures),
-      filled-64 (keyAt (a .s) (a .rounds)) (at .loop .i) (c .before .round-key .result .right) (at .loop .keys) (search needs)
-          (right-made key (at .before .before .pre .0) ∙ stands-key (a .s) (a .rounds) true (at .loop .i) (at .loop .inv .1)) (at .loop .inv .2),
+      registerAt-on (a .s) (a .rounds) (at .loop .i) (at .loop .inv .1) (c .next .ensures),
+      filled-64 (roundKeyOf (a .s) (a .rounds)) (at .loop .i) (c .before .round-key .result .right) (at .loop .keys) (search needs)
+          (right-roundKeyAt key (at .before .before .pre .0) ∙ registerAt-key (a .s) (a .rounds) true (at .loop .i) (at .loop .inv .1)) (at .loop .inv .2),
     )
 
 returns : tie.Need-returns Inv-loop μ-loop
@@ -41,7 +41,7 @@ returns c =
     let at = c .before in
     let a = at .before .before .args in
     let all : at .loop .i ≡ a .rounds = search needs in
-    at .loop .inv .2 ∙ ap (λ (n : ℕ). filled (numbered (keyAt (a .s) (a .rounds)) n 0)) all
+    at .loop .inv .2 ∙ ap (λ (n : ℕ). filled (numbered (roundKeyOf (a .s) (a .rounds)) n 0)) all
 
 pub fill64-spec : {M : Type 1} → statement M
 fill64-spec =

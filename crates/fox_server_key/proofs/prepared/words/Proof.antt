@@ -4,7 +4,7 @@ use borrow.Author.Needs.{needs}
 use mathlib.Core.Path.{sym, ap, _∙_}
 use mathlib.Core.List.{List}
 use Prim.Native.Nat.{ℕ}
-use Rattle.fox_schedule.proofs.Laws.Schedules.{roundKeys-made, scheduled-narrow}
+use Rattle.fox_schedule.proofs.Laws.Schedules.{roundKeys-scheduled, scheduled-narrow}
 use Rattle.fox_server_key.specs.Prepared.{inHalves, filled}
 use Rattle.fox_server_key.proofs.Laws.RoundKeys.{preparedWords-64, preparedWords-128}
 use Rattle.fox_server_key.proofs.prepared.words.Statement.{statement}
@@ -21,7 +21,7 @@ returns c =
     let of = test .before in
     let a = of .before .before .args in
     c .fill64 .ensures
-    ∙ ap filled (sym (roundKeys-made (a .cipher) (a .rounds) (a .key .now) (of .of .result) (of .of .ensures)))
+    ∙ ap filled (sym (roundKeys-scheduled (a .cipher) (a .rounds) (a .key .now) (of .of .result) (of .of .ensures)))
     ∙ sym (preparedWords-64 (a .cipher) (a .rounds) (a .key .now) (test .if1 .taken))
 
 returns-2 : tie.Need-returns-2
@@ -30,7 +30,7 @@ returns-2 c =
     let of = test .before in
     let a = of .before .before .args in
     c .fill128 .ensures
-    ∙ ap (λ (ks : List ℕ). filled (inHalves ks)) (sym (roundKeys-made (a .cipher) (a .rounds) (a .key .now) (of .of .result) (of .of .ensures)))
+    ∙ ap (λ (ks : List ℕ). filled (inHalves ks)) (sym (roundKeys-scheduled (a .cipher) (a .rounds) (a .key .now) (of .of .result) (of .of .ensures)))
     ∙ sym (preparedWords-128 (a .cipher) (a .rounds) (a .key .now) (test .if1 .left))
 
 pub words-spec : {M : Type 1} → statement M

@@ -1,4 +1,4 @@
--- `lent128::elmid128` meets its contract: over the tables that it asks to be lent, the look-ups are the round function's steps, the last of them half by half, and
+-- `fox128::elmid128` meets its contract: over the tables that it asks to be lent, the look-ups are the round function's steps, the last of them half by half, and
 -- each half goes onto its two words.
 -- Assumes nothing.
 use borrow.Author.Needs.{needs}
@@ -11,7 +11,7 @@ use Rattle.fox_layers.proofs.Laws.Xor.{xor-lt}
 use Rattle.fox_rounds.specs.Rounds.{f64, elmid128}
 use Rattle.fox_rounds.proofs.Laws.Halves.{left-pair, right-pair}
 use Rattle.fox_rounds.proofs.Laws.Rounds.{f-made}
-use Rattle.fox_server_rounds.proofs.Laws.Tables.{lent-sigma8, lent-mu8, halves-added, halves-plus}
+use Rattle.fox_server_rounds.proofs.Laws.Tables.{tables-sigma8, tables-mu8, halves-xored, halves-xor128}
 use Rattle.fox_server_rounds.proofs.fox128.elmid128.Statement.{statement}
 use Rattle.fox_server_rounds.proofs.fox128.elmid128.Tie as tie
 
@@ -24,8 +24,8 @@ returns c =
     let second = c .before .before .before .before in
     let first = second .before in
     let mixed = first .before in
-    let summed = mixed .before in
-    let start = summed .before in
+    let xorOver = mixed .before in
+    let start = xorOver .before in
     let a = start .args in
     let k = a .k in
     let l = a .l in
@@ -35,11 +35,11 @@ returns c =
     let low : p < 2 ^ 32 = search needs in
     let high : q < 2 ^ 32 = search needs in
     let kh : k / 2 ^ 32 < 2 ^ 32 = omega (arith, start .fits .k .fits) in
-    let made = f-made 8 mu8 (summed .sums .result) (k * 2 ^ 64 + l) (left-pair 64 k l (start .fits .k .fits) (start .fits .l .fits))
-    (right-pair 64 k l (start .fits .l .fits)) (mixed .pick8 .ensures ∙ lent-mu8 (start .pre) _)
-    (ap₂ (λ (x y : ℕ). x * 2 ^ 32 + y) (first .pick4 .ensures) (second .pick42 .ensures) ∙ lent-sigma8 (start .pre) m) in
-    halves-plus (p ⊕ k / 2 ^ 32) (q ⊕ k % 2 ^ 32) _ (a .x) (xor-lt 32 p (k / 2 ^ 32) low kh) (xor-lt 32 q (k % 2 ^ 32) high (omega arith))
-    (sym (ap (λ (x : ℕ). f64 x (k * 2 ^ 64 + l)) (summed .sums .ensures)) ∙ sym made ∙ halves-added p q k low high)
+    let made = f-made 8 mu8 (xorOver .round-input .result) (k * 2 ^ 64 + l) (left-pair 64 k l (start .fits .k .fits) (start .fits .l .fits))
+    (right-pair 64 k l (start .fits .l .fits)) (mixed .pick8 .ensures ∙ tables-mu8 (start .pre) _)
+    (ap₂ (λ (x y : ℕ). x * 2 ^ 32 + y) (first .pick4 .ensures) (second .pick42 .ensures) ∙ tables-sigma8 (start .pre) m) in
+    halves-xor128 (p ⊕ k / 2 ^ 32) (q ⊕ k % 2 ^ 32) _ (a .x) (xor-lt 32 p (k / 2 ^ 32) low kh) (xor-lt 32 q (k % 2 ^ 32) high (omega arith))
+    (sym (ap (λ (x : ℕ). f64 x (k * 2 ^ 64 + l)) (xorOver .round-input .ensures)) ∙ sym made ∙ halves-xored p q k low high)
 
 pub elmid128-spec : {M : Type 1} → statement M
 elmid128-spec =

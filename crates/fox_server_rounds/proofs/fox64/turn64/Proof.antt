@@ -1,4 +1,4 @@
--- `lent64::turn64` meets its contract: whenever the loop's test is reached, what the rounds to come make of the state is what all rounds make of the
+-- `fox64::turn64` meets its contract: whenever the loop's test is reached, what the rounds to come make of the state is what all rounds make of the
 -- block. After the loop one round is left.
 -- Assumes nothing.
 use borrow.Author.Needs.{needs}
@@ -8,21 +8,21 @@ use Rattle.fox_rounds.specs.Rounds.{lmid64}
 use Rattle.fox_rounds.specs.Skeleton.{round, between}
 use Rattle.fox_rounds.specs.declared.fox64.Fox64.{Fox64}
 use Rattle.fox_rounds.specs.declared.state.State.the-variants.{Of64}
-use Rattle.fox_rounds.proofs.Laws.Skeleton.{Turning, turning-first, turning-on, turning-last}
-use Rattle.fox_rounds.specs.RoundKeys.{held64}
+use Rattle.fox_rounds.proofs.Laws.Skeleton.{TurnLeft, turnLeft-first, turnLeft-on, turnLeft-last}
+use Rattle.fox_rounds.specs.RoundKeys.{roundKeyIn64}
 use Rattle.fox_server_rounds.proofs.fox64.turn64.Statement.{statement}
 use Rattle.fox_server_rounds.proofs.fox64.turn64.Tie as tie
 
 abbrev Inv-loop : tie.InvT-loop
 Inv-loop sealing s t keys rounds last y₀ i₀ y i =
-    (i ≤ last) × Turning sealing (held64 keys) rounds (Of64 y₀) i (Of64 y)
+    (i ≤ last) × TurnLeft sealing (roundKeyIn64 keys) rounds (Of64 y₀) i (Of64 y)
 
 abbrev μ-loop : tie.MeasureT-loop
 μ-loop sealing s t keys rounds last y₀ i₀ y i = last - i
 
 loop-holds : tie.Need-loop-holds Inv-loop μ-loop
 loop-holds c =
-    (search needs, turning-first (c .args .sealing) (held64 (c .args .keys .now)) (c .args .rounds) (Of64 (c .args .x)))
+    (search needs, turnLeft-first (c .args .sealing) (roundKeyIn64 (c .args .keys .now)) (c .args .rounds) (Of64 (c .args .x)))
 
 lent : tie.Need-lmid64-requires Inv-loop μ-loop
 lent c κs = c .before .before .before .before .pre .0
@@ -31,23 +31,23 @@ lent-2 : tie.Need-lmid64-requires-2 Inv-loop μ-loop
 lent-2 c κs = c .before .before .before .before .pre .0
 
 loop-again : tie.Need-loop-again Inv-loop μ-loop
-unfolding round held64
+unfolding round roundKeyIn64
 loop-again c =
     let at = c .before .before .before .before .before in
     let a = at .before .args in (
       search needs,
-      turning-on (a .sealing) (held64 (a .keys .now)) (a .rounds) (at .loop .i) (Of64 (a .x)) (Of64 (at .loop .y)) (Of64 (c .between .result)) (search needs)
+      turnLeft-on (a .sealing) (roundKeyIn64 (a .keys .now)) (a .rounds) (at .loop .i) (Of64 (a .x)) (Of64 (at .loop .y)) (Of64 (c .between .result)) (search needs)
           (at .loop .inv .1)
-          (c .between .ensures ∙ ap (λ (z : Fox64). between (a .sealing) (Of64 z)) (c .before .lmid64 .ensures ∙ ap (λ (j : ℕ). lmid64 (held64 (a .keys .now) j) (at .loop .y)) (c .before .before .before .place .ensures .0))),
+          (c .between .ensures ∙ ap (λ (z : Fox64). between (a .sealing) (Of64 z)) (c .before .lmid64 .ensures ∙ ap (λ (j : ℕ). lmid64 (roundKeyIn64 (a .keys .now) j) (at .loop .y)) (c .before .before .before .place .ensures .0))),
     )
 
 returns : tie.Need-returns Inv-loop μ-loop
-unfolding round held64
+unfolding round roundKeyIn64
 returns c =
     let at = c .before .before .before .before in
     let a = at .before .args in
-    turning-last (a .sealing) (held64 (a .keys .now)) (a .rounds) (at .loop .i) (Of64 (a .x)) (Of64 (at .loop .y)) (Of64 (c .lmid642 .result)) (search needs)
-    (search needs) (search needs) (at .loop .inv .1) (ap Of64 (c .lmid642 .ensures ∙ ap (λ (j : ℕ). lmid64 (held64 (a .keys .now) j) (at .loop .y)) (c .before .before .place2 .ensures .0)))
+    turnLeft-last (a .sealing) (roundKeyIn64 (a .keys .now)) (a .rounds) (at .loop .i) (Of64 (a .x)) (Of64 (at .loop .y)) (Of64 (c .lmid642 .result)) (search needs)
+    (search needs) (search needs) (at .loop .inv .1) (ap Of64 (c .lmid642 .ensures ∙ ap (λ (j : ℕ). lmid64 (roundKeyIn64 (a .keys .now) j) (at .loop .y)) (c .before .before .place2 .ensures .0)))
 
 pub turn64-spec : {M : Type 1} → statement M
 turn64-spec =

@@ -1,20 +1,20 @@
--- `four128::seal_four128` meets its contract: whenever the loop's test is reached, what the rounds to come make of the four states is what all rounds make
+-- `fox128::seal_four128` meets its contract: whenever the loop's test is reached, what the rounds to come make of the four states is what all rounds make
 -- of the four blocks. After the loop one round is left. Rounds on the four at once are the rounds on each.
 -- Assumes nothing.
 use borrow.Author.Needs.{needs}
 use mathlib.Core.Path.{_∙_}
 use Prim.Native.Nat.{_-_, _≤_}
 use Rattle.fox_rounds.specs.Skeleton.{numbered}
-use Rattle.fox_rounds.proofs.Laws.Skeleton.{Going, going-first, going-on, going-last}
-use Rattle.fox_rounds.specs.RoundKeys.{held128}
+use Rattle.fox_rounds.proofs.Laws.Skeleton.{RoundsLeft, roundsLeft-first, roundsLeft-on, roundsLeft-last}
+use Rattle.fox_rounds.specs.RoundKeys.{roundKeyIn128}
 use Rattle.fox_server_rounds_four.specs.Four.{elmidFour128, orFour128}
-use Rattle.fox_server_rounds_four.proofs.Laws.Four.{four128}
+use Rattle.fox_server_rounds_four.proofs.Laws.Four.{through-four128}
 use Rattle.fox_server_rounds_four.proofs.fox128.seal_four128.Statement.{statement}
 use Rattle.fox_server_rounds_four.proofs.fox128.seal_four128.Tie as tie
 
 abbrev Inv-loop : tie.InvT-loop
 Inv-loop s t keys rounds last y₀ i₀ y i =
-    (i ≤ last) × Going elmidFour128 orFour128 (held128 keys) last y₀ i y
+    (i ≤ last) × RoundsLeft elmidFour128 orFour128 (roundKeyIn128 keys) last y₀ i y
 
 abbrev μ-loop : tie.MeasureT-loop
 μ-loop s t keys rounds last y₀ i₀ y i = last - i
@@ -22,26 +22,26 @@ abbrev μ-loop : tie.MeasureT-loop
 loop-holds : tie.Need-loop-holds Inv-loop μ-loop
 loop-holds c =
     let a = c .args in
-    (search needs, going-first elmidFour128 orFour128 (held128 (a .keys .now)) (a .rounds - 1) (a .x))
+    (search needs, roundsLeft-first elmidFour128 orFour128 (roundKeyIn128 (a .keys .now)) (a .rounds - 1) (a .x))
 
 loop-again : tie.Need-loop-again Inv-loop μ-loop
-unfolding held128
+unfolding roundKeyIn128
 loop-again c =
     let at = c .before .before .before .before in
     let a = at .before .args in (
       search needs,
-      going-on elmidFour128 orFour128 (held128 (a .keys .now)) (a .rounds - 1) (at .loop .i) (a .x) (at .loop .y) (c .elmor-four128 .result) (search needs)
+      roundsLeft-on elmidFour128 orFour128 (roundKeyIn128 (a .keys .now)) (a .rounds - 1) (at .loop .i) (a .x) (at .loop .y) (c .elmor-four128 .result) (search needs)
           (at .loop .inv .1) (c .elmor-four128 .ensures),
     )
 
 returns : tie.Need-returns Inv-loop μ-loop
-unfolding held128
+unfolding roundKeyIn128
 returns c =
     let at = c .before .before .before .before in
     let a = at .before .args in
-    going-last elmidFour128 orFour128 (held128 (a .keys .now)) (a .rounds) (at .loop .i) (a .x) (at .loop .y) (c .elmid-four128 .result) (search needs)
+    roundsLeft-last elmidFour128 orFour128 (roundKeyIn128 (a .keys .now)) (a .rounds) (at .loop .i) (a .x) (at .loop .y) (c .elmid-four128 .result) (search needs)
     (search needs) (search needs) (at .loop .inv .1) (c .elmid-four128 .ensures)
-    ∙ four128 (numbered (held128 (a .keys .now)) (a .rounds) 0) (a .x)
+    ∙ through-four128 (numbered (roundKeyIn128 (a .keys .now)) (a .rounds) 0) (a .x)
 
 pub seal-four128-spec : {M : Type 1} → statement M
 seal-four128-spec =

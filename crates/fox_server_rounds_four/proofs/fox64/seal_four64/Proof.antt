@@ -1,46 +1,46 @@
--- `four64::seal_four64` meets its contract: whenever the loop's test is reached, what the rounds to come make of the four states is what all rounds make
+-- `fox64::seal_four64` meets its contract: whenever the loop's test is reached, what the rounds to come make of the four states is what all rounds make
 -- of the four blocks. After the loop one round is left. Rounds on the four at once are the rounds on each.
 -- Assumes nothing.
 use borrow.Author.Needs.{needs}
 use mathlib.Core.Path.{_∙_}
 use Prim.Native.Nat.{_-_, _≤_}
 use Rattle.fox_rounds.specs.Skeleton.{numbered}
-use Rattle.fox_rounds.proofs.Laws.Skeleton.{Going, going-first, going-on, going-last}
-use Rattle.fox_rounds.specs.RoundKeys.{held64}
+use Rattle.fox_rounds.proofs.Laws.Skeleton.{RoundsLeft, roundsLeft-first, roundsLeft-on, roundsLeft-last}
+use Rattle.fox_rounds.specs.RoundKeys.{roundKeyIn64}
 use Rattle.fox_server_rounds_four.specs.Four.{lmidFour64, orFour64}
-use Rattle.fox_server_rounds_four.proofs.Laws.Four.{four64}
+use Rattle.fox_server_rounds_four.proofs.Laws.Four.{through-four64}
 use Rattle.fox_server_rounds_four.proofs.fox64.seal_four64.Statement.{statement}
 use Rattle.fox_server_rounds_four.proofs.fox64.seal_four64.Tie as tie
 
 abbrev Inv-loop : tie.InvT-loop
 Inv-loop s t keys rounds last y₀ i₀ y i =
-    (i ≤ last) × Going lmidFour64 orFour64 (held64 keys) last y₀ i y
+    (i ≤ last) × RoundsLeft lmidFour64 orFour64 (roundKeyIn64 keys) last y₀ i y
 
 abbrev μ-loop : tie.MeasureT-loop
 μ-loop s t keys rounds last y₀ i₀ y i = last - i
 
 loop-holds : tie.Need-loop-holds Inv-loop μ-loop
 loop-holds c =
-    (search needs, going-first lmidFour64 orFour64 (held64 (c .args .keys .now)) (c .args .rounds - 1) (c .args .x))
+    (search needs, roundsLeft-first lmidFour64 orFour64 (roundKeyIn64 (c .args .keys .now)) (c .args .rounds - 1) (c .args .x))
 
 loop-again : tie.Need-loop-again Inv-loop μ-loop
-unfolding held64
+unfolding roundKeyIn64
 loop-again c =
     let at = c .before .before .before in
     let a = at .before .args in (
       search needs,
-      going-on lmidFour64 orFour64 (held64 (a .keys .now)) (a .rounds - 1) (at .loop .i) (a .x) (at .loop .y) (c .lmor-four64 .result) (search needs)
+      roundsLeft-on lmidFour64 orFour64 (roundKeyIn64 (a .keys .now)) (a .rounds - 1) (at .loop .i) (a .x) (at .loop .y) (c .lmor-four64 .result) (search needs)
           (at .loop .inv .1) (c .lmor-four64 .ensures),
     )
 
 returns : tie.Need-returns Inv-loop μ-loop
-unfolding held64
+unfolding roundKeyIn64
 returns c =
     let at = c .before .before .before in
     let a = at .before .args in
-    going-last lmidFour64 orFour64 (held64 (a .keys .now)) (a .rounds) (at .loop .i) (a .x) (at .loop .y) (c .lmid-four64 .result) (search needs)
+    roundsLeft-last lmidFour64 orFour64 (roundKeyIn64 (a .keys .now)) (a .rounds) (at .loop .i) (a .x) (at .loop .y) (c .lmid-four64 .result) (search needs)
     (search needs) (search needs) (at .loop .inv .1) (c .lmid-four64 .ensures)
-    ∙ four64 (numbered (held64 (a .keys .now)) (a .rounds) 0) (a .x)
+    ∙ through-four64 (numbered (roundKeyIn64 (a .keys .now)) (a .rounds) 0) (a .x)
 
 pub seal-four64-spec : {M : Type 1} → statement M
 seal-four64-spec =

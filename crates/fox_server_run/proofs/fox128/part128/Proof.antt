@@ -1,16 +1,16 @@
--- `run128::part128` meets its contract: four blocks where byte n begins one, or a step.
+-- `fox128::part128` meets its contract: four blocks where byte n begins one, or a step.
 -- Assumes nothing.
 use borrow.Author.Needs.{needs}
 use native.Mathlib.Omega.{arith}
 use Rattle.fox_server_run.proofs.fox128.part128.Statement.{statement}
 use Rattle.fox_server_run.proofs.fox128.part128.Tie as tie
 
-four128-requires : tie.Need-four128-requires
-four128-requires c κs =
+four-blocks128-requires : tie.Need-four-blocks128-requires
+four-blocks128-requires c κs =
     let start = c .before .before .before .before .before in
     let pre = start .pre in
     (pre .0, (pre .1 .0, pre .1 .1, omega arith, omega arith, omega arith, omega arith))
 
 pub part128-spec : {M : Type 1} → statement M
 part128-spec =
-    tie.close (tie.spec four128-requires (λ c. search needs) (λ c. search needs) (λ c κs. search needs) (λ c. search needs) (λ c. search needs))
+    tie.close (tie.spec four-blocks128-requires (λ c. search needs) (λ c. search needs) (λ c κs. search needs) (λ c. search needs) (λ c. search needs))

@@ -1,11 +1,11 @@
--- `run128::run128` meets its contract: the tables made here are those that the rounds ask to be lent, and the first counter block is read as it stands.
+-- `fox128::run128` meets its contract: the tables made here are those that the rounds ask to be lent, and the first counter block is read as it stands.
 -- Assumes nothing.
 use mathlib.Core.Path.{ap, _∙_}
 use Rattle.fox_rounds.specs.Skeleton.{numbered}
 use Rattle.fox_rounds.specs.declared.fox128.Fox128.{Fox128}
 use Rattle.fox_rounds.specs.declared.state.State.the-variants.{Of128}
-use Rattle.fox_rounds.specs.RoundKeys.{held128}
-use Rattle.fox_run.specs.Run.{addedFrom}
+use Rattle.fox_rounds.specs.RoundKeys.{roundKeyIn128}
+use Rattle.fox_run.specs.Run.{xorFrom}
 use Rattle.fox_run.specs.States.{stream}
 use borrow.Author.Needs.{needs}
 use Rattle.fox_server_run.proofs.fox128.run128.Statement.{statement}
@@ -16,8 +16,8 @@ returns c =
     let laid = c .before .before in
     let x = laid .before .before .before .before .before .before in
     let a = x .before .before .before .before .args in
-    laid .lay128 .ensures
-    ∙ ap (λ (y : Fox128). addedFrom (stream (numbered (held128 (a .keys .now)) (a .rounds) 0) (Of128 y)) (a .n) (a .input .now)) (x .read128 .ensures)
+    laid .stretch128 .ensures
+    ∙ ap (λ (y : Fox128). xorFrom (stream (numbered (roundKeyIn128 (a .keys .now)) (a .rounds) 0) (Of128 y)) (a .n) (a .input .now)) (x .read128 .ensures)
 
 pub run128-spec : {M : Type 1} → statement M
 run128-spec =

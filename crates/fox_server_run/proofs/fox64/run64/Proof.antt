@@ -1,11 +1,11 @@
--- `run64::run64` meets its contract: the tables made here are those that the rounds ask to be lent, and the first counter block is read as it stands.
+-- `fox64::run64` meets its contract: the tables made here are those that the rounds ask to be lent, and the first counter block is read as it stands.
 -- Assumes nothing.
 use mathlib.Core.Path.{ap, _∙_}
 use Rattle.fox_rounds.specs.Skeleton.{numbered}
 use Rattle.fox_rounds.specs.declared.fox64.Fox64.{Fox64}
 use Rattle.fox_rounds.specs.declared.state.State.the-variants.{Of64}
-use Rattle.fox_rounds.specs.RoundKeys.{held64}
-use Rattle.fox_run.specs.Run.{addedFrom}
+use Rattle.fox_rounds.specs.RoundKeys.{roundKeyIn64}
+use Rattle.fox_run.specs.Run.{xorFrom}
 use Rattle.fox_run.specs.States.{stream}
 use borrow.Author.Needs.{needs}
 use Rattle.fox_server_run.proofs.fox64.run64.Statement.{statement}
@@ -16,8 +16,8 @@ returns c =
     let laid = c .before .before in
     let x = laid .before .before .before .before .before .before in
     let a = x .before .before .before .before .args in
-    laid .lay64 .ensures
-    ∙ ap (λ (y : Fox64). addedFrom (stream (numbered (held64 (a .keys .now)) (a .rounds) 0) (Of64 y)) (a .n) (a .input .now)) (x .read64 .ensures)
+    laid .stretch64 .ensures
+    ∙ ap (λ (y : Fox64). xorFrom (stream (numbered (roundKeyIn64 (a .keys .now)) (a .rounds) 0) (Of64 y)) (a .n) (a .input .now)) (x .read64 .ensures)
 
 pub run64-spec : {M : Type 1} → statement M
 run64-spec =

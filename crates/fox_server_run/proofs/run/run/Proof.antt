@@ -5,7 +5,7 @@ use mathlib.Core.Path.{refl, sym, _∙_}
 use Rattle.fox_refusals.proofs.Laws.Refusals.{stretched}
 use Rattle.fox_refusals.proofs.Laws.Reply.{served-reply, refused-reply}
 use Rattle.fox_block.proofs.Laws.Block.{size-64, size-128}
-use Rattle.fox_server_run.proofs.Laws.Stretch.{ready, held-run-64, held-run-128}
+use Rattle.fox_server_run.proofs.Laws.Stretch.{ready, run-in-64, run-in-128}
 use borrow.Author.Needs.{needs}
 use Rattle.fox_server_run.proofs.run.run.Statement.{statement}
 use Rattle.fox_server_run.proofs.run.run.Tie as tie
@@ -30,7 +30,7 @@ returns-2 c =
     let a = at .before .before .before .before .before .args in
     let zero = sym (at .before .for-run .ensures) ∙ at .if1 .left in
     served-reply _ _ _ _ _ zero (c .served .ensures .0) (c .served .ensures .1 ∙ laid .run64 .kept .1 .1 .1 .1 .1 .0)
-    (laid .run64 .ensures ∙ held-run-64 (a .p) (a .counter .now) (a .offset) (a .input .now) (stretched _ _ _ _ _ _ _ zero .counter) (test .if2 .taken))
+    (laid .run64 .ensures ∙ run-in-64 (a .p) (a .counter .now) (a .offset) (a .input .now) (stretched _ _ _ _ _ _ _ zero .counter) (test .if2 .taken))
 
 run128-requires : tie.Need-run128-requires
 run128-requires c κs =
@@ -46,7 +46,7 @@ returns-3 c =
     let a = at .before .before .before .before .before .args in
     let zero = sym (at .before .for-run .ensures) ∙ at .if1 .left in
     served-reply _ _ _ _ _ zero (c .served2 .ensures .0) (c .served2 .ensures .1 ∙ laid .run128 .kept .1 .1 .1 .1 .1 .0)
-    (laid .run128 .ensures ∙ held-run-128 (a .p) (a .counter .now) (a .offset) (a .input .now) (stretched _ _ _ _ _ _ _ zero .counter) (test .if2 .left))
+    (laid .run128 .ensures ∙ run-in-128 (a .p) (a .counter .now) (a .offset) (a .input .now) (stretched _ _ _ _ _ _ _ zero .counter) (test .if2 .left))
 
 pub run-spec : {M : Type 1} → statement M
 run-spec =

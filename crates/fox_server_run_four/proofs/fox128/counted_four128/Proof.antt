@@ -1,4 +1,4 @@
--- `four128::counted_four128` meets its contract: each of the four is counted on from the first by its own number.
+-- `fox128::counted_four128` meets its contract: each of the four is counted on from the first by its own number.
 -- Assumes nothing.
 use borrow.Author.Needs.{needs}
 use Rattle.fox_server_run_four.proofs.fox128.counted_four128.Statement.{statement}

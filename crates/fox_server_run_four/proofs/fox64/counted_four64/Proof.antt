@@ -1,4 +1,4 @@
--- `four64::counted_four64` meets its contract: each of the four is counted on from the first by its own number.
+-- `fox64::counted_four64` meets its contract: each of the four is counted on from the first by its own number.
 -- Assumes nothing.
 use borrow.Author.Needs.{needs}
 use Rattle.fox_server_run_four.proofs.fox64.counted_four64.Statement.{statement}

@@ -7,7 +7,7 @@ use native.Mathlib.Omega.{arith}
 use lib.ListN.{length, take, getD, length-set}
 use borrow.Author.Needs.{needs}
 use Rattle.fox_layers.specs.Tables.{TBS}
-use Rattle.fox_layers.proofs.Laws.Tables.{TBS-entry, length-TBS, box-entry}
+use Rattle.fox_layers.proofs.Laws.Tables.{TBS-entry, length-TBS, sboxTable-entry}
 use Rattle.fox_server_tables.proofs.Laws.Filled.{entered, filled}
 use Rattle.fox_server_tables.proofs.tbs.tbs.Statement.{statement}
 use Rattle.fox_server_tables.proofs.tbs.tbs.Tie as tie
@@ -27,7 +27,7 @@ loop-again c =
     let i = at .loop .i in
     let inv = at .loop .inv in
     let here : i < 1024 = search needs in
-    let value : c .placed .result ≡ getD (TBS 4) i 0 = cc (box-entry (i % 256) (omega arith), TBS-entry 4 i here) in
+    let value : c .shifted .result ≡ getD (TBS 4) i 0 = cc (sboxTable-entry (i % 256) (omega arith), TBS-entry 4 i here) in
     (search needs, length-set (at .loop .t) i _ ∙ inv .1, entered (TBS 4) (at .loop .t) i _ (omega (arith, length-TBS 4)) (inv .1 ∙ sym (length-TBS 4)) value (inv .2))
 
 returns : tie.Need-returns Inv-loop μ-loop

@@ -3,7 +3,7 @@
 use borrow.Author.Needs.{needs}
 use mathlib.Core.Path.{ap, _∙_}
 use Prim.Native.Nat.{ℕ, _+_, _*_, _^_}
-use Rattle.fox_rounds.specs.Rounds.{f64, plus128, elmid128}
+use Rattle.fox_rounds.specs.Rounds.{f64, xor128, elmid128}
 use Rattle.fox_rounds.proofs.fox128.Fox128.elmid.Statement.{statement}
 use Rattle.fox_rounds.proofs.fox128.Fox128.elmid.Tie as tie
 
@@ -14,8 +14,8 @@ returns c =
     let c2 = c1 .before in
     let a = c2 .before .args in
     let rk = a .k * 2 ^ 64 + a .l in
-    c .plus .ensures
-    ∙ ap (λ (t : ℕ). plus128 t (a .self)) (c1 .f64 .ensures ∙ ap (λ (s : ℕ). f64 s rk) (c2 .sums .ensures))
+    c .xored .ensures
+    ∙ ap (λ (t : ℕ). xor128 t (a .self)) (c1 .f64 .ensures ∙ ap (λ (s : ℕ). f64 s rk) (c2 .round-input .ensures))
 
 pub elmid-spec : {M : Type 1} → statement M
 elmid-spec = tie.close (tie.spec (λ c κs. search needs) (λ c κs. search needs) (λ c κs. search needs) returns)

@@ -1,11 +1,11 @@
--- `step::Schedule::first` meets its contract: the seed, or as many steps on as the last round key takes.
+-- `schedule::Schedule::first` meets its contract: the seed, or as many steps on as the last round key takes.
 -- Assumes nothing.
 use borrow.Author.Needs.{needs}
 use mathlib.Core.Path.{sym, subst}
 use mathlib.Core.Bool.{Bool}
 use native.Mathlib.Omega.{arith}
-use Rattle.fox_schedule.specs.Step.{Stands}
-use Rattle.fox_schedule.proofs.Laws.RegisterAt.{few-steps, stands-first, stands-last}
+use Rattle.fox_schedule.specs.Step.{RegisterAt}
+use Rattle.fox_schedule.proofs.Laws.RegisterAt.{few-steps, registerAt-first, registerAt-last}
 use Rattle.fox_schedule.proofs.schedule.Schedule.first.Statement.{statement}
 use Rattle.fox_schedule.proofs.schedule.Schedule.first.Tie as tie
 
@@ -13,8 +13,8 @@ returns : tie.Need-returns
 returns c =
     let seed = c .before in
     let a = seed .before .args in
-    subst (λ (d : Bool). Stands (a .self) d (a .rounds) 0 (seed .seed .result)) (sym (c .if1 .taken))
-    (stands-first (a .self) (a .rounds) (seed .seed .ensures .0) (seed .seed .ensures .1))
+    subst (λ (d : Bool). RegisterAt (a .self) d (a .rounds) 0 (seed .seed .result)) (sym (c .if1 .taken))
+    (registerAt-first (a .self) (a .rounds) (seed .seed .ensures .0) (seed .seed .ensures .1))
 
 mul-forward : tie.Need-mul-forward
 mul-forward c = record { fits = few-steps _ _ (omega arith) (c .steps .ensures) }
@@ -25,8 +25,8 @@ returns-2 c =
     let test = steps .before in
     let seed = test .before in
     let a = seed .before .args in
-    subst (λ (d : Bool). Stands (a .self) d (a .rounds) 0 (c .forward .result)) (sym (test .if1 .left))
-    (stands-last (a .self) (a .rounds) (steps .steps .ensures) (seed .seed .ensures .0) (c .forward .ensures .0) (c .forward .ensures .1))
+    subst (λ (d : Bool). RegisterAt (a .self) d (a .rounds) 0 (c .forward .result)) (sym (test .if1 .left))
+    (registerAt-last (a .self) (a .rounds) (steps .steps .ensures) (seed .seed .ensures .0) (c .forward .ensures .0) (c .forward .ensures .1))
 
 pub first-spec : {M : Type 1} → statement M
 first-spec =
