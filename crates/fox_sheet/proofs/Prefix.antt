@@ -47,4 +47,4 @@ module _ {s t : List ℕ} (p : Prefix 240 s t) where
       (by-test (eqb (brokenLine t) 0) (λ e. rw (e, same-lines (eqb-true (brokenLine t) 0 e))) (λ e. rw e))
 
 pub answer-of-prefix : (t : List ℕ) (n : ℕ) → 240 ≤ n → answerOf (take n t) ≡ answerOf t
-answer-of-prefix t n h = answer-of-part (record { passing = n; enough = h; is = refl })
+answer-of-prefix t n h = answer-of-part (record { kept = n; enough = h; is = refl })
