@@ -12,19 +12,19 @@ use Rattle.fox_sheet.specs.Answer.{refusalName, brokenText, servedText, 
 use Rattle.fox_sheet.proofs.Laws.{refused-text, served-text}
 
 module _ (t : List ℕ) {before after : List ℕ} {r : ℕ} (call : Answers t before after r) where
-  pub broken-answer : (brokenLine t ≡ 0 → ⊥) → take r after ≡ brokenText (brokenLine t)
+  pub broken-sheet : (brokenLine t ≡ 0 → ⊥) → take r after ≡ brokenText (brokenLine t)
   unfolding answerOf
-  broken-answer isnt = rw (ne-eqb (brokenLine t) 0 isnt) at (call .part)
+  broken-sheet isnt = rw (ne-eqb (brokenLine t) 0 isnt) at (call .part)
 
   module _ (right : brokenLine t ≡ 0) where
-    pub refused-answer : (refusal (valuesOf t) ≡ 0 → ⊥) → take r after ≡ decimalLineText refusalName (refusal (valuesOf t))
+    pub refused-block : (refusal (valuesOf t) ≡ 0 → ⊥) → take r after ≡ decimalLineText refusalName (refusal (valuesOf t))
     unfolding answerOf
-    refused-answer isnt = (rw right at (call .part)) ∙ refused-text (valuesOf t) _ refl isnt
+    refused-block isnt = (rw right at (call .part)) ∙ refused-text (valuesOf t) _ refl isnt
 
-    pub served-answer : refusal (valuesOf t) ≡ 0
+    pub served-block : refusal (valuesOf t) ≡ 0
         → take r after ≡ servedText (valuesOf t .cipher) (valuesOf t .rounds) (length (valuesOf t .key)) (turned (valuesOf t))
     unfolding answerOf
-    served-answer is = (rw right at (call .part)) ∙ served-text (valuesOf t) is
+    served-block is = (rw right at (call .part)) ∙ served-text (valuesOf t) is
 
 pub answers-same : (t : List ℕ) {before₁ before₂ after₁ after₂ : List ℕ} {r₁ r₂ : ℕ} → Answers t before₁ after₁ r₁ → Answers t before₂ after₂ r₂
     → (r₁ ≡ r₂) × (take r₁ after₁ ≡ take r₂ after₂)
