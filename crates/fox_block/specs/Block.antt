@@ -1,4 +1,4 @@
--- Sealing and opening one block, on lists of bytes (001 §2.1), by the round keys of a list, and by those of a key.
+-- Sealing and opening one block, on lists of bytes (001 §2.1): with a given list of round keys, and with the round keys of a key.
 -- Assumes nothing.
 use mathlib.Core.Path.{_≡_}
 use Prim.Native.Nat.{ℕ}
@@ -28,14 +28,14 @@ state128 block =
       rr = joined (take 4 (drop 12 block));
     }
 
--- and back
+-- the bytes of a state, for each cipher
 unfoldable pub bytes64 : Fox64 → List ℕ
 bytes64 x = split 4 (x .l) ++ split 4 (x .r)
 
 unfoldable pub bytes128 : Fox128 → List ℕ
 bytes128 x = split 4 (x .ll) ++ split 4 (x .lr) ++ split 4 (x .rl) ++ split 4 (x .rr)
 
--- a block's bytes as a state of the cipher, 64 or else 128, and back
+-- a block's bytes as a state of the cipher (64, or else 128), and a state's bytes
 unfoldable pub state : ℕ → List ℕ → State
 state cipher block = cond (eqb cipher 64) (Of64 (state64 block)) (Of128 (state128 block))
 
@@ -43,7 +43,7 @@ unfoldable pub bytes : State → List ℕ
 bytes (Of64 x) = bytes64 x
 bytes (Of128 x) = bytes128 x
 
--- a block sealed or opened by the round keys of a list
+-- a block sealed or opened with a list of round keys
 unfoldable pub turnWith : Bool → ℕ → List ℕ → List ℕ → List ℕ
 turnWith sealing cipher rks block = bytes (turned sealing rks (state cipher block))
 
@@ -53,7 +53,7 @@ sealWith = turnWith true
 abbrev pub openWith : ℕ → List ℕ → List ℕ → List ℕ
 openWith = turnWith false
 
--- and by those of a key
+-- a block sealed or opened with the round keys of a key
 abbrev pub turnBlock : Bool → ℕ → ℕ → List ℕ → List ℕ → List ℕ
 turnBlock sealing cipher rounds key block = turnWith sealing cipher (roundKeys cipher rounds key) block
 

@@ -1,4 +1,4 @@
--- One block, sealed and opened: the definition that every way is held to, and 001's test vectors.
+-- One block, sealed and opened: the definition that every engine is held to, and 001's test vectors.
 pub mod Block
 pub mod Promise
 pub mod Vectors

@@ -1,12 +1,12 @@
--- The test vectors of 001 ("Test Vectors"): blocks of FOX64 and of FOX128, and what 16 rounds seal them to, by keys of 8, 16, 24 and 32 bytes. They are
--- values of the specification to hold the definitions to.
+-- The test vectors of 001 ("Test Vectors"): blocks of FOX64 and of FOX128, and what 16 rounds seal them to, with keys of 8, 16, 24 and 32 bytes. The
+-- definitions are compared with these values.
 -- Assumes nothing.
 use mathlib.Core.List.{List, [], _∷_, map}
 use Prim.Native.Nat.{ℕ}
 use lib.ListN.{take}
 use Rattle.fox_block.specs.Block.{sealBlock}
 
--- a shorter key is its beginning
+-- the key of 32 bytes; the shorter keys are its first bytes
 unfoldable pub key : List ℕ
 key =
     0x00 ∷ 0x11 ∷ 0x22 ∷ 0x33 ∷ 0x44 ∷ 0x55 ∷ 0x66 ∷ 0x77 ∷ 0x88 ∷ 0x99 ∷ 0xAA ∷ 0xBB ∷ 0xCC ∷ 0xDD ∷ 0xEE ∷ 0xFF ∷ 0xFF ∷ 0xEE ∷ 0xDD ∷ 0xCC ∷ 0xBB ∷ 0xAA ∷ 0x99 ∷ 0x88 ∷ 0x77 ∷ 0x66 ∷ 0x55 ∷ 0x44 ∷ 0x33 ∷ 0x22 ∷ 0x11 ∷ 0x00 ∷ []
@@ -33,6 +33,6 @@ sealed128 =
     ∷ (0x45 ∷ 0xCC ∷ 0xB1 ∷ 0x03 ∷ 0x0F ∷ 0x67 ∷ 0xB7 ∷ 0x68 ∷ 0x24 ∷ 0x7F ∷ 0x53 ∷ 0x02 ∷ 0x66 ∷ 0xBC ∷ 0x49 ∷ 0x96 ∷ [])
     ∷ []
 
--- a block sealed by a key of each of these lengths
+-- a block sealed with keys of these lengths, one after the other
 abbrev pub sealedBy : ℕ → List ℕ → List ℕ → List (List ℕ)
 sealedBy cipher block lengths = map (λ n. sealBlock cipher 16 (take n key) block) lengths

@@ -4,7 +4,7 @@ use mathlib.Core.List.{[], _∷_}
 use Rattle.fox_text.specs.Ascii.{ascii}
 use Rattle.fox_sheet.specs.Examples.{Sheets}
 
--- each with what is printed for it
+-- each sheet with what is printed for it
 unfoldable pub served : Sheets
 served =
     (ascii "cipher=64\nrounds=16\nkey=00112233445566778899AABBCCDDEEFF\nway=seal\nblock=0123456789ABCDEF\n", "refusal=0\ncipher=64\nrounds=16\nkeybits=128\nblock=B85D6B766DCE952E\n")

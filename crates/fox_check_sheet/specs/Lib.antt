@@ -1,2 +1,2 @@
--- Sheets whose block is served.
+-- Sheets whose block is served, each with what is printed for it.
 pub mod Examples

@@ -1,4 +1,4 @@
--- The bytes that the code's structs hold: a key of 16 bytes in two words, one of 32 bytes in four.
+-- The bytes that the code's key structs hold: a key of 16 bytes in two words, one of 32 bytes in four.
 -- Assumes nothing.
 use Prim.Native.Nat.{ℕ}
 use mathlib.Core.List.{List, _++_}

@@ -16,11 +16,11 @@ pad =
     ∷ 0xA7 ∷ 0x84 ∷ 0xD9 ∷ 0x04 ∷ 0x51 ∷ 0x90 ∷ 0xCF ∷ 0xEF
     ∷ []
 
--- §2.3.5, P: the key, and after it the first bytes of pad, up to ek
+-- §2.3.5, P: the key followed by the first bytes of pad, up to ek bytes
 unfoldable pub padded : ℕ → List ℕ → List ℕ
 padded ek key = key ++ take (ek - length key) pad
 
--- §2.3.7, M: each byte is changed by the two mixed bytes before it, of which y is the nearer
+-- §2.3.7, M: each byte is XORed with the sum, mod 256, of the two mixed bytes before it, x and then y
 unfoldable pub mixed : ℕ → ℕ → List ℕ → List ℕ
 mixed x y [] = []
 mixed x y (p ∷ ps) = (p ⊕ (y + x) % 256) ∷ mixed y (p ⊕ (y + x) % 256) ps

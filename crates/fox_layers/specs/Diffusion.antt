@@ -6,7 +6,7 @@ use lib.ListN.{length}
 use Rattle.fox_layers.specs.Words.{joined, split, xorOver}
 use Rattle.fox_layers.specs.Field.{product}
 
--- a row times a column: the sum of the products, entry by entry
+-- a row times a column: the XOR of the products, entry by entry
 unfoldable pub dot : List ℕ → List ℕ → ℕ
 dot ms xs = xorOver product ms xs
 

@@ -1,4 +1,4 @@
--- What the structs of the code hold, field by field.
+-- What the code's structs hold, field by field.
 -- Assumes nothing.
 use mathlib.Core.Path.{_≡_}
 use Prim.Native.Nat.{ℕ}

@@ -1,11 +1,11 @@
--- The substitution (001 §2.2.6), with the box built from the three small boxes (001 §3.1, Fig. 13).
+-- The substitution (001 §2.2.6), with the S-box built from the three small boxes S1 to S3 (001 §3.1, Fig. 13).
 -- Assumes nothing.
 use Prim.Native.Nat.{ℕ, _+_, _*_, _/_, _%_}
 use mathlib.Core.List.{List, [], _∷_, map}
 use lib.ListN.{getD}
 use Rattle.fox_layers.specs.Words.{_⊕_, joined, split}
 
--- Fig. 13
+-- Fig. 13: the three small boxes
 unfoldable pub S₁ : List ℕ
 S₁ = 0x2 ∷ 0x5 ∷ 0x1 ∷ 0x9 ∷ 0xE ∷ 0xA ∷ 0xC ∷ 0x8 ∷ 0x6 ∷ 0x4 ∷ 0x7 ∷ 0xF ∷ 0xD ∷ 0xB ∷ 0x0 ∷ 0x3 ∷ []
 
@@ -30,18 +30,18 @@ whole h = h .left * 16 + h .right
 unfoldable pub or4 : ℕ → ℕ
 or4 x = x % 4 * 4 + (x / 4 ⊕ x % 4)
 
--- §3.1, by §2.2.1: lmid at eight bits: the small box's value at left ⊕ right is added to both halves
+-- §3.1, by §2.2.1: lmid at eight bits: both halves are XORed with the small box's value at left ⊕ right
 unfoldable pub lmid4 : List ℕ → Halves → Halves
 lmid4 s h = let t = getD s (h .left ⊕ h .right) 0 in record { left = h .left ⊕ t; right = h .right ⊕ t }
 
--- §3.1, by §2.2.1: lmor at eight bits: the same, and "or" on the left half
+-- §3.1, by §2.2.1: lmor at eight bits: lmid, then "or" on the left half
 unfoldable pub lmor4 : List ℕ → Halves → Halves
 lmor4 s h = let k = lmid4 s h in record { left = or4 (k .left); right = k .right }
 
--- §3.1: three rounds, the last without "or"
+-- §3.1: the S-box: three rounds, the last without "or"
 unfoldable pub sbox : ℕ → ℕ
 sbox x = whole (lmid4 S₃ (lmor4 S₂ (lmor4 S₁ (halves x))))
 
--- §2.2.6: sigma4 and sigma8 are sigma at 4 and at 8 bytes: each byte goes through the box
+-- §2.2.6: sigma4 and sigma8 are sigma at 4 and at 8 bytes: each byte goes through the S-box
 unfoldable pub sigma : ℕ → ℕ → ℕ
 sigma n w = joined (map sbox (split n w))

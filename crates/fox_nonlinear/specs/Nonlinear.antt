@@ -13,12 +13,12 @@ use Rattle.fox_rounds.specs.Rounds.{left, right}
 use Rattle.fox_rounds.specs.Skeleton.{seal64, seal128}
 use Rattle.fox_key_mixing.specs.Padding.{pad}
 
--- bytes taken together to k words of n bytes
+-- bytes joined to k words of n bytes
 unfoldable pub words : ℕ → ℕ → List ℕ → List ℕ
 words n zero xs = []
 words n (suc k) xs = joined (take n xs) ∷ words n k (drop n xs)
 
--- §2.3.13 and §2.3.15: each of four words becomes the sum of the three others
+-- §2.3.13 and §2.3.15: each of four words becomes the XOR of the three others
 unfoldable pub mix64 : List ℕ → List ℕ
 mix64 x =
     let x₀ = getD x 0 0 in
@@ -55,7 +55,7 @@ mix64h x =
 unfoldable pub flipped : ℕ → ℕ → ℕ
 flipped n w = w ⊕ (2 ^ (8 * n) - 1)
 
--- Algorithms 7 to 9 up to the hashing layer, on k words of n bytes: substitution, diffusion, mixing, pad, flip, substitution
+-- Algorithms 7 to 9 up to the hashing layer, on k words of n bytes: substitution, diffusion, mixing, XOR with pad, flip, substitution
 unfoldable pub layers : ℕ → ℕ → (ℕ → ℕ) → (List ℕ → List ℕ) → Bool → List ℕ → List ℕ
 layers n k mu mix flip t =
     let added = xorEach (mix (map mu (map (sigma n) t))) (words n k pad) in
@@ -83,7 +83,7 @@ NL64h flip dkey =
     record { l = (getD t 0 0 ⊕ getD t 1 0) ⊕ (getD t 4 0 ⊕ getD t 5 0); r = (getD t 2 0 ⊕ getD t 3 0) ⊕ (getD t 6 0 ⊕ getD t 7 0) } in
     number64 (seal64 (words 8 4 dkey) hashed)
 
--- §2.3.12: the hashing layer takes words of 64 bits, and the round takes their halves
+-- §2.3.12: two words of 64 bits, as the hashing layer gives them, as the state of FOX128
 unfoldable pub parts128 : ℕ → ℕ → Fox128
 parts128 a b =
     record { ll = left 32 a; lr = right 32 a; rl = left 32 b; rr = right 32 b }

@@ -1,4 +1,4 @@
--- The whole answer of a call over the C interface, which hands back the refusal number alone: the count follows from it.
+-- The whole answer of a call over the C interface, which returns the refusal number alone: the count follows from it.
 -- Assumes nothing.
 use mathlib.Core.Path.{_≡_}
 use Prim.Native.Nat.{ℕ}
@@ -12,6 +12,6 @@ pub record Handed (refusals : List Refusal) (value before after : List ℕ) (r :
   pub refusal : r ≡ refusalOf refusals
   pub output : after ≡ cond (eqb (refusalOf refusals) 0) value before
 
--- the answer of a call that handed back the number r and had n bytes of output
+-- the answer of a call that returned the number r and had an output of n bytes
 unfoldable pub answer : ℕ → ℕ → Answer
 answer r n = record { refusal = r; count = cond (eqb r 0) n 0 }

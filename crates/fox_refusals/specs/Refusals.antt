@@ -1,4 +1,4 @@
--- The refusals of 01, "Numbers handed back": each is a number and the test of when it is given, and the first that applies is taken.
+-- The refusals of 01, "Numbers handed back": each is a number and the test of when it is given; the first that applies is taken.
 -- Assumes nothing.
 use Prim.Native.Nat.{ℕ, _+_, _≤_}
 use mathlib.Core.Path.{_≡_}
@@ -21,7 +21,7 @@ pub data First (n : ℕ) : List Refusal → Type 0 where
   here : {x : Refusal} {xs : List Refusal} → x .applies ≡ true → x .number ≡ n → First n (x ∷ xs)
   later : {x : Refusal} {xs : List Refusal} → x .applies ≡ false → First n xs → First n (x ∷ xs)
 
--- the two forms that most tests have: a number is above a limit, and two numbers differ
+-- the two forms that most tests have: a number is above a limit; two numbers differ
 abbrev pub above : ℕ → ℕ → Bool
 above limit n = ltb limit n
 
@@ -60,42 +60,42 @@ wrongOutputLength inputLen outLen = record { number = 6; applies = differs outLe
 unfoldable pub pastEnd : ℕ → ℕ → Refusal
 pastEnd offset inputLen = record { number = 7; applies = above 1073741824 (offset + inputLen) }
 
--- the first refusal so far, and where there is none yet, one test more
+-- one more test in a chain of refusals: an earlier refusal stays, and where there is none this one is given if it applies
 unfoldable pub orElse : ℕ → Bool → ℕ → ℕ
 orElse refusal applies number = cond (eqb refusal 0) (cond applies number 0) refusal
 
--- preparing a key meets only these
+-- the refusals of a call that prepares a key
 unfoldable pub forKey : ℕ → ℕ → ℕ → List Refusal
 forKey cipher rounds keyLen = wrongCipher cipher ∷ wrongRounds rounds ∷ longKey keyLen ∷ []
 
--- one block meets only these, whether it is sealed or opened
+-- the refusals of a call on one block, sealed or opened
 unfoldable pub forBlock : Bool → ℕ → ℕ → ℕ → ℕ → ℕ → List Refusal
 forBlock sealing cipher rounds keyLen blockLen outLen =
     forKey cipher rounds keyLen ++ (wrongBlockLength cipher blockLen ∷ wrongOutputLength blockLen outLen ∷ [])
 
--- the tests of a stretch that come after those of the key
+-- the refusals of a stretch that come after those of the key
 unfoldable pub forStretch : ℕ → ℕ → ℕ → ℕ → ℕ → List Refusal
 forStretch cipher counterLen offset inputLen outLen =
     wrongBlockLength cipher counterLen ∷ longData inputLen ∷ wrongOutputLength inputLen outLen ∷ pastEnd offset inputLen ∷ []
 
--- a stretch of a run meets all seven
+-- the refusals of a call on a stretch of a run: all seven
 unfoldable pub forRun : ℕ → ℕ → ℕ → ℕ → ℕ → ℕ → ℕ → List Refusal
 forRun cipher rounds keyLen counterLen offset inputLen outLen = forKey cipher rounds keyLen ++ forStretch cipher counterLen offset inputLen outLen
 
--- what a call that prepares a key knows where no refusal applies
+-- what a call that prepares a key has where no refusal applies
 pub record Keyed (c r k : ℕ) : Type 0 where
   pub cipher : (c ≡ 64) ⊎ (c ≡ 128)
   pub low : 12 ≤ r
   pub high : r ≤ 255
   pub key : k ≤ 32
 
--- what a call on one block knows where no refusal applies
+-- what a call on one block has where no refusal applies
 pub record Blocked (c r k b o : ℕ) : Type 0 where
   pub keyed : Keyed c r k
   pub block : b ≡ blockSize c
   pub output : o ≡ b
 
--- what a call on a stretch of a run knows where no refusal applies
+-- what a call on a stretch of a run has where no refusal applies
 pub record Stretched (c r k b n d o : ℕ) : Type 0 where
   pub keyed : Keyed c r k
   pub counter : b ≡ blockSize c

@@ -15,24 +15,24 @@ pub record Reply (refusals : List Refusal) (value before after : List ℕ) (r : 
   pub count : r .count ≡ cond (eqb (refusalOf refusals) 0) (length before) 0
   pub output : after ≡ cond (eqb (refusalOf refusals) 0) value before
 
--- the same for a call that writes nothing: the count is 0
+-- the same for a call that writes nothing: its count is always 0
 pub record Verdict (refusals : List Refusal) (r : Answer) : Type 0 where
   pub refusal : r .refusal ≡ refusalOf refusals
   pub count : r .count ≡ 0
 
--- a call that is served: it hands back 0 and a count, and its output is a value
+-- a call that is served: refusal 0, a count, and a value as its output
 pub record Served (n : ℕ) (value after : List ℕ) (r : Answer) : Type 0 where
   pub refusal : r .refusal ≡ 0
   pub count : r .count ≡ n
   pub output : after ≡ value
 
--- a call that is refused: it hands back the first refusal that applies and count 0, and the output is as it was
+-- a call that is refused: the first refusal that applies, count 0, and the output as it was
 pub record Refused (refusals : List Refusal) (before after : List ℕ) (r : Answer) : Type 0 where
   pub refusal : r .refusal ≡ refusalOf refusals
   pub count : r .count ≡ 0
   pub output : after ≡ before
 
--- two calls that answer the same: refusal and count, and the output where they are served, or where both outputs held the same before
+-- two calls that answer the same: the same refusal and count; the same output where they are served, or where both outputs were the same before
 pub record Same (before₁ before₂ after₁ after₂ : List ℕ) (r₁ r₂ : Answer) : Type 0 where
   pub refusal : r₁ .refusal ≡ r₂ .refusal
   pub count : r₁ .count ≡ r₂ .count

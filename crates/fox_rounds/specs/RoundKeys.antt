@@ -1,10 +1,10 @@
--- The round keys that an array of words of 64 bits holds.
+-- The round keys that an array of 64-bit words holds.
 -- Assumes nothing.
 use Prim.Native.Nat.{ℕ, _+_, _*_, _^_}
 use mathlib.Core.List.{List}
 use lib.ListN.{getD}
 
--- the round key number i, from 0 on: one word for FOX64, two for FOX128, the left first
+-- round key number i, counted from 0: one word for FOX64, two for FOX128, the left first
 unfoldable pub roundKeyIn64 : List ℕ → ℕ → ℕ
 roundKeyIn64 ws i = getD ws i 0
 

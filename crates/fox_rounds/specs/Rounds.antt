@@ -8,7 +8,7 @@ use Rattle.fox_layers.specs.Diffusion.{mu4, mu8}
 use Rattle.fox_rounds.specs.declared.fox64.Fox64.{Fox64}
 use Rattle.fox_rounds.specs.declared.fox128.Fox128.{Fox128}
 
--- the left and the right half of a number of two times n bits
+-- the left and the right half of a number of 2·n bits
 unfoldable pub left : ℕ → ℕ → ℕ
 left n w = w / 2 ^ n % 2 ^ n
 
@@ -42,14 +42,14 @@ f64 x rk = f 8 mu8 x rk
 unfoldable pub lmid64 : ℕ → Fox64 → Fox64
 lmid64 rk x = let t = f32 (x .l ⊕ x .r) rk in record { l = x .l ⊕ t; r = x .r ⊕ t }
 
--- §2.2.1: what lmor64 and lmio64 do besides
+-- §2.2.1: what lmor64 and lmio64 do after lmid64
 unfoldable pub or64 : Fox64 → Fox64
 or64 x = record { l = or (x .l); r = x .r }
 
 unfoldable pub io64 : Fox64 → Fox64
 io64 x = record { l = io (x .l); r = x .r }
 
--- §2.2.2: what the round function gives, its left half on the left words and its right half on the right words
+-- §2.2.2: the round function's value t XORed into a state: its left half with the left words, its right half with the right words
 unfoldable pub xor128 : ℕ → Fox128 → Fox128
 xor128 t x =
     let tₗ = left 32 t in
@@ -60,7 +60,7 @@ xor128 t x =
 unfoldable pub elmid128 : ℕ → Fox128 → Fox128
 elmid128 rk x = xor128 (f64 ((x .ll ⊕ x .lr) * 2 ^ 32 + (x .rl ⊕ x .rr)) rk) x
 
--- §2.2.2: what elmor128 and elmio128 do besides
+-- §2.2.2: what elmor128 and elmio128 do after elmid128
 unfoldable pub or128 : Fox128 → Fox128
 or128 x = record { ll = or (x .ll); lr = x .lr; rl = or (x .rl); rr = x .rr }
 

@@ -9,23 +9,23 @@ use Rattle.fox_rounds.specs.declared.fox128.Fox128.{Fox128}
 use Rattle.fox_rounds.specs.declared.state.State.{State}
 use Rattle.fox_rounds.specs.declared.state.State.the-variants.{Of64, Of128}
 
--- the n values of k from number i on
+-- the values of k at the n numbers from i on
 unfoldable pub numbered : {A : Type 0} → (ℕ → A) → ℕ → ℕ → List A
 numbered k zero i = []
 numbered k (suc n) i = k i ∷ numbered k n (suc i)
 
--- a round for each key, with between after each but the last
+-- a round for each round key, with `between` after every round but the last
 unfoldable pub through : {S : Type 0} → (ℕ → S → S) → (S → S) → List ℕ → S → S
 through round between [] x = x
 through round between (k ∷ []) x = round k x
 through round between (k ∷ l ∷ ks) x = through round between (l ∷ ks) (between (round k x))
 
--- the bytes in a block of either cipher
+-- the block size in bytes, of a state of either cipher
 unfoldable pub size : State → ℕ
 size (Of64 x) = 8
 size (Of128 x) = 16
 
--- a round of either cipher without what follows it
+-- a round of either cipher without "or" or "io"
 unfoldable pub round : ℕ → State → State
 round rk (Of64 x) = Of64 (lmid64 rk x)
 round rk (Of128 x) = Of128 (elmid128 rk x)
@@ -42,7 +42,7 @@ unfoldable pub inOrder : Bool → List ℕ → List ℕ
 inOrder true rks = rks
 inOrder false rks = reverse rks
 
--- so the round number i of m, counted from 0, takes the round key of this number
+-- the number of the round key that round number i of m takes, both counted from 0
 unfoldable pub place : Bool → ℕ → ℕ → ℕ
 place true m i = i
 place false m i = m - 1 - i
@@ -51,8 +51,8 @@ place false m i = m - 1 - i
 unfoldable pub turned : Bool → List ℕ → State → State
 turned sealing rks x = through round (between sealing) (inOrder sealing rks) x
 
--- §2.1.1 and §2.1.2 for sealing alone, each cipher on its own states: what the non-linear parts seal with (§2.3.10 to §2.3.12), and what four blocks side by
--- side are held to
+-- §2.1.1 and §2.1.2, sealing alone, on the states of each cipher: the non-linear parts seal with it (§2.3.10 to §2.3.12), and four blocks sealed side by side
+-- are held to it
 unfoldable pub seal64 : List ℕ → Fox64 → Fox64
 seal64 rks x = through lmid64 or64 rks x
 

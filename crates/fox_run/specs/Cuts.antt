@@ -1,4 +1,4 @@
--- A run cut into stretches, each handed to some call.
+-- A run cut into stretches, each of them the input of some call.
 -- Assumes nothing.
 use mathlib.Core.Path.{_≡_}
 use mathlib.Core.List.{List, [], _∷_, _++_}
@@ -10,19 +10,20 @@ use Rattle.fox_refusals.specs.declared.answer.Answer.{Answer}
 abbrev pub Call : Type 1
 Call = ℕ → List ℕ → List ℕ → List ℕ → Answer → Type 0
 
--- a run from byte n on that was cut into stretches, each opened by some call that answered 0: the bytes, and the outputs, joined
+-- a run from byte n on, cut into stretches, each given to a call that answered 0: the inputs joined, and the outputs joined
 pub data CallsOf (call : Call) : ℕ → List ℕ → List ℕ → Type 0 where
   none : {n : ℕ} → CallsOf call n [] []
   next : {n : ℕ} (ds : List ℕ) {before after inputs outputs : List ℕ} {r : Answer} → call n ds before after r → r .refusal ≡ 0
       → CallsOf call (n + length ds) inputs outputs → CallsOf call n (ds ++ inputs) (after ++ outputs)
 
--- and one of which only this is known: each stretch has at most 65,536 bytes and was handed to some call with an output of its length
+-- a run from byte n on, cut into stretches of at most 65,536 bytes, each given to a call with an output of its length: the inputs joined, and the outputs
+-- joined
 pub data CutOf (call : Call) : ℕ → List ℕ → List ℕ → Type 0 where
   none : {n : ℕ} → CutOf call n [] []
   next : {n : ℕ} (ds : List ℕ) {before after inputs outputs : List ℕ} {r : Answer} → length ds ≤ 65536 → length before ≡ length ds
       → call n ds before after r → CutOf call (n + length ds) inputs outputs → CutOf call n (ds ++ inputs) (after ++ outputs)
 
--- the pieces of a run from byte n on, each opened alone at its own place
+-- the pieces of a run from byte n on, each opened alone from its own place
 unfoldable pub eachAlone : (ℕ → List ℕ → List ℕ) → ℕ → List (List ℕ) → List (List ℕ)
 eachAlone opened n [] = []
 eachAlone opened n (p ∷ ps) = opened n p ∷ eachAlone opened (n + length p) ps

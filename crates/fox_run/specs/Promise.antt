@@ -1,4 +1,4 @@
--- What a call on a stretch of a run promises, whole: refusal number, count and every byte of the output, for all inputs. Every way cites these.
+-- What a call on a stretch of a run promises, whole: refusal number, count and every byte of the output, for all inputs. Every engine's call cites it.
 -- Assumes nothing.
 use Prim.Native.Nat.{ℕ}
 use mathlib.Core.List.{List}
@@ -14,6 +14,6 @@ abbrev pub RunsWith : ℕ → ℕ → ℕ → List ℕ → List ℕ → ℕ → 
 RunsWith cipher rounds keyLen rks counter offset input before after r =
     Reply (forRun cipher rounds keyLen (length counter) offset (length input) (length before)) (runWith cipher rks counter offset input) before after r
 
--- from cipher, rounds and key bytes: the round keys are the key's
+-- from cipher, rounds and key bytes, with the round keys of this key
 abbrev pub Runs : ℕ → ℕ → List ℕ → List ℕ → ℕ → List ℕ → List ℕ → List ℕ → Answer → Type 0
 Runs cipher rounds key = RunsWith cipher rounds (length key) (roundKeys cipher rounds key)

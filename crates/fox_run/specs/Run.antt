@@ -1,5 +1,5 @@
--- A run in counter mode (SP 800-38A §6.5): every byte is added to a byte of the key stream, which is made of the sealed counter blocks one after the
--- other. Sealing and opening are the same sum.
+-- A run in counter mode (SP 800-38A §6.5): every byte is XORed with a byte of the key stream, which is the sealed counter blocks one after the other. Sealing
+-- and opening are the same XOR.
 -- Assumes nothing.
 use Prim.Native.Nat.{ℕ, suc, _/_, _%_}
 use mathlib.Core.List.{List, [], _∷_}
@@ -14,19 +14,19 @@ use Rattle.fox_run.specs.Counter.{counterBlock}
 unfoldable pub streamed : ℕ → (ℕ → List ℕ) → ℕ → ℕ
 streamed B block n = getD (block (n / B)) (n % B) 0
 
--- bytes added to those of a stream, from its byte number n on
+-- bytes XORed with those of a stream, from its byte n on
 unfoldable pub xorFrom : (ℕ → ℕ) → ℕ → List ℕ → List ℕ
 xorFrom stream n [] = []
 xorFrom stream n (d ∷ ds) = (stream n ⊕ d) ∷ xorFrom stream (suc n) ds
 
--- the key stream: the counter blocks, each sealed by the round keys of a list
+-- the key stream: the counter blocks, each sealed with a list of round keys
 unfoldable pub keyStream : ℕ → List ℕ → List ℕ → ℕ → ℕ
 keyStream cipher rks counter = streamed (blockSize cipher) (λ (i : ℕ). sealWith cipher rks (counterBlock counter i))
 
--- the bytes of a run from its byte number n on, sealed or opened, by the round keys of a list
+-- the bytes of a run from its byte n on, sealed or opened with a list of round keys
 unfoldable pub runWith : ℕ → List ℕ → List ℕ → ℕ → List ℕ → List ℕ
 runWith cipher rks counter n bytes = xorFrom (keyStream cipher rks counter) n bytes
 
--- and by those of a key
+-- the same with the round keys of a key
 abbrev pub run : ℕ → ℕ → List ℕ → List ℕ → ℕ → List ℕ → List ℕ
 run cipher rounds key counter n bytes = runWith cipher (roundKeys cipher rounds key) counter n bytes

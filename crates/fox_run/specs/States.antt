@@ -1,4 +1,4 @@
--- The key stream as the code makes it: counter blocks as states, each of them counted on from the first, and sealed.
+-- The key stream as the code computes it: the first counter block as a state, counted on in its last word, and sealed.
 -- Assumes nothing.
 use Prim.Native.Nat.{ℕ, _+_, _%_, _^_}
 use mathlib.Core.Bool.{true}
@@ -11,7 +11,7 @@ use Rattle.fox_rounds.specs.declared.state.State.the-variants.{Of64, Of128}
 use Rattle.fox_block.specs.Block.{bytes}
 use Rattle.fox_run.specs.Run.{streamed}
 
--- the state of the counter block number i, from that of the first one: its last word counts and wraps
+-- the state of counter block number i, from that of the first: its last word plus i, mod 2³²
 unfoldable pub counted64 : Fox64 → ℕ → Fox64
 counted64 x i = record { l = x .l; r = (x .r + i) % 2 ^ 32 }
 

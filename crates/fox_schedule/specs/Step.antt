@@ -1,4 +1,4 @@
--- What a schedule of the code makes: the round key where the register stands at reg, and where that is for each round.
+-- What the code's `Schedule` gives: the round key at a register value, and the register's value for each round.
 -- Assumes nothing.
 use mathlib.Core.Path.{_≡_}
 use Prim.Native.Nat.{ℕ, _+_, _*_, _^_, _<_, _≤_}
@@ -21,13 +21,13 @@ roundKeyAt (Ks64 m flip) reg = NL64 flip (dkey (bytes16 m) reg)
 roundKeyAt (Ks64h m flip) reg = NL64h flip (dkey (bytes32 m) reg)
 roundKeyAt (Ks128 m flip) reg = NL128 flip (dkey (bytes32 m) reg)
 
--- FOX64's round keys have 64 bits
+-- whether the round keys have 64 bits, which is FOX64
 unfoldable pub narrow : Schedule → Bool
 narrow (Ks64 m flip) = true
 narrow (Ks64h m flip) = true
 narrow (Ks128 m flip) = false
 
--- a round key as two words of 64 bits, of which FOX64's has the right one only
+-- the round key at the register value reg, as two words of 64 bits; for FOX64 the left word is 0
 pub record RoundKeyAt (s : Schedule) (reg : ℕ) (k : Key128) : Type 0 where
   pub whole : k .left * 2 ^ 64 + k .right ≡ roundKeyAt s reg
   pub short : narrow s ≡ true → k .left ≡ 0
@@ -44,21 +44,21 @@ Scheduled cipher key (Ks64 m flip) = (cipher ≡ 64) × (length key ≤ 16) × (
 Scheduled cipher key (Ks64h m flip) = (cipher ≡ 64) × (16 < length key) × (bytes32 m ≡ mkey 32 key) × (flip ≡ eqb (length key) 32)
 Scheduled cipher key (Ks128 m flip) = (cipher ≡ 64 → ⊥) × (bytes32 m ≡ mkey 32 key) × (flip ≡ eqb (length key) 32)
 
--- the round key number i, from 0 on, that a schedule makes for r rounds: the register has made i times its steps
+-- round key number i of a schedule for r rounds, counted from 0: the register has gone i times its steps
 unfoldable pub roundKeyOf : Schedule → ℕ → ℕ → ℕ
 roundKeyOf s r i = roundKeyAt s (LFSR (i * steps s) r)
 
--- where the register stands for the round number i of r, counted from 0, in sealing or in opening
+-- reg is the register's value for round number i of r, counted from 0, in sealing or in opening
 pub record RegisterAt (s : Schedule) (sealing : Bool) (r i reg : ℕ) : Type 0 where
   pub here : reg ≡ LFSR (place sealing r i * steps s) r
   pub small : reg < 2 ^ 24
 
--- the register so many steps on, in sealing, or back, in opening
+-- the register n steps forward, in sealing, or n steps back, in opening
 unfoldable pub stepped : Bool → ℕ → ℕ → ℕ
 stepped true n reg = iterate n clocked reg
 stepped false n reg = iterate n clockedBack reg
 
--- the register moved from one round key to the next of that direction
+-- the register's value for the next round of that direction
 pub record RegisterNext (s : Schedule) (sealing : Bool) (reg to : ℕ) : Type 0 where
   pub there : to ≡ stepped sealing (steps s) reg
   pub small : to < 2 ^ 24

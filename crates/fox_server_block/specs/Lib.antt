@@ -1,2 +1,2 @@
--- What the server's steps on one block ask.
+-- What the server engine's steps on one block need.
 pub mod Ready

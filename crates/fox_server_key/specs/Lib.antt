@@ -1,2 +1,2 @@
--- The prepared key.
+-- The prepared key: its definition, and what preparing one promises.
 pub mod Prepared

@@ -1,5 +1,5 @@
--- The prepared key (01): cipher, rounds, key length, and the round keys in 510 words of 64 bits, one a round for FOX64 and two for FOX128, the left
--- first; the rest are 0.
+-- The prepared key (01): cipher, rounds, key length, and the round keys in 510 words of 64 bits: one word for each round of FOX64, two for each of FOX128,
+-- the left first; the rest are 0.
 -- Assumes nothing.
 use mathlib.Core.Path.{_≡_}
 use Prim.Native.Nat.{ℕ, _-_, _*_, _≤_}
@@ -15,12 +15,12 @@ use Rattle.fox_refusals.specs.Refusals.{refusalOf, blockSize, forKey}
 use Rattle.fox_server_key.specs.declared.prepared.Prepared.{Prepared}
 use Rattle.fox_server_key.specs.declared.prepared.Preparation.{Preparation}
 
--- round keys of 128 bits as words, the left half first
+-- round keys of 128 bits as words of 64 bits, the left half first
 unfoldable pub inHalves : List ℕ → List ℕ
 inHalves [] = []
 inHalves (k ∷ ks) = left 64 k ∷ right 64 k ∷ inHalves ks
 
--- up to 510 words, the rest 0
+-- words filled up with 0 to 510
 unfoldable pub filled : List ℕ → List ℕ
 filled ws = ws ++ replicate (510 - length ws) 0
 
@@ -33,17 +33,17 @@ preparedWords cipher rounds key =
 unfoldable pub preparedKey : ℕ → ℕ → List ℕ → Prepared
 preparedKey cipher rounds key = record { cipher = cipher; rounds = rounds; «key_len» = length key; keys = preparedWords cipher rounds key }
 
--- a refused one: all zeros
+-- the prepared key of a refused call: all zeros
 unfoldable pub noKey : Prepared
 noKey = record { cipher = 0; rounds = 0; «key_len» = 0; keys = replicate 510 0 }
 
--- what preparing a key hands back, all of it: refusals 1 to 3, the count of bytes in use, and the key
+-- what preparing a key returns, whole: refusals 1 to 3, the count of bytes in use, and the prepared key
 pub record Prepares (c n : ℕ) (bytes : List ℕ) (r : Preparation) : Type 0 where
   pub refusal : r .answer .refusal ≡ refusalOf (forKey c n (length bytes))
   pub count : r .answer .count ≡ cond (eqb (refusalOf (forKey c n (length bytes))) 0) (blockSize c * n) 0
   pub key : r .key ≡ cond (eqb (refusalOf (forKey c n (length bytes))) 0) (preparedKey c n bytes) noKey
 
--- a key that was prepared: 0, the count of bytes in use, which is the block size for every round, and the key's own cipher, rounds and length
+-- a key that was prepared: refusal 0, the count of bytes in use, which is rounds times the block size, and the key's cipher, rounds and length
 pub record PreparedFor (c n keyLen : ℕ) (r : Preparation) : Type 0 where
   pub refusal : r .answer .refusal ≡ 0
   pub count : r .answer .count ≡ blockSize c * n

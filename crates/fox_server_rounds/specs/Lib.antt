@@ -1,2 +1,2 @@
--- What the server's rounds are passed by reference.
+-- The tables that are passed by reference to the server engine's rounds.
 pub mod Tables

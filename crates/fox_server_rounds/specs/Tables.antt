@@ -1,4 +1,5 @@
--- What the server's rounds are lent: the TBS tables of a word of four bytes, which serve both ciphers, and the TBSM tables of a matrix (001 §4.2.2).
+-- The tables passed by reference to the server engine's rounds: the shifted S-box (TBS) of a word of four bytes, for both ciphers, and the joined
+-- S-box/diffusion tables (TBSM) of a matrix (001 §4.2.2).
 -- Assumes nothing.
 use mathlib.Core.Path.{_≡_}
 use mathlib.Core.List.{List}

@@ -1,4 +1,4 @@
--- Four blocks side by side: each of the four by itself, with the same round keys.
+-- Four blocks sealed side by side: each of the four is sealed by itself, with the same round keys.
 -- Assumes nothing.
 use Prim.Native.Nat.{ℕ}
 use mathlib.Core.List.{List}
@@ -27,7 +27,7 @@ sealFour128 rks x =
       fourth = seal128 rks (x .fourth);
     }
 
--- §2.2.1, four times: a round, and what lmor64 does besides
+-- §2.2.1, four times: lmid64, and what lmor64 does after it
 unfoldable pub lmidFour64 : ℕ → Four64 → Four64
 lmidFour64 rk x =
     record {
@@ -46,7 +46,7 @@ orFour64 x =
       fourth = or64 (x .fourth);
     }
 
--- §2.2.2, four times: a round, and what elmor128 does besides
+-- §2.2.2, four times: elmid128, and what elmor128 does after it
 unfoldable pub elmidFour128 : ℕ → Four128 → Four128
 elmidFour128 rk x =
     record {

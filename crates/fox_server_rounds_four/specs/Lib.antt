@@ -1,2 +1,2 @@
--- What four blocks sealed side by side are.
+-- Four blocks sealed side by side: what the rounds and the sealing of four blocks are.
 pub mod Four

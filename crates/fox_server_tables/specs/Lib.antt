@@ -1,2 +1,2 @@
--- What the promises here cite besides the definitions of fox_layers.
+-- What the promises of fox_server_tables cite besides the definitions of fox_layers.
 pub mod Filled

@@ -21,25 +21,25 @@ lineName = ascii "line="
 unfoldable pub keybitsName : List ℕ
 keybitsName = ascii "keybits="
 
--- a sheet that is not right: refusal 8, and the line
+-- the answer to a malformed sheet: refusal 8, and the line
 unfoldable pub brokenText : ℕ → List ℕ
 brokenText l = decimalLineText refusalName 8 ++ decimalLineText lineName l
 
--- a block that was sealed or opened
+-- the answer for a block that is sealed or opened
 unfoldable pub servedText : ℕ → ℕ → ℕ → List ℕ → List ℕ
 servedText cipher rounds keyLen block =
     decimalLineText refusalName 0 ++ decimalLineText cipherName cipher ++ decimalLineText roundsName rounds ++ decimalLineText keybitsName (keyLen * 8)
     ++ pairsLineText blockName block
 
--- what a block is turned from
+-- the values of a sheet, from its five values one by one
 abbrev pub valuesFrom : Bool → ℕ → ℕ → List ℕ → List ℕ → Values
 valuesFrom sealing cipher rounds key block = record { cipher = cipher; rounds = rounds; key = key; sealing = sealing; block = block }
 
--- the block that the way asks for
+-- the block, sealed or opened as the line `way=` says
 abbrev pub turned : Values → List ℕ
 turned v = turnBlock (v .sealing) (v .cipher) (v .rounds) (v .key) (v .block)
 
--- the refusals of one block, with an output as long as the block
+-- the refusal number of the sheet's block, with an output as long as the block
 unfoldable pub refusal : Values → ℕ
 refusal v = refusalOf (forBlock (v .sealing) (v .cipher) (v .rounds) (length (v .key)) (length (v .block)) (length (v .block)))
 
@@ -57,6 +57,6 @@ pub record Room (keyLen : ℕ) (bytes out : List ℕ) : Type 0 where
   pub block : length bytes ≤ 32
   pub answer : 125 ≤ length out
 
--- the answer, of 125 bytes at most, stored at the start of a buffer, the rest of it as it was, and the answer's length handed back
+-- the answer, of at most 125 bytes, at the start of a buffer whose rest is as it was, and the answer's length returned
 abbrev pub Answers : List ℕ → List ℕ → List ℕ → ℕ → Type 0
 Answers sheet before after r = Stored 125 (answerOf sheet) before after r

@@ -1,5 +1,5 @@
--- Sheets, each with what is printed for it: sheets whose lines are broken in the ways that 01 names, each line's in turn, and sheets with a block that is
--- refused, where a refusal comes before those of higher numbers.
+-- Sheets, each with what is printed for it: sheets with each line in turn malformed as 01 names it, and sheets whose block is refused, where the lowest
+-- refusal number comes first.
 -- Assumes nothing.
 use mathlib.Core.Path.{_≡_}
 use mathlib.Core.List.{List, [], _∷_, _++_, map}
@@ -15,7 +15,7 @@ Sheets = List (List ℕ × String)
 abbrev pub Printed : Sheets → Type 0
 Printed xs = map (λ x. answerOf (x .0)) xs ≡ map (λ x. ascii (x .1)) xs
 
--- so many pairs
+-- n pairs of hex digits, all 00
 unfoldable pub zeros : ℕ → List ℕ
 zeros zero = []
 zeros (suc n) = 48 ∷ 48 ∷ zeros n

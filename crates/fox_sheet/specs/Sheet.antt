@@ -30,19 +30,19 @@ blockName = ascii "block="
 unfoldable pub isWayLine : Test
 isWayLine l = same sealWay l || same openWay l
 
--- cipher, rounds and key
+-- the tests of the lines `cipher=`, `rounds=` and `key=`
 unfoldable pub settingTests : List Test
 settingTests = isDecimalLine 65535 cipherName ∷ isDecimalLine 65535 roundsName ∷ isPairsLine 64 keyName ∷ []
 
--- way and block
+-- the tests of the lines `way=` and `block=`
 unfoldable pub taskTests : List Test
 taskTests = isWayLine ∷ isPairsLine 32 blockName ∷ []
 
--- the number of the first line that breaks a rule or is missing, 6 for text after the fifth, and 0 where the sheet is right
+-- the number of the first line that breaks a rule or is missing, 6 for text after the fifth, and 0 for a well-formed sheet
 unfoldable pub brokenLine : List ℕ → ℕ
 brokenLine t = brokenFrom 1 (settingTests ++ taskTests) t
 
--- what a sheet says; `sealing` is whether the way is `seal`
+-- what a sheet says; `sealing` is whether its fourth line is `way=seal`
 pub record Values : Type 0 where
   pub cipher : ℕ
   pub rounds : ℕ

@@ -18,7 +18,7 @@ linesOf v =
     decimalLine cipherName (v .cipher) ∷ decimalLine roundsName (v .rounds) ∷ pairsLine keyName (v .key) ∷ wayText (v .sealing)
     ∷ pairsLine blockName (v .block) ∷ []
 
--- five lines, each ended by one line feed
+-- the sheet of these values: five lines, each ended by one line feed
 unfoldable pub sheetText : Values → List ℕ
 sheetText v = textOf (linesOf v)
 
@@ -35,7 +35,7 @@ pub record WrittenFrom (v : Values) (t : List ℕ) : Type 0 where
   pub range : InRange v
   pub text : t ≡ sheetText v
 
--- a sheet that is right, and what it says
+-- a well-formed sheet, and what it says
 pub record Says (v : Values) (t : List ℕ) : Type 0 where
   pub right : brokenLine t ≡ 0
   pub values : valuesOf t ≡ v

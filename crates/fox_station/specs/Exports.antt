@@ -23,7 +23,7 @@ RunHanded cipher rounds key counter offset input before after r =
     Handed (forRun cipher rounds (length key) (length counter) offset (length input) (length before)) (run cipher rounds key counter offset input) before
     after r
 
--- the same as a call with an answer: the number that is handed back, and the count that follows from it
+-- a call on a stretch as a call with an answer: the number that is returned, and the count that follows from it
 pub record RunExport (cipher rounds : ℕ) (key counter : List ℕ) (offset : ℕ) (input before after : List ℕ) (r : Answer) : Type 0 where
   pub number : RunHanded cipher rounds key counter offset input before after (r .refusal)
   pub count : r .count ≡ cond (eqb (r .refusal) 0) (length before) 0

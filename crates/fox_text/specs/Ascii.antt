@@ -8,12 +8,12 @@ use mathlib.Core.List.{List, [], _∷_}
 use lib.ListN.{length}
 use lib.Dec.{eqb}
 
--- k characters from place i on
+-- the codes of k characters from place i on
 unfoldable pub codes : ℕ → ℕ → String → List ℕ
 codes zero i t = []
 codes (suc k) i t = code (charAt t i) ∷ codes k (suc i) t
 
--- of a text whose characters are one byte each
+-- the bytes of a text whose characters are one byte each
 unfoldable pub ascii : String → List ℕ
 ascii t = codes (len t) 0 t
 
@@ -26,6 +26,6 @@ startsWith [] t = true
 startsWith (x ∷ xs) [] = false
 startsWith (x ∷ xs) (y ∷ ys) = eqb x y && startsWith xs ys
 
--- whether two texts are the same
+-- whether two texts are equal
 abbrev pub same : List ℕ → List ℕ → Bool
 same a b = eqb (length a) (length b) && startsWith a b

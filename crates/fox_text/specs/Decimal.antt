@@ -22,7 +22,7 @@ onward v (d ∷ ds) = onward (v * 10 + (d - 48)) ds
 abbrev pub decimalOf : List ℕ → ℕ
 decimalOf ds = onward 0 ds
 
--- whether there are digits, and no zero before others
+-- whether there is at least one digit, and no leading zero
 unfoldable pub begins : List ℕ → Bool
 begins [] = false
 begins (d ∷ []) = true
@@ -34,12 +34,12 @@ inRange most ds = allDigits ds && leb (decimalOf ds) most
 unfoldable pub isDecimal : ℕ → List ℕ → Bool
 isDecimal most ds = begins ds && inRange most ds
 
--- what reading finds: whether the digits are right, and the number that they make, or 0 where they are not
+-- what reading returns: whether the text is a decimal in range, and its value, or 0 where it is not
 pub record Found (ok : Bool) (n : ℕ) (r : Decimal) : Type 0 where
   pub right : r .right ≡ ok
   pub value : r .value ≡ cond ok n 0
 
--- the last k digits of a number, with no zero in front
+-- a number's last digits, at most k of them, with no leading zero
 unfoldable pub digitsText : ℕ → ℕ → List ℕ
 digitsText zero n = []
 digitsText (suc k) n = cond (ltb n 10) ((48 + n) ∷ []) (digitsText k (n / 10) ++ ((48 + n % 10) ∷ []))

@@ -15,20 +15,20 @@ unfoldable pub allHex : List ℕ → Bool
 allHex [] = true
 allHex (d ∷ ds) = isHex d && allHex ds
 
--- at most so many pairs, and nothing besides
+-- whether digits are pairs of hex digits, at most so many
 abbrev pub isPairs : ℕ → List ℕ → Bool
 isPairs most ds = eqb (length ds % 2) 0 && leb (length ds / 2) most && allHex ds
 
 unfoldable pub nibble : ℕ → ℕ
 nibble d = cond (ltb d 65) (d - 48) (d - 55)
 
--- the bytes that pairs of digits stand for
+-- the bytes that pairs of hex digits are written for
 unfoldable pub pairsOf : List ℕ → List ℕ
 pairsOf [] = []
 pairsOf (a ∷ []) = []
 pairsOf (a ∷ b ∷ ds) = (nibble a * 16 + nibble b) ∷ pairsOf ds
 
--- digits that can be joined into a buffer: hex digits, and room for their bytes
+-- hex digits, and a buffer with room for the bytes of their pairs
 pub record Joins (ds out : List ℕ) : Type 0 where
   pub hex : allHex ds ≡ true
   pub room : length ds ≤ length out * 2
@@ -36,7 +36,7 @@ pub record Joins (ds out : List ℕ) : Type 0 where
 unfoldable pub digit : ℕ → ℕ
 digit n = cond (ltb n 10) (48 + n) (55 + n)
 
--- bytes as text
+-- bytes as pairs of hex digits
 unfoldable pub hexText : List ℕ → List ℕ
 hexText [] = []
 hexText (b ∷ bs) = digit (b / 16) ∷ digit (b % 16) ∷ hexText bs

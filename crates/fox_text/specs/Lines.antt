@@ -1,4 +1,4 @@
--- Lines, each ended by one line feed.
+-- A text as lines, each ended by one line feed.
 -- Assumes nothing.
 use mathlib.Core.Path.{_≡_}
 use Prim.Native.Nat.{ℕ, zero, suc, _-_, _≤_}
@@ -12,7 +12,7 @@ unfoldable pub lineEnd : List ℕ → ℕ
 lineEnd [] = 0
 lineEnd (x ∷ xs) = cond (eqb x 10) 0 (suc (lineEnd xs))
 
--- whether the text has a first line, ended as it should be
+-- whether the text has a first line that is ended
 abbrev pub hasLine : List ℕ → Bool
 hasLine t = ltb (lineEnd t) (length t)
 
@@ -34,7 +34,7 @@ unfoldable pub lines : ℕ → List ℕ → List (List ℕ)
 lines zero t = []
 lines (suc n) t = line t ∷ lines n (afterLine t)
 
--- a text that follows another's first line, which is shorter
+-- r is the text after the first line of t, and shorter than t
 pub record After (t r : List ℕ) : Type 0 where
   pub is : r ≡ afterLine t
   pub shorter : length r ≤ length t - 1

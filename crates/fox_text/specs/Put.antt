@@ -1,4 +1,4 @@
--- What writing a text into a buffer does.
+-- What writing a text into a buffer does: from a place on, and at its start.
 -- Assumes nothing.
 use mathlib.Core.Path.{_≡_}
 use mathlib.Core.List.{List}
@@ -6,13 +6,14 @@ use Prim.Native.Nat.{ℕ, _+_, _≤_}
 use lib.ListN.{length, take}
 use lib.Seq.{sets}
 
--- from a place on: the text stands there, all else is as it was, and the place after its last byte is handed back, at most so many bytes further
+-- the text is written from place `at` on, all else is as it was; r is the place after its last byte, at most `most` bytes further
 pub record Put (most : ℕ) (text before after : List ℕ) (at r : ℕ) : Type 0 where
   pub place : r ≡ at + length text
   pub short : r ≤ at + most
   pub bytes : after ≡ sets before at text
 
--- at the start, with its length handed back. The last three follow: the buffer's first r bytes can be lent, and are the text
+-- the text is written at the start, and its length r is returned. The last three fields follow: the buffer's first r bytes can be passed by reference, and
+-- are the text
 pub record Stored (most : ℕ) (text before after : List ℕ) (r : ℕ) : Type 0 where
   pub count : r ≡ length text
   pub few : r ≤ most

@@ -1,4 +1,4 @@
--- A text of lines that are to pass tests, one after the other: the first that breaks its rule.
+-- A text whose lines are to pass tests, one test each: the number of the first line that does not.
 -- Assumes nothing.
 use Prim.Native.Nat.{ℕ, suc}
 use mathlib.Core.Bool.{Bool, cond, _&&_}
