@@ -1,1 +1,1 @@
-// One block, sealed or opened: no code. What it is, what a call on one promises, and the theorems, are in specs/ and proofs/.
+// No code: specs/ has what a block sealed or opened is and what a call on one promises, proofs/ the theorems on blocks and on calls.

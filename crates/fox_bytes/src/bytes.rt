@@ -31,7 +31,7 @@ pub fn load8(s: &[u8], at: usize) -> u64
     )
 }
 
-// Only the first four bytes of what is lent are written.
+// Only the first four bytes of the output are written.
 pub fn store4(out: &mut [u8], w: u32)
     requires { ⌜ 4 ≤ length (now out) ⌝ }
     ensures { λ _. ⌜ now (out .exit) ≡ split 4 w ++ drop 4 (now (out .entry)) ⌝ }

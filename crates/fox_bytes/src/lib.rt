@@ -1,2 +1,2 @@
-// Words read from and written to lent bytes, the most significant byte first.
+// Words read from and written to byte slices, the most significant byte first.
 pub mod bytes;

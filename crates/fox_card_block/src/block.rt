@@ -1,4 +1,4 @@
-// One block by the card's way, from cipher, rounds, key bytes and block: every input is answered.
+// One block by the card engine, from cipher, rounds, key bytes and block: every input is answered.
 ghost use Rattle.fox_block.specs.Promise.{Turns};
 use crate::rounds::turned;
 use fox_engine_block::blocks::read;

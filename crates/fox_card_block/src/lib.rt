@@ -1,3 +1,3 @@
-// The card's way: sealing and opening one block with no list of round keys, and no table above the 32 bytes of padding.
+// The card engine on one block: sealing and opening with no list of round keys, and no table above the 32 bytes of padding.
 pub mod block;
 pub mod rounds;

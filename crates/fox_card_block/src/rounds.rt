@@ -1,4 +1,4 @@
-// Sealing and opening by the card's way: each round key is made when its round comes, where the register then stands.
+// Sealing and opening by the card engine: each round key is computed when its round comes, from the register's value for that round.
 ghost use mathlib.Core.Path.{_≡_};
 ghost use Prim.Native.Nat.{_≤_, _<_, _^_};
 ghost use Rattle.fox_rounds.specs.Skeleton.{numbered, round, turned};
@@ -6,7 +6,7 @@ ghost use Rattle.fox_schedule.specs.Step.{roundKeyAt, roundKeyOf};
 use fox_rounds::state::State;
 use fox_schedule::schedule::Schedule;
 
-// The round with the round key that the register stands at.
+// One round, with the round key at the register value reg.
 fn round_at(s: Schedule, reg: u32, y: State) -> State
     requires { ⌜ reg < 2 ^ 24 ⌝ }
     ensures { λ z. ⌜ z ≡ round (roundKeyAt s reg) y ⌝ }

@@ -1,3 +1,3 @@
-// A stretch of a run by the card's way: no list of round keys, and every block's bytes worked out as they are wanted.
+// A stretch of a run by the card engine: no list of round keys, and each block of key stream is computed when its bytes are needed.
 pub mod run;
 mod stretch;

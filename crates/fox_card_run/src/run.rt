@@ -1,4 +1,4 @@
-// A stretch of a run by the card's way, from cipher, rounds, key bytes, counter block, offset and input: every input is answered.
+// A stretch of a run by the card engine, from cipher, rounds, key bytes, counter block, offset and input: every input is answered.
 ghost use Rattle.fox_run.specs.Promise.{Runs};
 use crate::stretch::stretch;
 use fox_engine_block::blocks::read;

@@ -1,4 +1,4 @@
-// A stretch of a run by the card's way, block by block.
+// A stretch of a run by the card engine, block by block.
 ghost use mathlib.Core.Path.{_≡_};
 ghost use Prim.Native.Nat.{_+_, _≤_, _<_};
 ghost use lib.ListN.{length};
@@ -13,7 +13,7 @@ use fox_engine_run::key_stream::xor_part;
 use fox_rounds::state::State;
 use fox_schedule::schedule::Schedule;
 
-// The block that the run's byte n is in, from that byte on.
+// Seals the block that the run's byte n is in, from that byte on; returns the bytes done.
 fn one_block(s: Schedule, rounds: u8, x: State, n: usize, input: &[u8], out: &mut [u8]) -> usize
     requires { ⌜ (1 ≤ rounds) × (n < 1073741824) × (length (now out) ≡ length (now input)) ⌝ }
     ensures { λ r. ⌜ Part (stream (numbered (roundKeyOf s rounds) rounds 0) x) n (now (input .entry)) (now (out .entry)) (now (out .exit)) r ⌝ }

@@ -1,5 +1,5 @@
-// Runs the compiled layers: values of the specification, then the card's way beside the server's way on words of a fixed sequence.
-// What it prints is held to the file `stdout`.
+// Runs the compiled layers: values of the specification, then the card engine's layers against the server engine's lookups on words of a fixed sequence.
+// What it prints is compared with the file `stdout`.
 ghost use Prim.Native.Nat.{_≤_};
 use fox_layers::diffusion;
 use fox_layers::substitution;
@@ -43,7 +43,7 @@ fn next(w: u64) -> u64 {
     b ^ (b >> 27)
 }
 
-// 1 where both ways substitute and diffuse the word alike.
+// 1 where both engines substitute and diffuse the word alike.
 fn same4(s: &[u32; 1024], t: &[u32; 1024], w: u32) -> u32
     ensures { λ r. ⌜ r ≤ 1 ⌝ }
 {
@@ -69,7 +69,7 @@ fn alike4() -> u32 {
     alike
 }
 
-// 1 where both ways substitute and diffuse the word alike.
+// 1 where both engines substitute and diffuse the word alike.
 fn same8(s: &[u32; 1024], t: &[u64; 2048], w: u64) -> u32
     ensures { λ r. ⌜ r ≤ 1 ⌝ }
 {

@@ -1,5 +1,5 @@
-// Exported functions whose instructions the gate counts (tests/instructions.sh, tests/measure.c), and the bench sheet for a fuzzer to call
-// (tests/fuzz.sh). No product uses this crate.
+// Exported functions whose instructions the gate counts (tests/instructions.sh, tests/measure.c), and the bench sheet for a fuzzer to call (tests/fuzz.sh).
+// No product uses this crate.
 ghost use mathlib.Core.Path.{_≡_};
 ghost use Rattle.fox_layers.specs.Tables.{picked};
 ghost use Rattle.fox_rounds.specs.Skeleton.{numbered, seal64, seal128};
@@ -29,7 +29,7 @@ pub extern "C" fn fox_probe_pick8(t: &[u64; 2048], w: u64) -> u64
     fox_server_rounds::lookups::pick8(t, w)
 }
 
-// One block sealed so many times by the first 16 round keys of those lent: the left word.
+// One block sealed `blocks` times with the first 16 of the round keys passed by reference: its left word.
 #[no_mangle]
 pub extern "C" fn fox_probe_again64(keys: &[u64; 510], blocks: u32, l: u32, r: u32) -> u32
     ensures { λ w. ⌜ w ≡ iterate blocks (seal64 (numbered (roundKeyIn64 (now (keys .entry))) 16 0)) (record { l = l; r = r }) .l ⌝ }

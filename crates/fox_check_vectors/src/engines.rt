@@ -1,4 +1,4 @@
-// Runs one row by every way, sealing and opening: by the card, by the server from key bytes, and by the server from a prepared key.
+// Runs one row by every engine, sealing and opening: by the card, by the server from key bytes, and by the server from a prepared key.
 ghost use Prim.Native.Nat.{_≤_};
 ghost use lib.ListN.{length};
 use crate::lines;
@@ -11,7 +11,7 @@ use fox_text_lines::lines::starts_with;
 
 const PAINT: u8 = 0xA5;
 
-// What a row asks of a way (0: the card, 1: the server from key bytes, 2: from a prepared key), and the refusal that is due.
+// What a row asks of an engine (`way` 0: the card, 1: the server from key bytes, 2: the server from a prepared key), and the refusal that is due.
 struct Call {
     way: u32,
     seals: bool,
@@ -20,7 +20,7 @@ struct Call {
     refusal: u32,
 }
 
-// Prints the ways that differ from what the row says, and answers whether none does.
+// Prints the engines that differ from what the row says, and answers whether none does.
 pub(crate) fn agree(
     cipher: u32,
     rounds: u32,
@@ -37,8 +37,8 @@ pub(crate) fn agree(
     card & server & prepared
 }
 
-// Sealing turns the block into the sealed one, and opening turns it back. A refused row has nothing sealed to open, so there its block is opened too, and
-// the sealed one has the output's length.
+// Whether sealing gives the sealed block, and opening gives the block back. A refused row has nothing sealed to open: there both calls get the block, and
+// `sealed` has only the output's length.
 fn undoes(
     way: u32,
     cipher: u32,
@@ -70,7 +70,7 @@ fn undoes(
     tries(seals, key, block, sealed) & tries(opens, key, sealed, block)
 }
 
-// Whether a call turns `from` into `to`, or is refused and leaves its output alone: the output is painted first, so that it shows.
+// Whether a call turns `from` into `to`, or is refused and leaves its output as it was: the output is painted first, so that a change shows.
 fn tries(c: Call, key: &[u8], from: &[u8], to: &[u8]) -> bool
     requires { ⌜ length (now to) ≤ 64 ⌝ }
 {

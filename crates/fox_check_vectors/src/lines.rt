@@ -1,7 +1,8 @@
-// The lines that are printed: one for each row, `cipher rounds key-length`, its refusal where there is one, and whether it came out so; and the sum.
+// The lines that are printed: one for each row, `cipher rounds key-length`, its refusal where there is one, and whether every engine agrees; and at the end
+// how many rows there were and how many differ.
 ghost use Prim.Native.Nat.{_≤_};
 
-// What the line of a row starts with.
+// The start of a row's line.
 pub(crate) fn print_head(cipher: u32, rounds: u32, key_len: usize, refusal: u32) {
     io::print_decimal(1, cipher as u64);
     io::write_all(1, b" ");
@@ -14,7 +15,7 @@ pub(crate) fn print_head(cipher: u32, rounds: u32, key_len: usize, refusal: u32)
     }
 }
 
-// Names a way that differs.
+// Names an engine that differs.
 pub(crate) fn print_engine(way: u32, seals: bool) {
     if way == 0 {
         io::write_all(1, b" card");
@@ -30,7 +31,7 @@ pub(crate) fn print_engine(way: u32, seals: bool) {
     }
 }
 
-// What the line of a row ends with; 1 where the row differs.
+// The end of a row's line; 1 where the row differs.
 pub(crate) fn print_verdict(agrees: bool) -> usize
     ensures { λ r. ⌜ r ≤ 1 ⌝ }
 {
@@ -42,7 +43,7 @@ pub(crate) fn print_verdict(agrees: bool) -> usize
     1
 }
 
-// The line of a text that is no row, which counts as one that differs.
+// The line for a text that is no row, which counts as a row that differs.
 pub(crate) fn print_malformed() -> usize
     ensures { λ r. ⌜ r ≤ 1 ⌝ }
 {

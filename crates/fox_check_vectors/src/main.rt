@@ -1,5 +1,5 @@
-// Runs the rows of vectors that its input holds, each by every way, and prints a line for each row and how many rows differ.
-// A row is six lines: `cipher`, `rounds`, `key`, `block`, `refusal` and `sealed`. What is printed for the file `stdin` is held to the file `stdout`.
+// Runs the rows of vectors in its input, each by every engine, and prints a line for each row and how many rows differ.
+// A row is six lines: `cipher`, `rounds`, `key`, `block`, `refusal` and `sealed`. What is printed for the file `stdin` is compared with the file `stdout`.
 ghost use Prim.Native.Nat.{_-_, _≤_};
 ghost use lib.ListN.{length};
 use fox_text_lines::lines::after_line;
@@ -11,7 +11,7 @@ mod engines;
 mod lines;
 mod prepared_key;
 
-// As many bytes as the text's buffer holds.
+// The size of the text's buffer in bytes.
 const FULL: usize = 65536;
 
 fn main() {

@@ -1,9 +1,9 @@
-// Seals and opens by a prepared key.
+// Seals and opens with a prepared key.
 use fox_refusals::answer::Answer;
 use fox_server_block::block as server;
 use fox_server_key::prepared;
 
-// A key that is refused is not sealed with: its refusal is the answer.
+// A key that is refused is not sealed or opened with: its refusal is the answer.
 pub(crate) fn call(
     seals: bool,
     cipher: u32,

@@ -1,4 +1,4 @@
-// Blocks of bytes as the words of a state, and back: for each cipher, and for whichever it is.
+// Blocks of bytes as the words of a state, and back: for each cipher, and for a state of either.
 ghost use mathlib.Core.Path.{_≡_};
 ghost use lib.ListN.{length};
 ghost use Rattle.fox_rounds.specs.Skeleton.{size};

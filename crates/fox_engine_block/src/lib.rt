@@ -1,2 +1,2 @@
-// Blocks of bytes as the words that rounds work on, and back: what every engine does alike.
+// Blocks of bytes as the words that rounds work on, and back: the same for every engine.
 pub mod blocks;

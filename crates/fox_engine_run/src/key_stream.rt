@@ -1,5 +1,5 @@
-// Sealed counter blocks added to bytes: a whole block word by word, and a part of one, at either end of a stretch, byte by byte. Each writes through the
-// part of the output that starts at its first byte, and nothing past its own bytes.
+// Sealed counter blocks XORed with bytes: a whole block word by word, and a part of a block, at either end of a stretch, byte by byte. Each function writes
+// through the part of the output that starts at its first byte, and nothing past its own bytes.
 ghost use mathlib.Core.Path.{_≡_};
 ghost use mathlib.Core.List.{_++_};
 ghost use mathlib.Core.Logic.{_⊎_};
@@ -23,7 +23,7 @@ fn shorter(a: usize, b: usize) -> usize
     if a < b { a } else { b }
 }
 
-// As far as both go; the count of bytes written is handed back.
+// XORs up to the end of the shorter; returns the count of bytes written.
 fn xor_bytes(pad: &[u8], input: &[u8], out: &mut [u8]) -> usize
     requires { ⌜ length (now out) ≡ length (now input) ⌝ }
     ensures { λ r. ⌜ Xored (now (pad .entry)) (now (input .entry)) (now (out .entry)) (now (out .exit)) r ⌝ }
@@ -35,7 +35,7 @@ fn xor_bytes(pad: &[u8], input: &[u8], out: &mut [u8]) -> usize
     end
 }
 
-// The bytes of a block from its byte number skip on: for each cipher, and for whichever it is.
+// XORs with the bytes of a block from its byte number `skip` on: for each cipher, and for a state of either.
 pub fn xor_part64(x: Fox64, skip: usize, input: &[u8], out: &mut [u8]) -> usize
     requires { ⌜ (skip < 8) × (length (now out) ≡ length (now input)) ⌝ }
     ensures { λ r. ⌜ Xored (drop skip (bytes64 x)) (now (input .entry)) (now (out .entry)) (now (out .exit)) r ⌝ }
@@ -64,7 +64,7 @@ pub fn xor_part(x: State, skip: usize, input: &[u8], out: &mut [u8]) -> usize
     }
 }
 
-// Two words added to the first eight bytes.
+// Two words XORed with the first eight bytes.
 fn xor_words(a: u32, b: u32, input: &[u8], out: &mut [u8])
     requires { ⌜ (8 ≤ length (now input)) × (8 ≤ length (now out)) ⌝ }
     ensures { λ _. ⌜ now (out .exit) ≡ xorEach (split 4 a ++ split 4 b) (now (input .entry)) ++ drop 8 (now (out .entry)) ⌝ }

@@ -1,4 +1,4 @@
-// The box as a constant (001 Fig. 7).
+// The S-box as a constant (001 Fig. 7).
 ghost use mathlib.Core.Path.{_≡_};
 ghost use Rattle.fox_layers.specs.Tables.{sboxTable};
 

@@ -1,4 +1,4 @@
-// The diversification of a mixed key (001 §2.3.8): register values in a row, three bytes each, are added to it.
+// The diversification of a mixed key (001 §2.3.8): it is XORed with successive register values, three bytes each.
 // The bytes are taken in words of eight, so a word may begin or end inside a register value.
 ghost use mathlib.Core.Path.{_≡_};
 ghost use mathlib.Core.List.{_++_};
@@ -39,7 +39,7 @@ fn word_233(x: u32, y: u32, z: u32) -> u64
     (x % 0x1_0000) as u64 * 0x1_0000_0000_0000 + (y as u64) * 0x100_0000 + z as u64
 }
 
-// The first sixteen bytes, and the register value that they end in, of which two bytes are left.
+// The first sixteen bytes of register values, and the value that they end in, of which two bytes are left.
 struct Sixteen {
     a: u64,
     b: u64,
@@ -60,7 +60,7 @@ fn front(reg: u32) -> Sixteen
     Sixteen { a, b, last }
 }
 
-// The sixteen bytes after those. Of the last register value the third byte is not used.
+// The sixteen bytes after those; the third byte of the last register value is not used.
 fn rest(last: u32) -> Key16
     requires { ⌜ last < 2 ^ 24 ⌝ }
     ensures { λ r. ⌜ bytes16 r ++ drop 2 (split 3 (iterate 5 clocked last)) ≡ drop 1 (stream 6 last) ⌝ }

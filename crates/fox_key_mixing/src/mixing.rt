@@ -47,7 +47,7 @@ const PAD: [u8; 32] = [
     0xEF,
 ];
 
-// The byte at i of the key followed by the lent pad.
+// Byte number i of the key followed by the pad.
 fn padded_byte<'a>(key: &'a [u8], pad: &'a [u8; 32], i: usize) -> u8
     requires { ⌜ i < 32 ⌝ }
     ensures { λ r. ⌜ r ≡ getD (now (key .entry) ++ now (pad .entry)) i 0 ⌝ }
@@ -59,14 +59,14 @@ fn padded_byte<'a>(key: &'a [u8], pad: &'a [u8; 32], i: usize) -> u8
     }
 }
 
-// A byte changed by the two mixed bytes before it.
+// A byte XORed with the sum, mod 256, of the two mixed bytes before it.
 fn mixed_byte(p: u8, x: u8, y: u8) -> u8
     ensures { λ r. ⌜ r ≡ p ⊕ (y + x) % 256 ⌝ }
 {
     p ^ ((y as u32 + x as u32) % 256) as u8
 }
 
-// A key padded to ek bytes, and mixed; what follows those bytes is not used.
+// A key padded to ek bytes, and mixed; the bytes after these are not used.
 fn mixed_bytes(key: &[u8], ek: usize) -> [u8; 32]
     requires { ⌜ (length (now key) ≤ ek) × (ek ≤ 32) ⌝ }
     ensures { λ r. ⌜ take ek r ≡ mixed 0x6A 0x76 (padded ek (now (key .entry))) ⌝ }

@@ -1,4 +1,4 @@
-// The diffusion, worked out: a matrix times a word's bytes, row by row (001 §2.2.7, §2.2.8).
+// The diffusion, computed without tables: a matrix times a word's bytes, row by row (001 §2.2.7, §2.2.8).
 ghost use mathlib.Core.Path.{_≡_};
 ghost use Rattle.fox_layers.specs.Diffusion.{mu4, mu8};
 use crate::field::double;

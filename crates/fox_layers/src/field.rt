@@ -1,16 +1,16 @@
-// The field of 256 elements (001 §1.6), worked out: products by the coefficients of mu4 and mu8, from doubling and halving.
+// The field of 256 elements (001 §1.6), computed without tables: products by the coefficients of mu4 and mu8, from doubling and halving.
 ghost use mathlib.Core.Path.{_≡_};
 ghost use Rattle.fox_layers.specs.Field.{double, halve, product};
 ghost use Rattle.fox_layers.specs.Structs.{MultiplesOf};
 
-// Times 02. A bit that leaves at the top comes back as F9.
+// Times 02. A bit shifted out at the top comes back as F9.
 pub fn double(x: u8) -> u8
     ensures { λ r. ⌜ r ≡ double x ⌝ }
 {
     if x < 128 { x * 2 } else { (x - 128) * 2 ^ 0xF9 }
 }
 
-// Times FC, that is divided by 02. A bit that leaves at the bottom comes back as FC.
+// Times FC, which is division by 02. A bit shifted out at the bottom comes back as FC.
 pub fn halve(x: u8) -> u8
     ensures { λ r. ⌜ r ≡ halve x ⌝ }
 {

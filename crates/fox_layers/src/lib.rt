@@ -1,5 +1,5 @@
-// Field arithmetic, substitution and diffusion of FOX, specification 1.2, worked out: the lowest library, which is taken and reviewed by itself. The
-// ciphers above it rely on the promises stated here alone.
+// Field arithmetic, substitution and diffusion of FOX, specification 1.2, computed without large tables: the lowest library, which is taken and reviewed by
+// itself. The ciphers above it rely on the promises stated here alone.
 pub mod diffusion;
 pub mod field;
 pub mod substitution;

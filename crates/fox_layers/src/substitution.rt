@@ -1,4 +1,4 @@
-// The substitution by the three small boxes (001 §3.1): 48 entries in all.
+// The substitution by the three small boxes S1 to S3 (001 §3.1): 48 entries in all.
 ghost use mathlib.Core.Path.{_≡_};
 ghost use Rattle.fox_layers.specs.Substitution.{or4, sbox, sigma};
 use crate::words::join4;

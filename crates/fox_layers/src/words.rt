@@ -1,4 +1,4 @@
-// Words as bytes, the most significant first (001 §1.5), and sums of bytes (001 §1.3).
+// Words as bytes, the most significant first (001 §1.5), and XOR of bytes (001 §1.3).
 ghost use mathlib.Core.Path.{_≡_};
 ghost use mathlib.Core.List.{[], _∷_};
 ghost use Rattle.fox_layers.specs.Words.{joined, split, xorAll};

@@ -40,7 +40,7 @@ fn layers128(d: Key32, flip: bool) -> Longs4
     }
 }
 
-// The hashing layer gives words of 64 bits, and a round takes their halves.
+// Two words of 64 bits, as the hashing layer gives them, as the state of FOX128.
 fn state(a: u64, b: u64) -> Fox128
     ensures { λ x. ⌜ x ≡ parts128 a b ⌝ }
 {

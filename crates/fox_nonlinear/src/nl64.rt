@@ -34,7 +34,7 @@ fn layers64(d: Key16, flip: bool) -> Words4
     }
 }
 
-// The state after the last round, as one number: that round has no "or".
+// A state as one number of 64 bits.
 pub(crate) fn number(x: Fox64) -> u64
     ensures { λ r. ⌜ r ≡ x .l * 2 ^ 32 + x .r ⌝ }
 {

@@ -1,4 +1,4 @@
-// The layers of the non-linear parts, as one word goes through them (001 §2.3.10 to §2.3.12).
+// The layers of the non-linear parts, on one word (001 §2.3.10 to §2.3.12).
 ghost use mathlib.Core.Path.{_≡_};
 ghost use mathlib.Core.Bool.{cond};
 ghost use Rattle.fox_layers.specs.Words.{_⊕_};
@@ -10,7 +10,7 @@ use fox_layers::diffusion::mu8;
 use fox_layers::substitution::sigma4;
 use fox_layers::substitution::sigma8;
 
-// Up to the mixing.
+// The layers before the mixing: substitution and diffusion.
 pub(crate) fn first4(w: u32) -> u32
     ensures { λ r. ⌜ r ≡ mu4 (sigma 4 w) ⌝ }
 {
@@ -23,7 +23,7 @@ pub(crate) fn first8(w: u64) -> u64
     mu8(sigma8(w))
 }
 
-// From the mixing on: the sum of three words, the pad's word, the flip, the substitution.
+// The layers from the mixing on: the XOR of three words, XOR with the pad's word, the flip, the substitution.
 pub(crate) fn second4(x: u32, y: u32, z: u32, pad: u32, flip: bool) -> u32
     ensures { λ r. ⌜ r ≡ sigma 4 (cond flip (flipped 4 ((x ⊕ y ⊕ z) ⊕ pad)) ((x ⊕ y ⊕ z) ⊕ pad)) ⌝ }
 {

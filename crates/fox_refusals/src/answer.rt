@@ -1,4 +1,4 @@
-// What a call hands back besides its output: the refusal number, 0 for success, and the count of bytes written.
+// What a call returns besides its output: the refusal number, 0 for success, and the count of bytes written.
 ghost use mathlib.Core.Path.{_≡_};
 
 pub struct Answer {

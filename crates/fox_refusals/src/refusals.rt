@@ -4,7 +4,7 @@ ghost use Rattle.fox_refusals.specs.Refusals.{refusalOf, orElse, blockSi
 use fox_rounds::fox64::Fox64;
 use fox_rounds::fox128::Fox128;
 
-// One test more in a list of refusals: the tests are taken in the list's order, so that a call with several faults is answered by the first.
+// One more test in a chain of refusals: the tests are taken in order, so that a call with several faults is answered by the first.
 pub fn or_else(refusal: u32, applies: bool, number: u32) -> u32
     ensures { λ r. ⌜ r ≡ orElse refusal applies number ⌝ }
 {

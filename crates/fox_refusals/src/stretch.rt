@@ -6,7 +6,7 @@ use crate::refusals::for_key;
 use crate::refusals::or_else;
 use std::num::wrapping_add_u64;
 
-// The true sum of offset and length: one that wraps comes out below the offset.
+// Tests the true sum of offset and length: a sum that wraps is below the offset.
 fn past_end(offset: u64, input_len: u64) -> bool
     ensures { λ r. ⌜ r ≡ pastEnd offset «input_len» .applies ⌝ }
 {

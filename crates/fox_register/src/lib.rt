@@ -1,2 +1,2 @@
-// The register of 24 bits that the key schedules step (001 §2.3.9), forward and back.
+// The register of 24 bits of the key schedules (001 §2.3.9), stepped forward and back.
 pub mod register;

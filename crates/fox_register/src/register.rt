@@ -1,10 +1,10 @@
-// The register of 24 bits (001 §2.3.9): what it holds at first, and its steps forward and back.
+// The register of 24 bits (001 §2.3.9): its first value, and its steps forward and back.
 ghost use mathlib.Core.Path.{_≡_};
 ghost use Prim.Native.Nat.{_<_, _^_};
 ghost use Rattle.fox_register.specs.Register.{seed, clocked, clockedBack, iterate};
 use fox_layers::words::join4;
 
-// What the register holds at first.
+// The register's first value.
 pub fn seed(rounds: u8) -> u32
     ensures { λ r. ⌜ (r ≡ seed rounds) × (r < 2 ^ 24) ⌝ }
 {

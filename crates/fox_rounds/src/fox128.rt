@@ -1,4 +1,4 @@
-// FOX128: its constants, its state of four words, and its round by the card's way (001 §2.2.2, §2.2.5). A round key is two words of 64 bits.
+// FOX128: its constants, its state of four words, and its round, computed without tables (001 §2.2.2, §2.2.5). A round key is two words of 64 bits.
 ghost use mathlib.Core.Path.{_≡_};
 ghost use Prim.Native.Nat.{_+_, _*_, _^_};
 ghost use Rattle.fox_layers.specs.Words.{_⊕_};
@@ -37,7 +37,7 @@ impl Fox128 {
     // ek in bytes (001 Fig. 8).
     pub const EK: usize = 32;
 
-    // Register steps to a round key.
+    // Register steps from one round key to the next.
     pub const STEPS: u32 = 11;
 
     pub fn new(ll: u32, lr: u32, rl: u32, rr: u32) -> Fox128
@@ -46,14 +46,14 @@ impl Fox128 {
         Fox128 { ll, lr, rl, rr }
     }
 
-    // What the round function is given: the sum of the left words, then that of the right words.
+    // The round function's input: the XOR of the left words, then that of the right words.
     pub fn round_input(self) -> u64
         ensures { λ r. ⌜ r ≡ (self .ll ⊕ self .lr) * 2 ^ 32 + (self .rl ⊕ self .rr) ⌝ }
     {
         pair(self.ll ^ self.lr, self.rl ^ self.rr)
     }
 
-    // What the round function gives is added, its left half to the left words and its right half to the right words.
+    // The round function's value XORed into the state: its left half with the left words, its right half with the right words.
     pub fn xored(self, t: u64) -> Fox128
         ensures { λ x. ⌜ x ≡ xor128 t self ⌝ }
     {
@@ -95,7 +95,7 @@ impl Fox128 {
         }
     }
 
-    // What follows every round but the last.
+    // What follows every round but the last: "or" in sealing, "io" in opening.
     pub fn between(self, sealing: bool) -> Fox128
         ensures { λ x. ⌜ Of128 x ≡ between sealing (Of128 self) ⌝ }
     {

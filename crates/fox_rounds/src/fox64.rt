@@ -1,4 +1,4 @@
-// FOX64: its constants, its state of two words, and its round by the card's way (001 §2.2.1, §2.2.3, §2.2.4).
+// FOX64: its constants, its state of two words, and its round, computed without tables (001 §2.2.1, §2.2.3, §2.2.4).
 ghost use mathlib.Core.Path.{_≡_};
 ghost use Rattle.fox_rounds.specs.Rounds.{or, io, f32, lmid64, or64, io64};
 ghost use Rattle.fox_rounds.specs.Skeleton.{between};
@@ -11,7 +11,7 @@ pub struct Fox64 {
     pub r: u32,
 }
 
-// "or" (001 §2.2.3): the halves exchanged, which is one rotation, and the new left one added to the right.
+// "or" (001 §2.2.3): the halves exchanged, which is one rotation, and the right half XORed with the new left half.
 pub fn or(w: u32) -> u32
     ensures { λ r. ⌜ r ≡ or w ⌝ }
 {
@@ -46,7 +46,7 @@ impl Fox64 {
 
     pub const EK_LONG: usize = 32;
 
-    // Register steps to a round key, likewise.
+    // Register steps from one round key to the next, likewise.
     pub const STEPS: u32 = 6;
 
     pub const STEPS_LONG: u32 = 11;
@@ -85,7 +85,7 @@ impl Fox64 {
         }
     }
 
-    // What follows every round but the last.
+    // What follows every round but the last: "or" in sealing, "io" in opening.
     pub fn between(self, sealing: bool) -> Fox64
         ensures { λ x. ⌜ Of64 x ≡ between sealing (Of64 self) ⌝ }
     {

@@ -1,4 +1,4 @@
-// A block of either cipher as the words that its rounds work on, and its round by the card's way, whichever cipher it is of.
+// A block of either cipher as the words that its rounds work on, and its round, computed without tables.
 ghost use mathlib.Core.Path.{_≡_};
 ghost use Prim.Native.Nat.{_+_, _*_, _^_};
 ghost use Rattle.fox_rounds.specs.Skeleton.{size, round, between};
@@ -21,7 +21,7 @@ impl State {
         }
     }
 
-    // A round without what follows it. The round key is two words of 64 bits, of which FOX64 takes the right one.
+    // A round without "or" or "io". The round key is two words of 64 bits; FOX64 takes the right one.
     pub fn round(self, left: u64, right: u64) -> State
         ensures { λ y. ⌜ y ≡ round (left * 2 ^ 64 + right) self ⌝ }
     {
@@ -31,7 +31,7 @@ impl State {
         }
     }
 
-    // What follows every round but the last.
+    // What follows every round but the last: "or" in sealing, "io" in opening.
     pub fn between(self, sealing: bool) -> State
         ensures { λ y. ⌜ y ≡ between sealing self ⌝ }
     {

@@ -1,5 +1,5 @@
-// The round-key step of either cipher: whatever needs a round key, the card's way or a prepared key, has it from here, and moves the register by what
-// stands here. A schedule is the mixed key with what the non-linear part wants to know of the key's length (001 §2.3.1 to §2.3.4).
+// The key schedule of either cipher (001 §2.3.1 to §2.3.4): the mixed key, with whether the key has ek bytes. The card engine and the prepared key both take
+// round keys and register steps from here.
 ghost use mathlib.Core.Path.{_≡_};
 ghost use Prim.Native.Nat.{_^_, _<_, _≤_};
 ghost use lib.ListN.{length};
@@ -53,7 +53,7 @@ impl Schedule {
         }
     }
 
-    // FOX64's round keys are the right word.
+    // The round key at the register value reg; for FOX64 it is the right word, and the left word is 0.
     pub fn round_key(self, reg: u32) -> Key128
         requires { ⌜ reg < 2 ^ 24 ⌝ }
         ensures { λ k. ⌜ RoundKeyAt self reg k ⌝ }
@@ -71,7 +71,7 @@ impl Schedule {
         }
     }
 
-    // Where the register stands for the first round: at its seed in sealing, and in opening where the last round key is made.
+    // The register's value for the first round: in sealing the seed, in opening the value for the last round key.
     pub fn first(self, sealing: bool, rounds: u8) -> u32
         requires { ⌜ 1 ≤ rounds ⌝ }
         ensures { λ r. ⌜ RegisterAt self sealing rounds 0 r ⌝ }
@@ -83,7 +83,7 @@ impl Schedule {
         forward(start, ((rounds - 1) as u32) * self.steps())
     }
 
-    // From one round to the next: forward in sealing, and back in opening.
+    // The register's value for the next round: forward in sealing, back in opening.
     pub fn next(self, sealing: bool, reg: u32) -> u32
         requires { ⌜ reg < 2 ^ 24 ⌝ }
         ensures { λ r. ⌜ RegisterNext self sealing reg r ⌝ }

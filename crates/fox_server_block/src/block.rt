@@ -1,5 +1,5 @@
-// One block by the server's way: from a prepared key, and from key bytes. Each call makes the tables once, in its own frame, and lends them and the
-// round keys to the rounds.
+// One block by the server engine: from a prepared key, and from key bytes. Each call builds the tables once, in its own frame, and passes them and the round
+// keys to the rounds by reference.
 ghost use mathlib.Core.Path.{_≡_};
 ghost use Rattle.fox_rounds.specs.Skeleton.{numbered, turned};
 ghost use Rattle.fox_rounds.specs.declared.state.State.the-variants.{Of64, Of128};
@@ -40,7 +40,7 @@ fn block128(sealing: bool, keys: &[u64; 510], rounds: usize, block: &[u8], out: 
     write128(out, y);
 }
 
-// From a prepared key: one that a caller filled himself gets the answer of the round keys that it holds.
+// From a prepared key: the answer is that of the round keys it holds, also where the caller filled it.
 pub fn turn(sealing: bool, p: Prepared, block: &[u8], out: &mut [u8]) -> Answer
     ensures { λ r. ⌜ TurnsWith sealing (p .cipher) (p .rounds) (p .«key_len») (roundKeysIn p) (now (block .entry)) (now (out .entry)) (now (out .exit)) r ⌝ }
 {
@@ -65,7 +65,7 @@ pub fn turn(sealing: bool, p: Prepared, block: &[u8], out: &mut [u8]) -> Answer
     Answer::served(out.len())
 }
 
-// From key bytes, preparing within the call.
+// From key bytes; the key is prepared within the call.
 pub fn turn_from_key(
     sealing: bool,
     cipher: u32,

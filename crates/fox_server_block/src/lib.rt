@@ -1,2 +1,2 @@
-// The server's way on one block: sealing and opening from a prepared key by tables.
+// The server engine on one block: sealing and opening by table lookups, from a prepared key or from key bytes.
 pub mod block;

@@ -1,2 +1,2 @@
-// The server's prepared key.
+// The server engine's prepared key.
 pub mod prepared;

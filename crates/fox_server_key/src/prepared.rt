@@ -1,5 +1,5 @@
-// The prepared key: cipher, rounds, key length in bytes, and the round keys in an array of 510 words, FOX64 one a round and FOX128 two, the left
-// first; the rest are 0. A refused one is all zeros.
+// The prepared key: cipher, rounds, key length in bytes, and the round keys in an array of 510 words: one for each round of FOX64, two for each of FOX128,
+// the left first; the rest are 0. A refused one is all zeros.
 ghost use mathlib.Core.Bool.{true};
 ghost use mathlib.Core.Path.{_≡_};
 ghost use Prim.Native.Nat.{_+_, _*_, _≤_};
@@ -19,7 +19,7 @@ pub struct Prepared {
     pub keys: [u64; 510],
 }
 
-// What preparing a key hands back: the count is the bytes of round keys in use.
+// What preparing a key returns; the count is the bytes of round keys in use.
 pub struct Preparation {
     pub answer: Answer,
     pub key: Prepared,
@@ -68,7 +68,7 @@ fn words(cipher: u32, rounds: u8, key: &[u8]) -> [u64; 510]
     }
 }
 
-// A refused prepared key.
+// The prepared key of a refused call.
 fn zeros() -> Prepared
     ensures { λ r. ⌜ r ≡ noKey ⌝ }
 {

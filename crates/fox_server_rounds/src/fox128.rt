@@ -1,4 +1,4 @@
-// The rounds of FOX128 by the server's way (001 §4.2.2): tables and round keys are lent, so that neither is built or copied here.
+// The rounds of FOX128 by the server engine (001 §4.2.2): tables and round keys are passed by reference, so that neither is built or copied here.
 ghost use mathlib.Core.Path.{_≡_};
 ghost use Prim.Native.Nat.{_+_, _*_, _^_, _≤_, _<_};
 ghost use Rattle.fox_layers.specs.Diffusion.{mu8Rows};
@@ -12,7 +12,7 @@ use crate::lookups::pick8;
 use crate::order::place;
 use fox_rounds::fox128::Fox128;
 
-// The round: substitution alone, and what follows it, go by halves of 32 bits, which are the state's words.
+// One round: the second substitution and the XORs after it are done on halves of 32 bits, which are the state's words.
 pub fn elmid128(s: &[u32; 1024], t: &[u64; 2048], x: Fox128, k: u64, l: u64) -> Fox128
     requires { ⌜ TablesOf mu8Rows (now s) (now t) ⌝ }
     ensures { λ r. ⌜ r ≡ elmid128 (k * 2 ^ 64 + l) x ⌝ }
@@ -28,7 +28,7 @@ pub fn elmid128(s: &[u32; 1024], t: &[u64; 2048], x: Fox128, k: u64, l: u64) -> 
     }
 }
 
-// The round of FOX128 with the key number i of those that are lent.
+// One round of FOX128 with round key number i of those passed by reference.
 pub fn elmid128_at(
     s: &[u32; 1024],
     t: &[u64; 2048],
@@ -43,7 +43,7 @@ pub fn elmid128_at(
     elmid128(s, t, x, keys[2 * i], keys[2 * i + 1])
 }
 
-// A block sealed or opened: the round keys are taken in the order of the direction.
+// A block sealed or opened: sealing takes the round keys from the first to the last, opening from the last to the first.
 pub fn turn128(
     sealing: bool,
     s: &[u32; 1024],

@@ -1,4 +1,4 @@
-// The rounds of FOX64 by the server's way (001 §4.2.2): tables and round keys are lent, so that neither is built or copied here.
+// The rounds of FOX64 by the server engine (001 §4.2.2): tables and round keys are passed by reference, so that neither is built or copied here.
 ghost use mathlib.Core.Path.{_≡_};
 ghost use Prim.Native.Nat.{_≤_};
 ghost use Rattle.fox_layers.specs.Diffusion.{mu4Rows};
@@ -31,7 +31,7 @@ pub fn lmid64(s: &[u32; 1024], t: &[u32; 1024], x: Fox64, rk: u64) -> Fox64
     }
 }
 
-// A block sealed or opened: the round keys are taken in the order of the direction.
+// A block sealed or opened: sealing takes the round keys from the first to the last, opening from the last to the first.
 pub fn turn64(
     sealing: bool,
     s: &[u32; 1024],

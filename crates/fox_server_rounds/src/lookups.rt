@@ -1,13 +1,13 @@
-// Lookups in an array of tables that the caller lends (001 §2.2.6, §4.2.2).
+// Lookups in an array of tables that is passed by reference (001 §2.2.6, §4.2.2).
 //
-// A lookup is stated for whatever it is lent. Where that is the TBS tables, or a matrix's TBSM tables, the laws picked-TBS, picked-mu4 and
-// picked-mu8 say that it is sigma, and mu after sigma.
+// A lookup's promise holds for any tables. In the shifted S-box (TBS) a lookup is sigma, and in the joined S-box/diffusion tables (TBSM) of a matrix it is mu
+// after sigma: so say the laws picked-TBS, picked-mu4 and picked-mu8.
 ghost use mathlib.Core.Path.{_≡_};
 ghost use Prim.Native.Nat.{_+_, _*_, _%_, _<_};
 ghost use lib.ListN.{getD};
 ghost use Rattle.fox_layers.specs.Tables.{picked};
 
-// Of the table number j of four.
+// The entry at byte i of table number j of four.
 fn of4(t: &[u32; 1024], j: usize, i: u32) -> u32
     requires { ⌜ j < 4 ⌝ }
     ensures { λ r. ⌜ r ≡ getD (now (t .entry)) (j * 256 + i % 256) 0 ⌝ }
@@ -15,7 +15,7 @@ fn of4(t: &[u32; 1024], j: usize, i: u32) -> u32
     t[j * 256 + (i % 256) as usize]
 }
 
-// Of the table number j of eight.
+// The entry at byte i of table number j of eight.
 fn of8(t: &[u64; 2048], j: usize, i: u64) -> u64
     requires { ⌜ j < 8 ⌝ }
     ensures { λ r. ⌜ r ≡ getD (now (t .entry)) (j * 256 + i % 256) 0 ⌝ }

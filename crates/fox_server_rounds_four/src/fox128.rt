@@ -1,5 +1,5 @@
-// Four blocks of FOX128 sealed side by side over lent tables and lent round keys: each round key is read once for the four.
-// The round stands here with "or" and without it, for the reason given in four64.
+// Four blocks of FOX128 sealed side by side, with tables and round keys passed by reference: each round key is read once for the four.
+// There is one round with "or" and one without it, for the reason given in fox64.rt.
 ghost use mathlib.Core.Path.{_≡_};
 ghost use Prim.Native.Nat.{_+_, _*_, _^_, _≤_};
 ghost use Rattle.fox_layers.specs.Diffusion.{mu8Rows};
@@ -17,7 +17,7 @@ pub struct Four128 {
     pub fourth: Fox128,
 }
 
-// The round of all four with one round key, of two words: the left one k, the right one l.
+// One round of all four blocks with one round key of two words: k the left, l the right.
 fn elmid_four128(s: &[u32; 1024], t: &[u64; 2048], x: Four128, k: u64, l: u64) -> Four128
     requires { ⌜ TablesOf mu8Rows (now s) (now t) ⌝ }
     ensures { λ r. ⌜ r ≡ elmidFour128 (k * 2 ^ 64 + l) x ⌝ }
@@ -34,7 +34,7 @@ fn elmid_four128(s: &[u32; 1024], t: &[u64; 2048], x: Four128, k: u64, l: u64) -
     }
 }
 
-// The round of all four with one round key, and "or" after it.
+// One round of all four blocks with one round key, and "or" after it.
 fn elmor_four128(s: &[u32; 1024], t: &[u64; 2048], x: Four128, k: u64, l: u64) -> Four128
     requires { ⌜ TablesOf mu8Rows (now s) (now t) ⌝ }
     ensures { λ r. ⌜ r ≡ orFour128 (elmidFour128 (k * 2 ^ 64 + l) x) ⌝ }

@@ -1,6 +1,5 @@
-// Four blocks of FOX64 sealed side by side over lent tables and lent round keys: each round key is read once for the four.
-// The round stands here with "or" and without it. Each of the two is called at one place only, so that the compiler sets it in there and the states
-// stay in registers.
+// Four blocks of FOX64 sealed side by side, with tables and round keys passed by reference: each round key is read once for the four.
+// There is one round with "or" and one without it. Each is called at one place only, so that the compiler inlines it and the states stay in registers.
 ghost use mathlib.Core.Path.{_≡_};
 ghost use Prim.Native.Nat.{_≤_};
 ghost use Rattle.fox_layers.specs.Diffusion.{mu4Rows};
@@ -18,7 +17,7 @@ pub struct Four64 {
     pub fourth: Fox64,
 }
 
-// The round of all four with one round key.
+// One round of all four blocks with one round key.
 fn lmid_four64(s: &[u32; 1024], t: &[u32; 1024], x: Four64, rk: u64) -> Four64
     requires { ⌜ TablesOf mu4Rows (now s) (now t) ⌝ }
     ensures { λ r. ⌜ r ≡ lmidFour64 rk x ⌝ }
@@ -35,7 +34,7 @@ fn lmid_four64(s: &[u32; 1024], t: &[u32; 1024], x: Four64, rk: u64) -> Four64
     }
 }
 
-// The round of all four with one round key, and "or" after it.
+// One round of all four blocks with one round key, and "or" after it.
 fn lmor_four64(s: &[u32; 1024], t: &[u32; 1024], x: Four64, rk: u64) -> Four64
     requires { ⌜ TablesOf mu4Rows (now s) (now t) ⌝ }
     ensures { λ r. ⌜ r ≡ orFour64 (lmidFour64 rk x) ⌝ }

@@ -1,4 +1,4 @@
-// A stretch of a run of FOX128 by the server's way.
+// A stretch of a run of FOX128 by the server engine.
 ghost use mathlib.Core.Path.{_≡_};
 ghost use Prim.Native.Nat.{_+_, _≤_};
 ghost use lib.ListN.{length};
@@ -20,7 +20,7 @@ use fox_server_run_four::fox128::four_blocks128;
 use fox_server_tables::tbs;
 use fox_server_tables::tbsm8;
 
-// The block that the run's byte n is in, from that byte on.
+// Seals the block that the run's byte n is in, from that byte on; returns the bytes done.
 fn one_block128(
     s: &[u32; 1024],
     t: &[u64; 2048],
@@ -40,7 +40,7 @@ fn one_block128(
     xor_part128(sealed, n % 16, input, out)
 }
 
-// Four whole blocks where byte n begins one and there are so many; else as far as its block goes.
+// Seals four whole blocks where byte n begins a block and the input has four, or else the rest of byte n's block; returns the bytes done.
 fn part128(
     s: &[u32; 1024],
     t: &[u64; 2048],
@@ -64,7 +64,7 @@ fn part128(
     one_block128(s, t, keys, rounds, x, n, input, out)
 }
 
-// Part after part.
+// Seals part after part, up to the end of the input.
 fn stretch128(
     s: &[u32; 1024],
     t: &[u64; 2048],

@@ -1,4 +1,4 @@
-// A stretch of a run of FOX64 by the server's way.
+// A stretch of a run of FOX64 by the server engine.
 ghost use mathlib.Core.Path.{_≡_};
 ghost use Prim.Native.Nat.{_+_, _≤_};
 ghost use lib.ListN.{length};
@@ -20,7 +20,7 @@ use fox_server_run_four::fox64::four_blocks64;
 use fox_server_tables::tbs;
 use fox_server_tables::tbsm4;
 
-// The block that the run's byte n is in, from that byte on.
+// Seals the block that the run's byte n is in, from that byte on; returns the bytes done.
 fn one_block64(
     s: &[u32; 1024],
     t: &[u32; 1024],
@@ -40,7 +40,7 @@ fn one_block64(
     xor_part64(sealed, n % 8, input, out)
 }
 
-// Four whole blocks where byte n begins one and there are so many; else as far as its block goes.
+// Seals four whole blocks where byte n begins a block and the input has four, or else the rest of byte n's block; returns the bytes done.
 fn part64(
     s: &[u32; 1024],
     t: &[u32; 1024],
@@ -64,7 +64,7 @@ fn part64(
     one_block64(s, t, keys, rounds, x, n, input, out)
 }
 
-// Part after part.
+// Seals part after part, up to the end of the input.
 fn stretch64(
     s: &[u32; 1024],
     t: &[u32; 1024],

@@ -1,4 +1,4 @@
-// A stretch of a run by the server's way, from a prepared key and from key bytes: every input is answered.
+// A stretch of a run by the server engine, from a prepared key and from key bytes: every input is answered.
 ghost use Rattle.fox_server_key.specs.Prepared.{roundKeysIn};
 ghost use Rattle.fox_run.specs.Promise.{Runs, RunsWith};
 use crate::fox64::run64;
@@ -8,7 +8,7 @@ use fox_refusals::stretch::for_run;
 use fox_server_key::prepared::Prepared;
 use fox_server_key::prepared::prepare;
 
-// From a prepared key: one that a caller filled himself gets the answer of the round keys that it holds.
+// From a prepared key: the answer is that of the round keys it holds, also where the caller filled it.
 pub fn run(p: Prepared, counter: &[u8], offset: u64, input: &[u8], out: &mut [u8]) -> Answer
     ensures { λ r. ⌜ RunsWith (p .cipher) (p .rounds) (p .«key_len») (roundKeysIn p) (now (counter .entry)) offset (now (input .entry)) (now (out .entry)) (now (out .exit)) r ⌝ }
 {
@@ -35,7 +35,7 @@ pub fn run(p: Prepared, counter: &[u8], offset: u64, input: &[u8], out: &mut [u8
     Answer::served(out.len())
 }
 
-// From key bytes, preparing within the call.
+// From key bytes; the key is prepared within the call.
 pub fn run_from_key(
     cipher: u32,
     rounds: u32,

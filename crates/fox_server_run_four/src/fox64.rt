@@ -1,4 +1,4 @@
-// Four counter blocks of FOX64 sealed side by side and added to the bytes that are theirs.
+// Four counter blocks of FOX64 sealed side by side and XORed with their 32 bytes of the input.
 ghost use mathlib.Core.Path.{_≡_};
 ghost use mathlib.Core.List.{_++_};
 ghost use Prim.Native.Nat.{_+_, _%_, _≤_};
@@ -50,7 +50,7 @@ fn counted_four64(x: Fox64, i: u32) -> Four64
     }
 }
 
-// The four blocks from the run's byte n on, which begins a block.
+// Seals the four blocks from the run's byte n on, which begins a block.
 pub fn four_blocks64(
     s: &[u32; 1024],
     t: &[u32; 1024],

@@ -1,11 +1,11 @@
-// The TBS tables of a word of four bytes (001 §4.2.2), one after the other: the box moved to each of the four bytes, so that substitution is a sum of
-// look-ups. They are made from the box.
+// The shifted S-box (TBS) of a word of four bytes (001 §4.2.2): four tables, one after the other, with the S-box shifted to each of the four bytes, so that
+// substitution is an XOR of lookups. They are computed from the S-box.
 ghost use mathlib.Core.Path.{_≡_};
 ghost use Prim.Native.Nat.{_*_, _-_, _^_, _<_};
 ghost use Rattle.fox_layers.specs.Tables.{TBS};
 use fox_engine_sbox::sbox::sbox;
 
-// A byte moved to byte number j of a word.
+// A byte shifted to byte number j of a word.
 fn shifted(b: u8, j: usize) -> u32
     requires { ⌜ j < 4 ⌝ }
     ensures { λ r. ⌜ r ≡ b * 2 ^ (8 * (3 - j)) ⌝ }

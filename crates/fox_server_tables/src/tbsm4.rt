@@ -1,4 +1,5 @@
-// The joined tables of mu4 (001 §4.2.2), made from four constants: table number j holds, at each byte, column j of the matrix times the box's value.
+// The joined S-box/diffusion tables (TBSM) of mu4 (001 §4.2.2), copied from four constants: table number j has at each byte column j of the matrix times the
+// S-box's value.
 ghost use mathlib.Core.Path.{_≡_};
 ghost use Prim.Native.Nat.{_+_, _<_};
 ghost use Rattle.fox_layers.specs.Diffusion.{mu4Rows};
@@ -1054,7 +1055,7 @@ fn constant(j: usize) -> [u32; 256]
     }
 }
 
-// Sets table number j in its place, behind those before it.
+// Writes table number j at its place, after those before it.
 fn set_table(t: &mut [u32; 1024], j: usize)
     requires { ⌜ j < 4 ⌝ }
     requires { ⌜ FilledTo (TBSM mu4Rows) j (now t) ⌝ }

@@ -1,4 +1,5 @@
-// The joined tables of mu8 (001 §4.2.2), made from eight constants: table number j holds, at each byte, column j of the matrix times the box's value.
+// The joined S-box/diffusion tables (TBSM) of mu8 (001 §4.2.2), copied from eight constants: table number j has at each byte column j of the matrix times the
+// S-box's value.
 ghost use mathlib.Core.Path.{_≡_};
 ghost use Prim.Native.Nat.{_+_, _<_};
 ghost use Rattle.fox_layers.specs.Diffusion.{mu8Rows};
@@ -2094,7 +2095,7 @@ fn constant(j: usize) -> [u64; 256]
     }
 }
 
-// Sets table number j in its place, behind those before it.
+// Writes table number j at its place, after those before it.
 fn set_table(t: &mut [u64; 2048], j: usize)
     requires { ⌜ j < 8 ⌝ }
     requires { ⌜ FilledTo (TBSM mu8Rows) j (now t) ⌝ }

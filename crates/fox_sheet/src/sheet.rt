@@ -1,4 +1,4 @@
-// What reading a sheet hands back. `line` is the number of the first line that breaks its rule, or 0.
+// What reading a sheet returns. `line` is the number of the first line that breaks its rule, or 0.
 // `size` is the number of bytes in the key.
 pub struct Settings {
     pub line: u32,

@@ -1,4 +1,4 @@
-// The answer to a sheet, by the card's way.
+// The answer to a bench sheet, by the card engine.
 ghost use mathlib.Core.Path.{_≡_};
 ghost use Prim.Native.Nat.{_≤_};
 ghost use lib.ListN.{length};
@@ -12,7 +12,7 @@ use fox_text_lines::lines::after_line;
 use fox_text_write::writing::put_decimal_line;
 use fox_text_write::writing::put_pairs_line;
 
-// How many bytes an answer's buffer has.
+// The size of an answer's buffer in bytes.
 pub const ROOM: usize = 128;
 
 fn put_broken(line: u32, out: &mut [u8]) -> usize
@@ -34,7 +34,7 @@ fn put_served(cipher: u32, rounds: u32, key: usize, block: &[u8], out: &mut [u8]
     put_pairs_line(out, d, b"block=", block)
 }
 
-// `room` is where the turned block goes.
+// `room` is the output for the sealed or opened block.
 fn write_answer(
     sealing: bool,
     cipher: u32,
@@ -71,7 +71,7 @@ fn answer_block(
     write_answer(sealing, cipher, rounds, key, block, &mut room[..n], out)
 }
 
-// Every byte that the bench program prints for the sheet, at the start of the output; their count is handed back.
+// Every byte that the bench program prints for the sheet, at the start of the output; returns their count.
 pub fn answer(sheet: &[u8], out: &mut [u8; ROOM]) -> usize
     ensures { λ r. ⌜ Answers (now (sheet .entry)) (now (out .entry)) (now (out .exit)) r ⌝ }
 {

@@ -1,2 +1,2 @@
-// The bench sheet answered by the card's way, and the answer written.
+// The bench sheet answered by the card engine, and the answer written.
 pub mod answer;

@@ -1,2 +1,2 @@
-// The bench sheet read.
+// The bench sheet read: its settings, and its task.
 pub mod sheet;

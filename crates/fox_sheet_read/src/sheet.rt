@@ -1,5 +1,5 @@
-// The sheet's five lines, read in two steps: the settings (cipher, rounds and key), and the task (way and block, with nothing after them). Each hands
-// back the number of the first line that breaks its rule, or 0.
+// The sheet's five lines, read in two steps: the settings (cipher, rounds and key), and the task (way and block, with nothing after them). Each step returns
+// the number of the first line that breaks its rule, or 0.
 ghost use mathlib.Core.Path.{_≡_};
 ghost use mathlib.Core.Bool.{cond};
 ghost use Rattle.fox_sheet.specs.Reading.{ReadsSettings, ReadsTask, ReadsWay};
@@ -13,7 +13,7 @@ use fox_text_lines::lines::same;
 use fox_text_read::fields::decimal_line;
 use fox_text_read::fields::pairs_line;
 
-// The first broken line, from a line on: that one, or else the first after it.
+// The number of the first line that breaks its rule: this line's where it is not right, or else the first of the later ones.
 pub fn first_broken(number: u32, right: bool, later: u32) -> u32
     ensures { λ r. ⌜ r ≡ cond right later number ⌝ }
 {
@@ -49,7 +49,7 @@ fn way_line(t: &[u8]) -> Way
     }
 }
 
-// Of what follows the first three lines.
+// Reads what follows the first three lines.
 pub fn read_task(t: &[u8], block: &mut [u8; 32]) -> Task
     ensures { λ r. ⌜ ReadsTask (now (t .entry)) (now (block .entry)) (now (block .exit)) r ⌝ }
 {

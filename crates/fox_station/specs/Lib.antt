@@ -1,2 +1,2 @@
--- What the station's exports promise.
+-- What the station's exports promise: the calls that C programs make.
 pub mod Exports

@@ -1,4 +1,4 @@
-// The station's calls by the card's way, on numbers and byte slices. Each hands back the refusal number, 0 for success, from which the count follows: the
+// The station's calls by the card engine, on numbers and byte slices. Each returns the refusal number, 0 for success, from which the count follows: the
 // output length, or 0.
 ghost use mathlib.Core.Bool.{true, false};
 ghost use Rattle.fox_station.specs.Exports.{RunHanded, TurnHanded};

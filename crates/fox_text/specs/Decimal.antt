@@ -39,7 +39,7 @@ pub record Found (ok : Bool) (n : ℕ) (r : Decimal) : Type 0 where
   pub right : r .right ≡ ok
   pub value : r .value ≡ cond ok n 0
 
--- a number's last digits, at most k of them, with no leading zero
+-- the last k digits of a number, or all of its digits, with no leading zero, where it has at most k
 unfoldable pub digitsText : ℕ → ℕ → List ℕ
 digitsText zero n = []
 digitsText (suc k) n = cond (ltb n 10) ((48 + n) ∷ []) (digitsText k (n / 10) ++ ((48 + n % 10) ∷ []))

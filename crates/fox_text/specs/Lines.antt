@@ -34,7 +34,7 @@ unfoldable pub lines : ℕ → List ℕ → List (List ℕ)
 lines zero t = []
 lines (suc n) t = line t ∷ lines n (afterLine t)
 
--- r is the text after the first line of t, and shorter than t
+-- r is the text after the first line of t: shorter than t, or empty where t is
 pub record After (t r : List ℕ) : Type 0 where
   pub is : r ≡ afterLine t
   pub shorter : length r ≤ length t - 1
@@ -44,7 +44,7 @@ unfoldable pub textOf : List (List ℕ) → List ℕ
 textOf [] = []
 textOf (l ∷ ls) = l ++ 10 ∷ textOf ls
 
--- the place where the first line of t ends, which is within t: so many bytes are there for it
+-- r is the place where the first line of t ends, which is within t, and so many bytes of t come before it
 pub record Ends (t : List ℕ) (r : ℕ) : Type 0 where
   pub is : r ≡ lineEnd t
   pub within : r ≤ length t

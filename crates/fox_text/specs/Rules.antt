@@ -10,7 +10,7 @@ use Rattle.fox_text.specs.Lines.{hasLine, line, afterLine}
 abbrev pub Test : Type 0
 Test = List ℕ → Bool
 
--- whether a text begins with a line, ended as it should be, that passes a test
+-- whether a text begins with a line that is ended and passes a test
 unfoldable pub isLine : Test → List ℕ → Bool
 isLine test t = hasLine t && test (line t)
 

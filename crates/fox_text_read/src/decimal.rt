@@ -9,8 +9,7 @@ pub fn is_digit(d: u8) -> bool
     (48 <= d) & (d <= 57)
 }
 
-// The number that digits make, with or without a leading zero. It only grows, so the first digit that takes it above the limit settles the matter, however
-// many follow.
+// The value of digits, with or without a leading zero. It only grows, so the first digit that takes it above the limit settles the answer, however many follow.
 fn digits(ds: &[u8], most: u32) -> Decimal
     ensures { λ r. ⌜ Found (inRange most (now (ds .entry))) (decimalOf (now (ds .entry))) r ⌝ }
 {
@@ -35,7 +34,7 @@ fn digits(ds: &[u8], most: u32) -> Decimal
     }
 }
 
-// Whether there are digits, and no zero before others.
+// Whether there is at least one digit, and no leading zero.
 fn begins(ds: &[u8]) -> bool
     ensures { λ r. ⌜ r ≡ begins (now (ds .entry)) ⌝ }
 {

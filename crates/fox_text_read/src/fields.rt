@@ -1,4 +1,5 @@
-// A text's first line, where it is to be a name and a value. What a line says that is not right is 0 bytes, and 0 where no decimal stands after the name.
+// Reads a text's first line, which is to be a name and a value. A line of pairs that is not well-formed gives 0 bytes; a decimal line gives 0 where no
+// decimal follows the name.
 ghost use mathlib.Core.Path.{_≡_};
 ghost use Prim.Native.Nat.{_≤_};
 ghost use lib.ListN.{length};

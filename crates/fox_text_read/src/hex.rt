@@ -21,7 +21,7 @@ fn all_hex(ds: &[u8]) -> bool
     true
 }
 
-// Whether the digits are pairs, at most so many.
+// Whether the digits are pairs of hex digits, at most `most` of them.
 pub fn is_pairs(ds: &[u8], most: usize) -> bool
     ensures { λ r. ⌜ r ≡ isPairs most (now (ds .entry)) ⌝ }
 {
@@ -35,7 +35,7 @@ fn nibble(d: u8) -> u8
     if d < 65 { d - 48 } else { d - 55 }
 }
 
-// Writes the bytes that the pairs stand for at the start of the output, and nothing past them.
+// Writes the bytes of the pairs at the start of the output, and nothing past them.
 pub fn join_pairs(ds: &[u8], out: &mut [u8])
     requires { ⌜ Joins (now ds) (now out) ⌝ }
     ensures { λ _. ⌜ now (out .exit) ≡ sets (now (out .entry)) 0 (pairsOf (now (ds .entry))) ⌝ }

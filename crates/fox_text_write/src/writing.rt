@@ -1,4 +1,4 @@
-// Texts written into a buffer from a place on. Each hands back the place after its last byte, and says how far that can be.
+// Texts written into a buffer from a place on. Each function returns the place after its last byte, and promises a limit for it.
 ghost use mathlib.Core.Path.{_≡_};
 ghost use Prim.Native.Nat.{_+_, _*_, _≤_, _<_};
 ghost use lib.ListN.{length};
@@ -17,7 +17,7 @@ pub fn put(out: &mut [u8], at: usize, text: &[u8]) -> usize
     at + text.len()
 }
 
-// The last `places` digits of a number, with no zero in front.
+// The last `places` digits of a number, or all of its digits, with no leading zero, where it has at most `places`.
 pub fn put_digits(out: &mut [u8], at: usize, n: u32, places: usize) -> usize
     requires { ⌜ at + places ≤ length (now out) ⌝ }
     ensures { λ r. ⌜ Put places (digitsText places n) (now (out .entry)) (now (out .exit)) at r ⌝ }
@@ -52,7 +52,7 @@ pub fn put_hex(out: &mut [u8], at: usize, bytes: &[u8]) -> usize
     at + bytes.len() * 2
 }
 
-// A name, a number of five digits at most, and a line feed.
+// A name, a number of at most five digits, and a line feed.
 pub fn put_decimal_line(out: &mut [u8], at: usize, name: &[u8], n: u32) -> usize
     requires { ⌜ at + (length (now name) + 6) ≤ length (now out) ⌝ }
     ensures { λ r. ⌜ PutsDecimal (now (name .entry)) n (now (out .entry)) (now (out .exit)) at r ⌝ }
