@@ -1,6 +1,6 @@
--- Opening a block undoes sealing it, and sealing undoes opening: by the round keys of any list, so also by those that a caller put into a prepared key
--- himself, and by those of a key. First on the definitions, and then on calls, whichever engines they are: when a call on a block is served and what it gives, that
--- two of them answer the same, and that one undoes the other.
+-- Opening a block undoes sealing it, and sealing undoes opening: with any list of round keys, so also with those that a caller filled into a prepared key,
+-- and with those of a key. First on the definitions, then on calls of any engines: when a call on a block is served and what it gives, that two calls answer
+-- the same, and that one undoes the other.
 -- Assumes nothing.
 use mathlib.Core.Path.{_≡_, sym, ap, _∙_}
 use mathlib.Core.Bool.{Bool, true, false, not}
@@ -22,7 +22,7 @@ use Rattle.fox_block.specs.Promise.{TurnsWith, TurnedBack}
 use Rattle.fox_block.proofs.Laws.Block.{length-turned}
 use Rattle.fox_block.proofs.Laws.States.{state-bytes, bytes-state, state-fits}
 
--- by the round keys of any list, and in either direction
+-- with any list of round keys, in either direction
 module _ (d : Bool) (c : ℕ) (ks block : List ℕ) (b : BlockOf c block) where
   pub turn-back-with : turnWith (not d) c ks (turnWith d c ks block) ≡ block
   unfolding turnWith
@@ -41,7 +41,7 @@ module _ (c rounds : ℕ) (key block : List ℕ) (k : Keyed c rounds (length key
   pub seal-open : sealBlock c rounds key (openBlock c rounds key block) ≡ block
   seal-open = turn-back-with false c (roundKeys c rounds key) block b
 
--- A call on a block of the cipher's size, with an output as long: served, with the count B, and the block sealed or opened.
+-- A call on a block of the cipher's size, with an output as long, is served with the count B and gives the block sealed or opened.
 module _ (d : Bool) (c rounds keyLen : ℕ) (ks block : List ℕ) (k : Keyed c rounds keyLen) (size : length block ≡ blockSize c) where
   pub block-served : {before after : List ℕ} {r : Answer} → length before ≡ blockSize c → TurnsWith d c rounds keyLen ks block before after r
       → Served (blockSize c) (turnWith d c ks block) after r
@@ -55,8 +55,9 @@ pub blocks-same : (d : Bool) (c rounds keyLen : ℕ) (ks block : List ℕ) {befo
     → Same before₁ before₂ after₁ after₂ r₁ r₂
 blocks-same d c rounds keyLen ks block l a b = same (ap (forBlock d c rounds keyLen (length block)) l) l a b
 
--- A call that seals or opens a block, and a call that turns it back with the same round keys: both are served, and the second hands the block back. With the
--- round keys of a key this is every pair of ways from key bytes; with those that a prepared key holds, whoever filled it, every pair that uses that key.
+-- A call that seals or opens a block, and the inverse call on its output with the same round keys: both are served, and the second gives the block back. With
+-- the round keys of a key this is any two engines from key bytes; with those that a prepared key holds, whoever filled it, any two engines that use that
+-- prepared key.
 module _ (d : Bool) (c rounds keyLen : ℕ) (ks block : List ℕ) (k : Keyed c rounds keyLen) (b : BlockOf c block) where
   pub turned-back-calls : {before mid before-back after : List ℕ} {r s : Answer} → length before ≡ blockSize c → length before-back ≡ blockSize c
       → TurnsWith d c rounds keyLen ks block before mid r → TurnsWith (not d) c rounds keyLen ks mid before-back after s → TurnedBack c block after r s

@@ -1,4 +1,4 @@
--- 001's four test vectors of FOX128 sealed, and one of each key schedule opened, computed by the definitions: as many in one statement as the prover
+-- 001's four test vectors of FOX128 sealed, and one of the key schedule KS128 opened, computed by the definitions: as many in one statement as the prover
 -- computes at once.
 -- Assumes nothing.
 use mathlib.Core.Path.{_≡_, refl}
@@ -32,7 +32,7 @@ unfolding key plain128 joined split xorEach xorOver polynomial rest product S₁
     bytes128 state bytes turnWith roundKey roundKeys sealed128
 sealed-long = refl
 
--- by KS128
+-- a vector of KS128
 pub opened : openBlock 128 16 (take 16 key) (getD sealed128 1 []) ≡ plain128
 unfolding key plain128 joined split xorEach xorOver polynomial rest product S₁ S₂ S₃ halves whole or4 lmid4 lmor4 sbox sigma dot times mu8Rows
     diffused mu8 left right or io f f64 xor128 elmid128 or128 io128 numbered through round between inOrder turned seal128 pad padded mixed

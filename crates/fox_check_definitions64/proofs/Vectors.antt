@@ -1,5 +1,5 @@
--- 001's four test vectors of FOX64 sealed, and one of each key schedule opened, computed by the definitions: as many in one statement as the prover
--- computes at once.
+-- 001's four test vectors of FOX64 sealed, and one of each of the key schedules KS64 and KS64h opened, computed by the definitions: as many in one statement
+-- as the prover computes at once.
 -- Assumes nothing.
 use mathlib.Core.Path.{_≡_, refl}
 use mathlib.Core.List.{[], _∷_}
@@ -25,7 +25,7 @@ unfolding key plain64 joined split xorEach xorOver polynomial rest product S₁ 
     state bytes turnWith roundKey roundKeys sealed64
 sealed = refl
 
--- by KS64 and by KS64h
+-- a vector of KS64, and one of KS64h
 pub opened : openBlock 64 16 (take 8 key) (getD sealed64 0 []) ∷ openBlock 64 16 (take 24 key) (getD sealed64 2 []) ∷ [] ≡ plain64 ∷ plain64 ∷ []
 unfolding key plain64 joined split xorEach xorOver polynomial rest product S₁ S₂ S₃ halves whole or4 lmid4 lmor4 sbox sigma dot times mu4Rows
     diffused mu4 left right or io f f32 lmid64 or64 io64 numbered through round between inOrder turned seal64 pad padded mixed mkey seed

@@ -1,2 +1,2 @@
--- What the program prints for sheets, computed by the definitions.
+-- What the bench program prints for sheets whose block is served, computed by the definitions.
 pub mod Sheets

@@ -1,5 +1,5 @@
--- The definitions at values that the specification states or that follow from one of its rows: a product (001 §1.6.2), 02 and its inverse, the
--- box at 4C (001 §2.2.6), and the first and the last column of mu4 and of mu8. antt computes them, as one list.
+-- The definitions at values that the specification states or that follow from one of its rows: a product (001 §1.6.2), 02 and its inverse, the S-box at 4C
+-- (001 §2.2.6), and the first and the last column of mu4 and of mu8. The prover computes them, as one list.
 -- Assumes nothing.
 use mathlib.Core.Path.{_≡_, refl}
 use mathlib.Core.List.{[], _∷_}

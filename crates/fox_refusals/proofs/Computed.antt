@@ -1,5 +1,5 @@
--- The order of refusals and their limits, computed by the definitions and stated as one list: each pair of neighbouring faults at once, of which the first
--- answers, for a key, a block and a stretch; and the last value that is served beside the first that is not.
+-- The order of refusals and their limits, computed by the definitions and stated as one list: each pair of neighbouring faults at once, of which the first is
+-- given, for a key, a block and a stretch; and the last value that is served beside the first that is not.
 -- Assumes nothing.
 use mathlib.Core.Path.{_≡_, refl}
 use mathlib.Core.Bool.{true, false}

@@ -1,5 +1,5 @@
--- A run in counter mode, byte by byte, in the words of 01: run byte n is XORed with byte n mod B of the sealed counter block number n div B. On the definition,
--- and on what a served call wrote, by any engine.
+-- A run in counter mode, byte by byte, in the words of 01: run byte n is XORed with byte n mod B of the sealed counter block number n div B. On the
+-- definition, and on what a served call wrote, by any engine.
 -- Assumes nothing.
 use mathlib.Core.Path.{_≡_, ap, _∙_}
 use mathlib.Core.List.{List}

@@ -1,4 +1,5 @@
--- Counting starts at the counter block that is given, its lowest 32 bits count and the others stay, and no counter block of a run comes twice: within a run fewer than 2 ^ 32 blocks are counted, so the lowest 32 bits, which count, do not come round.
+-- Counting starts at the counter block that is given, its lowest 32 bits count and the others stay, and no counter block of a run comes twice: a run has
+-- fewer than 2 ^ 32 blocks, so the lowest 32 bits do not come round.
 -- Assumes nothing.
 use mathlib.Core.Path.{_≡_, refl, sym, ap, _∙_}
 use mathlib.Core.Logic.{⊎-elim}
@@ -22,7 +23,7 @@ counting counter i =
     let kept = length counter - 4 in
     ap joined (drop-at (take kept counter) _ kept (length-take-le kept counter (omega arith))) ∙ joined-split 4 _ (mod-lt _ (zero-lt-suc 4294967295))
 
--- the others stay
+-- the other bits stay
 pub staying : (counter : List ℕ) (i : ℕ) → take (length counter - 4) (counterBlock counter i) ≡ take (length counter - 4) counter
 unfolding counterBlock
 staying counter i =
@@ -31,7 +32,7 @@ staying counter i =
     let low = split 4 ((joined (drop kept counter) + i) % 2 ^ 32) in
     ap (λ (k : ℕ). take k (front ++ low)) (sym (length-take-le kept counter (omega arith))) ∙ take-append-seam front low
 
--- the whole circle of 2 ^ 32 counts, for any first block that has room for them
+-- 2 ^ 32 counts in a row all differ, for any first counter block of at least 4 bytes
 pub counters-apart : (counter : List ℕ) (i j : ℕ) → 4 ≤ length counter → i < j → j < 2 ^ 32 → counterBlock counter i ≡ counterBlock counter j → ⊥
 counters-apart counter i j size h l e =
     let a = joined (drop (length counter - 4) counter) in
@@ -42,13 +43,13 @@ counters-apart counter i j size h l e =
 size-low : (c : ℕ) → 8 ≤ blockSize c
 size-low c = by-cipher c (λ e. omega (arith, size-64 c e)) (λ n. omega (arith, size-128 c n))
 
--- as far as a run goes, by a counter block of the cipher's size
+-- the counter blocks of a run all differ, for a counter block of the cipher's size
 pub counters-differ : (c : ℕ) (counter : List ℕ) (i j : ℕ) → length counter ≡ blockSize c → i < j → j * blockSize c < 1073741824
     → counterBlock counter i ≡ counterBlock counter j → ⊥
 counters-differ c counter i j size h l e =
     counters-apart counter i j (omega (arith, size-low c)) h (omega (arith, mul-le-mul-left j (size-low c))) e
 
--- two bytes of a run that do not lie in one block
+-- two bytes of a run that are not in one block have different counter blocks
 pub bytes-apart : (c : ℕ) (counter : List ℕ) (m n : ℕ) → length counter ≡ blockSize c → m < 1073741824 → n < 1073741824
     → (m / blockSize c ≡ n / blockSize c → ⊥) → counterBlock counter (m / blockSize c) ≡ counterBlock counter (n / blockSize c) → ⊥
 bytes-apart c counter m n size hm hn apart e =
@@ -56,7 +57,7 @@ bytes-apart c counter m n size hm hn apart e =
     ⊎-elim (λ z. counters-differ c counter (n / B) (m / B) size (omega arith) (omega (arith, div-mul-le-self m B)) (sym e))
     (λ p. counters-differ c counter (m / B) (n / B) size (omega arith) (omega (arith, div-mul-le-self n B)) e) (eq-zero-or-pos (n / B - m / B))
 
--- the counter block number 0 is the one that the run is given
+-- counter block number 0 is the one that is given
 pub counter-first : (counter : List ℕ) → Bytes counter → 4 ≤ length counter → counterBlock counter 0 ≡ counter
 unfolding counterBlock
 counter-first counter bytes size =
@@ -69,7 +70,7 @@ counter-first counter bytes size =
     ∙ ap (λ (bs : List ℕ). take kept counter ++ bs) same
     ∙ take-append-drop kept counter
 
--- known values, of 8 and of 16 bytes: no bit of the lowest 32 reaches what stands before, and a byte that is full carries into the next
+-- known values, of 8 and of 16 bytes: the lowest 32 bits carry from byte to byte, and nothing carries out of them
 pub counter-values : counterBlock (0 ∷ 0 ∷ 0 ∷ 0 ∷ 255 ∷ 255 ∷ 255 ∷ 255 ∷ []) 1
     ∷ counterBlock (1 ∷ 2 ∷ 3 ∷ 4 ∷ 255 ∷ 255 ∷ 255 ∷ 254 ∷ []) 3
     ∷ counterBlock (1 ∷ 2 ∷ 3 ∷ 4 ∷ 5 ∷ 6 ∷ 7 ∷ 8 ∷ 9 ∷ 10 ∷ 11 ∷ 12 ∷ 255 ∷ 255 ∷ 255 ∷ 255 ∷ []) 1

@@ -1,5 +1,5 @@
--- Opening a run undoes sealing it, since both are the same sum, and a byte of the key stream that is added twice is gone: by the round keys of any list, so by
--- those that a prepared key holds and by those of a key, for every cipher, round count, counter block and offset. And two calls on the same stretch, with
+-- Opening a run undoes sealing it, since both are the same XOR, and XOR twice with the same key stream changes nothing: with any list of round keys, so with
+-- those that a prepared key holds and with those of a key, for every cipher, round count, counter block and offset. And two calls on the same stretch, with
 -- outputs of one length, answer the same, whichever engines they are.
 -- Assumes nothing.
 use mathlib.Core.Path.{_≡_, ap, _∙_}
@@ -21,7 +21,7 @@ unfolding runWith
 run-twice c rks counter offset ds = xorFrom-twice _ offset ds
 
 module _ (c rounds k : ℕ) (rks counter : List ℕ) (offset : ℕ) (ds : List ℕ) where
-  -- what a served call wrote, handed back with an output of its length, is served and gives the bytes again
+  -- a call on what a served call wrote, with an output of its length, is served and gives the bytes again
   pub opened-sealed : {before after before₂ after₂ : List ℕ} {r r₂ : Answer} → RunsWith c rounds k rks counter offset ds before after r → r .refusal ≡ 0
       → RunsWith c rounds k rks counter offset after before₂ after₂ r₂ → length before₂ ≡ length after → Served (length ds) ds after₂ r₂
   opened-sealed {after = after} seal e «open» size =

@@ -1,6 +1,6 @@
--- A stretch of a run is opened alone: what a call gives for the bytes from k on is that part of the whole run, since a byte of the sum hangs on its own
--- place alone. So a run may be cut anywhere and opened in any stretches, by any ways, and joined again: by the round keys of any list, so by those that a
--- prepared key holds, and by those of a key.
+-- A stretch of a run is opened alone: what a call gives for the bytes from k on is that part of the whole run, since each byte of the XOR depends on its own
+-- place alone. So a run may be cut anywhere and opened in any stretches, by any engines, and joined again: with any list of round keys, so with those that a
+-- prepared key holds, and with those of a key.
 -- Assumes nothing.
 use mathlib.Core.Path.{_≡_, refl, sym, ap, ap₂, _∙_}
 use mathlib.Core.List.{List, [], _∷_, _++_, flatten}
@@ -35,7 +35,7 @@ stretch-opened-alone c rounds keyLen rks counter whole k m keyed size long fits 
     let s = call-served c rounds keyLen rks counter k (take m (drop k whole)) call (record { keyed = keyed; counter = size; short = omega arith; output = room ∙ sym l; end = omega arith }) in
     record { refusal = s .refusal; count = s .count ∙ l; output = s .output ∙ stretch-of-run c rks counter whole k m }
 
--- a run in two
+-- a run cut in two
 
 pub run-append : (c : ℕ) (rks counter : List ℕ) (n : ℕ) (xs ys : List ℕ)
     → runWith c rks counter n (xs ++ ys) ≡ runWith c rks counter n xs ++ runWith c rks counter (n + length xs) ys
@@ -46,7 +46,7 @@ run-nothing : (c : ℕ) (rks counter : List ℕ) (n : ℕ) → runWith c rks cou
 unfolding runWith xorFrom
 run-nothing c rks counter n = refl
 
--- a run in any cuts, by calls of any kind that promise `RunsWith`
+-- a run cut anywhere, by any calls that promise `RunsWith`
 
 module _ (c rounds keyLen : ℕ) (rks counter : List ℕ) (call : Call)
     (runs : (n : ℕ) (ds before after : List ℕ) (r : Answer) → call n ds before after r → RunsWith c rounds keyLen rks counter n ds before after r) where
@@ -56,16 +56,16 @@ module _ (c rounds keyLen : ℕ) (rks counter : List ℕ) (call : Call)
       ap₂ (λ (xs ys : List ℕ). xs ++ ys) (call-did c rounds keyLen rks counter n ds (runs n ds _ _ _ made) e .output) (cuts-joined rest)
       ∙ sym (run-append c rks counter n ds inputs)
 
-  -- whatever the cuts and whatever the calls
+  -- the outputs joined are the same, whatever the cuts and the calls
   pub cuts-agree : {n : ℕ} {inputs one other : List ℕ} → CallsOf call n inputs one → CallsOf call n inputs other → one ≡ other
   cuts-agree a b = cuts-joined a ∙ sym (cuts-joined b)
 
-  -- sealed in some stretches and opened in others
+  -- sealed in some stretches and opened in others: the bytes come back
   pub cuts-undone : {n : ℕ} {inputs sealed opened : List ℕ} → CallsOf call n inputs sealed → CallsOf call n sealed opened → opened ≡ inputs
   cuts-undone {n} {inputs} a b = cuts-joined b ∙ ap (runWith c rks counter n) (cuts-joined a) ∙ run-twice c rks counter n inputs
 
   module _ (h : Keyed c rounds keyLen) (size : length counter ≡ blockSize c) where
-    -- such cuts are served, as far as a run goes
+    -- all calls on such cuts are served, where the run is not too long
     pub cuts-served : {n : ℕ} {inputs outputs : List ℕ} → n + length inputs ≤ 1073741824 → CutOf call n inputs outputs → CallsOf call n inputs outputs
     cuts-served fits none = none
     cuts-served {n} fits (next ds {inputs = inputs} short room made rest) =
@@ -73,7 +73,7 @@ module _ (c rounds keyLen : ℕ) (rks counter : List ℕ) (call : Call)
         let s = call-served c rounds keyLen rks counter n ds (runs n ds _ _ _ made) (record { keyed = h; counter = size; short = short; output = room; end = omega arith }) in
         next ds made (s .refusal) (cuts-served (omega arith) rest)
 
-    -- so they give the run
+    -- so their outputs joined are the run
     pub cuts-opened : {n : ℕ} {inputs outputs : List ℕ} → n + length inputs ≤ 1073741824 → CutOf call n inputs outputs
         → CallsOf call n inputs outputs × (outputs ≡ runWith c rks counter n inputs)
     cuts-opened fits cut = (cuts-served fits cut, cuts-joined (cuts-served fits cut))

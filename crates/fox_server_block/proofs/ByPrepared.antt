@@ -1,5 +1,5 @@
--- A block by a key that was prepared is a block by that key: preparing hands back the key's cipher, rounds and length, and the round keys that it holds are
--- those of the definition. So every theorem on blocks by a key speaks of these calls too.
+-- A block with a prepared key is a block with the key it was prepared from: preparing returns the key's cipher, rounds and length, and the round keys that it
+-- holds are those of the definition. So every theorem on blocks with a key holds of these calls too.
 -- Assumes nothing.
 use mathlib.Core.Bool.{Bool}
 use mathlib.Core.List.{List}

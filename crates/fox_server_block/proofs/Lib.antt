@@ -1,3 +1,3 @@
--- The laws of the server's steps on one block, and the theorem on a block by a prepared key.
+-- The laws of the server engine's steps on one block, and the theorem on a block with a prepared key.
 pub mod Laws
 pub mod ByPrepared

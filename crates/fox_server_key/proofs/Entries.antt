@@ -1,5 +1,5 @@
--- The entries of a key that was prepared are the round keys of the definition: number i, from 0 on, stands at place i for FOX64, and at places 2 i and
--- 2 i + 1 for FOX128, the left half first; every entry past them is 0.
+-- The entries of a key that was prepared are the round keys of the definition: number i, counted from 0, is at place i for FOX64, and at places 2 i and 2 i +
+-- 1 for FOX128, the left half first; every entry past them is 0.
 -- Assumes nothing.
 use mathlib.Core.Path.{_≡_, sym, ap, ap₂, _∙_}
 use mathlib.Core.List.{List}
@@ -26,7 +26,7 @@ module _ (c rounds : ℕ) (key : List ℕ) (r : Preparation) (keyed : Keyed c ro
   unfolding preparedKey
   handed = ap (λ (p : Prepared). p .keys) (prepared .key ∙ sym (chosen _ _ _ (keyed-served keyed)))
 
-  -- the round key number i, as it stands in the list of all
+  -- round key number i, in the list of all
   listed : (i : ℕ) → i < rounds → getD (roundKeys c rounds key) i 0 ≡ roundKey c rounds key i
   unfolding roundKeys
   listed i few = numbered-at (roundKey c rounds key) rounds 0 i 0 few ∙ ap (roundKey c rounds key) (zero-add i)

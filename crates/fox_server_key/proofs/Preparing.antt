@@ -1,5 +1,5 @@
--- What preparing a key hands back: for a key that is served, 0, the count and the key's cipher, rounds and length; for one that is refused, count 0 and zeros
--- everywhere, so that a block or a run by it is refused with 1; and the same from every call.
+-- What preparing a key returns: for a key that is served, 0, the count and the key's cipher, rounds and length; for one that is refused, count 0 and zeros
+-- everywhere, so that a block with it is refused with 1; and the same from every call.
 -- Assumes nothing.
 use mathlib.Core.Path.{_≡_, refl, sym, ap, _∙_}
 use mathlib.Core.Bool.{Bool}
@@ -35,7 +35,7 @@ module _ (c rounds : ℕ) (key : List ℕ) (r : Preparation) (is : Prepares c ro
         key-len = ap (λ (p : Prepared). p .«key_len») made;
       }
 
-  -- 8 bytes a round for FOX64, 16 for FOX128
+  -- 8 bytes for each round of FOX64, 16 for each of FOX128
   pub count-64 : Keyed c rounds (length key) → c ≡ 64 → r .answer .count ≡ 8 * rounds
   count-64 keyed e = key-served keyed .count ∙ ap (λ (b : ℕ). b * rounds) (size-64 c e)
 
@@ -57,7 +57,7 @@ module _ (c rounds : ℕ) (key : List ℕ) (r : Preparation) (is : Prepares c ro
           entries = λ i. ap (λ (p : Prepared). getD (p .keys) i 0) none ∙ zeros-at 510 i;
         }
 
-    -- a block by it
+    -- a block with it is refused with 1
     pub block-refused : (d : Bool) (block : List ℕ) {before after : List ℕ} {s : Answer}
         → TurnsWith d (r .key .cipher) (r .key .rounds) (r .key .«key_len») (roundKeysIn (r .key)) block before after s → s .refusal ≡ 1
     unfolding refusalOf forKey forBlock wrongCipher
@@ -65,7 +65,7 @@ module _ (c rounds : ℕ) (key : List ℕ) (r : Preparation) (is : Prepares c ro
         call .refusal
         ∙ ap (λ (cipher : ℕ). refusalOf (forBlock d cipher (r .key .rounds) (r .key .«key_len») (length block) (length before))) (key-refused .cipher)
 
--- the same answer and the same key, whichever call it is
+-- two calls that prepare a key return the same answer and the same prepared key
 pub keys-same : (c rounds : ℕ) (key : List ℕ) (r s : Preparation) → Prepares c rounds key r → Prepares c rounds key s
     → (r .answer .refusal ≡ s .answer .refusal) × (r .answer .count ≡ s .answer .count) × (r .key ≡ s .key)
 keys-same c rounds key r s a b = (a .refusal ∙ sym (b .refusal), a .count ∙ sym (b .count), a .key ∙ sym (b .key))

@@ -1,5 +1,6 @@
--- A stretch by a key that was prepared is a stretch by that key: preparing hands back the key's cipher, rounds and length, and the round keys that it holds
--- are those of the definition. So every theorem on runs by a key speaks of these calls too. A stretch by a key that was refused is refused with 1.
+-- A stretch with a prepared key is a stretch with the key it was prepared from: preparing returns the key's cipher, rounds and length, and the round keys
+-- that it holds are those of the definition. So every theorem on runs with a key holds of these calls too. A stretch with a key that was refused is refused
+-- with 1.
 -- Assumes nothing.
 use mathlib.Core.Path.{_≡_, ap, _∙_}
 use mathlib.Core.List.{List}

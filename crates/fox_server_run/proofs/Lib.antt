@@ -1,3 +1,3 @@
--- The laws that the proofs of this crate share, and the theorem on runs by a prepared key.
+-- The laws that the proofs of this crate share, and the theorem on runs with a prepared key.
 pub mod Laws
 pub mod ByPrepared

@@ -1,2 +1,2 @@
--- The joined tables in the form in which they are computed, and arrays as they are filled.
+-- The joined S-box/diffusion tables (TBSM) in the form in which they are computed, and arrays while they are filled.
 pub mod Laws

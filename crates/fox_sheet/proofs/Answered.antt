@@ -1,5 +1,5 @@
--- What a call that answers a sheet wrote, by the sheet: where a line is broken, refusal 8 and the line, before all else; where the sheet is right, the block's
--- refusal alone, or the block. And two calls on one sheet write the same text.
+-- What a call that answers a sheet wrote, by the sheet: where a line is malformed, refusal 8 and the line, before all else; where the sheet is well-formed,
+-- the block's refusal alone, or the block. And two calls on one sheet write the same text.
 -- Assumes nothing.
 use mathlib.Core.Path.{_≡_, refl, sym, ap, _∙_}
 use mathlib.Core.List.{List}

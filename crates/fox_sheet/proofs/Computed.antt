@@ -1,5 +1,5 @@
--- Sheets and what is printed for them, computed by the definitions: sheets whose lines are broken in the ways that 01 names, each line's in turn, and sheets
--- with a block that is refused, where a refusal comes before those of higher numbers. Those with a block that is served are in `fox_sheet_definitions`.
+-- Sheets and what is printed for them, computed by the definitions: sheets with each line in turn malformed as 01 names it, and sheets whose block is
+-- refused, where the lowest refusal number comes first. Sheets whose block is served are in `fox_check_sheet`.
 -- Assumes nothing.
 use mathlib.Core.Path.{refl}
 use mathlib.Core.List.{_++_}

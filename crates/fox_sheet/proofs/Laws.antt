@@ -1,4 +1,4 @@
--- The first broken line of a sheet, of what its two parts have, and the answer, by whether the sheet is right and the block served.
+-- The first malformed line of a sheet, from those of its two parts; and the answer, by whether the sheet is well-formed and the block served.
 -- Assumes nothing.
 use mathlib.Core.Path.{_≡_, refl, _∙_}
 use mathlib.Core.List.{List, [], _∷_}
@@ -15,7 +15,7 @@ use Rattle.fox_text.specs.Fields.{decimalLineText}
 use Rattle.fox_sheet.specs.Sheet.{settingTests, taskTests, brokenLine, Values, valuesOf}
 use Rattle.fox_sheet.specs.Answer.{refusalName, valuesFrom, brokenText, servedText, turned, refusal, blockText, answerOf, Answers}
 
--- a broken line of the first three, and else of the others
+-- the first malformed line of the first three, or else of the others
 parts-broken : (f g h : Test) (tests : List Test) (t : List ℕ)
     → cond (eqb (brokenIn 1 (f ∷ g ∷ h ∷ []) t) 0) (brokenFrom 4 tests (afterLines 3 t)) (brokenIn 1 (f ∷ g ∷ h ∷ []) t) ≡ brokenFrom 1 (f ∷ g ∷ h ∷ tests) t
 unfolding brokenIn brokenFrom afterLines
@@ -49,7 +49,7 @@ pub right-answer : {before after : List ℕ} {n : ℕ} {v : Values} (t : List �
 unfolding answerOf
 right-answer t right e p room = rw (right, ← e) (put-stored p room)
 
--- the answer to a right sheet
+-- the answer to a well-formed sheet
 
 pub refused-text : (v : Values) (n : ℕ) → n ≡ refusal v → (n ≡ 0 → ⊥) → blockText v ≡ decimalLineText refusalName n
 unfolding blockText

@@ -1,4 +1,4 @@
--- Facts of the bench sheet and its answer.
+-- The laws and theorems on the bench sheet and its answer.
 pub mod Laws
 pub mod Prefix
 pub mod Answered

@@ -1,4 +1,4 @@
--- The first 240 bytes of a text settle its answer, however long the text is. A right line has at most 12 bytes for the cipher or the rounds, 132 for
+-- The first 240 bytes of a text settle its answer, however long the text is. A well-formed line has at most 12 bytes for the cipher or the rounds, 132 for
 -- the key, 8 for the way and 70 for the block, each with one more that ends it: 239 in all, and one byte more shows whether text follows.
 -- Assumes nothing.
 use mathlib.Core.Path.{_≡_, refl}

@@ -1,5 +1,5 @@
--- The right sheets are exactly those written from values in range. A sheet written from such values is right and says them, since each line of it is read
--- as it was written; and a right sheet is the one that is written from what it says, which is in range. So no two sheets say the same.
+-- The well-formed sheets are exactly those written from values in range. A sheet written from such values is well-formed and says them, since each line of it
+-- is read as it was written; and a well-formed sheet is the one that is written from what it says, which is in range. So no two sheets say the same.
 -- Assumes nothing.
 use mathlib.Core.Path.{_≡_, refl, sym, _∙_}
 use mathlib.Core.Bool.{Bool, true, false}
@@ -16,7 +16,7 @@ use Rattle.fox_sheet.specs.Sheet.{brokenLine, Values, said, valuesOf}
 use Rattle.fox_sheet.proofs.Laws.{same-values}
 use Rattle.fox_sheet.specs.Written.{wayText, linesOf, sheetText, InRange, WrittenFrom, Says}
 
--- names and ways hold no line feed
+-- names and ways have no line feed
 
 cipher-plain : Plain cipherName
 unfolding cipherName codes ascii Plain
@@ -39,7 +39,7 @@ unfolding wayText openWay sealWay codes ascii Plain
 way-plain true = (refl, (refl, (refl, (refl, (refl, (refl, (refl, (refl, tt))))))))
 way-plain false = (refl, (refl, (refl, (refl, (refl, (refl, (refl, (refl, tt))))))))
 
--- a written sheet is right, and says what it was written from
+-- a written sheet is well-formed, and says what it was written from
 
 way-right : (sealing : Bool) → isWayLine (wayText sealing) ≡ true
 unfolding isWayLine wayText openWay sealWay codes ascii startsWith
@@ -101,7 +101,7 @@ written-is-read {v} w =
       values = rw (w .text, read-again (w .range)) (lines-said (w .range));
     }
 
--- a right sheet is one that is written from values in range
+-- a well-formed sheet is written from values in range
 
 way-again : (b : Bool) (l : List ℕ) → same sealWay l ≡ b → isWayLine l ≡ true → l ≡ wayText b
 unfolding isWayLine wayText
@@ -131,7 +131,7 @@ right-is-written t right =
       text = r .text ∙ cc (cipher .text, rounds .text, key .text, way, block .text);
     }
 
--- so what a sheet says settles it
+-- so no two sheets say the same
 
 pub says-written : {v : Values} {t : List ℕ} → Says v t → WrittenFrom v t
 says-written {v} {t} s = rw (s .values) at (right-is-written t (s .right))

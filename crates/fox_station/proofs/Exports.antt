@@ -1,4 +1,4 @@
--- What the demands say of the calls that C programs make, by either way: what an export hands back is a call's reply, so every theorem on calls speaks of exports.
+-- The theorems on the calls that C programs make, by either engine: what an export returns is a call's reply, so every theorem on calls holds of exports.
 -- Assumes nothing.
 use mathlib.Core.Path.{_≡_, refl, sym, ap, _∙_}
 use mathlib.Core.Bool.{Bool, not, cond}
@@ -33,7 +33,7 @@ pub export-refused : {rs : List Refusal} {value before after : List ℕ} {n : �
 unfolding answer
 export-refused h isnt = refused (handed-reply h) isnt
 
--- and hands back the number of the first refusal that applies
+-- and returns the number of the first refusal that applies
 pub export-refused-by : {rs : List Refusal} {value before after : List ℕ} {m n : ℕ} → Handed rs value before after n → First m rs → n ≡ m
 export-refused-by h f = h .refusal ∙ first-given f
 
@@ -51,19 +51,19 @@ pub run-exports-agree : (c rounds : ℕ) (key counter : List ℕ) (offset : ℕ)
 run-exports-agree c rounds key counter offset ds l a b =
     runs-same c rounds (length key) (roundKeys c rounds key) counter offset ds l (handed-reply a) (handed-reply b)
 
--- a block of the cipher's size is served, and turned
+-- a block of the cipher's size is served, and sealed or opened
 pub block-export-served : (d : Bool) (c rounds : ℕ) (key block : List ℕ) → Keyed c rounds (length key) → length block ≡ blockSize c → {before after : List ℕ} {n : ℕ}
     → length before ≡ blockSize c → TurnHanded d c rounds key block before after n → Served (blockSize c) (turnBlock d c rounds key block) after (answer n (length before))
 block-export-served d c rounds key block k size room call =
     block-served d c rounds (length key) (roundKeys c rounds key) block k size room (handed-reply call)
 
--- and so is a stretch that meets no refusal
+-- a stretch that meets no refusal is served, and sealed or opened
 pub run-export-served : (c rounds : ℕ) (key counter : List ℕ) (offset : ℕ) (ds : List ℕ) {before after : List ℕ} {n : ℕ}
     → Stretched c rounds (length key) (length counter) offset (length ds) (length before) → RunHanded c rounds key counter offset ds before after n
     → Served (length ds) (run c rounds key counter offset ds) after (answer n (length before))
 run-export-served c rounds key counter offset ds h call = call-served c rounds (length key) (roundKeys c rounds key) counter offset ds (handed-reply call) h
 
--- a block sealed or opened by one export and turned back by another: both are served, and the block is handed back
+-- a block sealed or opened by one export, and the inverse export on its output: both are served, and the second gives the block back
 module _ (d : Bool) (c rounds : ℕ) (key block : List ℕ) (k : Keyed c rounds (length key)) (b : BlockOf c block) where
   pub block-turned-back : {before mid before-back after : List ℕ} {m n : ℕ} → length before ≡ blockSize c → length before-back ≡ blockSize c
       → TurnHanded d c rounds key block before mid m → TurnHanded (not d) c rounds key mid before-back after n
@@ -81,7 +81,7 @@ module _ (c rounds : ℕ) (key counter : List ℕ) where
         output = e .number .output;
       }
 
-  -- what a served export wrote, handed to another with an output of its length, is served and gives the bytes again
+  -- an export on what a served export wrote, with an output of its length, is served and gives the bytes again
   pub run-opened-sealed : (offset : ℕ) (ds : List ℕ) {before after before₂ after₂ : List ℕ} {n : ℕ} → RunHanded c rounds key counter offset ds before after 0
       → RunHanded c rounds key counter offset after before₂ after₂ n → length before₂ ≡ length after → Served (length ds) ds after₂ (answer n (length before₂))
   unfolding answer
@@ -96,28 +96,28 @@ module _ (c rounds : ℕ) (key counter : List ℕ) where
   stretch-opened whole k m keyed size long fits short room call =
       stretch-opened-alone c rounds (length key) (roundKeys c rounds key) counter whole k m keyed size long fits short room (handed-reply call)
 
-  -- every byte that a served export wrote, as 01 has it
+  -- every byte that a served export wrote, in the words of 01
   pub export-byte : (offset : ℕ) (ds : List ℕ) {before after : List ℕ} → RunHanded c rounds key counter offset ds before after 0 → (i : ℕ) → i < length ds
       → getD after i 0 ≡ getD (sealBlock c rounds key (counterBlock counter ((offset + i) / blockSize c))) ((offset + i) % blockSize c) 0 ⊕ getD ds i 0
   unfolding answer
   export-byte offset ds call i within = call-byte c (roundKeys c rounds key) counter offset ds i within rounds (length key) (handed-reply call) refl
 
-  -- a run cut anywhere, each stretch by some export: the outputs, joined, are the run
+  -- a run cut anywhere, each stretch by some export: the outputs joined are the run
   pub exports-joined : {n : ℕ} {inputs outputs : List ℕ} → CallsOf (RunExport c rounds key counter) n inputs outputs → outputs ≡ run c rounds key counter n inputs
   exports-joined = cuts-joined c rounds (length key) (roundKeys c rounds key) counter (RunExport c rounds key counter) export-runs
 
-  -- whatever the cuts and whatever the exports
+  -- the outputs joined are the same, whatever the cuts and the exports
   pub exports-cut-agree : {n : ℕ} {inputs one other : List ℕ} → CallsOf (RunExport c rounds key counter) n inputs one
       → CallsOf (RunExport c rounds key counter) n inputs other → one ≡ other
   exports-cut-agree = cuts-agree c rounds (length key) (roundKeys c rounds key) counter (RunExport c rounds key counter) export-runs
 
-  -- sealed in some stretches and opened in others
+  -- sealed in some stretches and opened in others: the bytes come back
   pub exports-cut-undone : {n : ℕ} {inputs sealed opened : List ℕ} → CallsOf (RunExport c rounds key counter) n inputs sealed
       → CallsOf (RunExport c rounds key counter) n sealed opened → opened ≡ inputs
   exports-cut-undone = cuts-undone c rounds (length key) (roundKeys c rounds key) counter (RunExport c rounds key counter) export-runs
 
   module _ (k : Keyed c rounds (length key)) (size : length counter ≡ blockSize c) where
-    -- of stretches of which only the lengths are known, all are served, and they give the run
+    -- a run cut into stretches of at most 65,536 bytes, each with an output of its length: all are served, and the outputs joined are the run
     pub exports-opened : {n : ℕ} {inputs outputs : List ℕ} → n + length inputs ≤ 1073741824 → CutOf (RunExport c rounds key counter) n inputs outputs
         → CallsOf (RunExport c rounds key counter) n inputs outputs × (outputs ≡ run c rounds key counter n inputs)
     exports-opened = cuts-opened c rounds (length key) (roundKeys c rounds key) counter (RunExport c rounds key counter) export-runs k size

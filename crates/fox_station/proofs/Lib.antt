@@ -1,2 +1,2 @@
--- The demands on the calls that C programs make.
+-- The theorems on the calls that C programs make.
 pub mod Exports

@@ -1,4 +1,4 @@
--- A block by cases of the cipher, and what a served call knows of its lengths.
+-- A block by cases of the cipher, and what a served call has of its lengths.
 -- Assumes nothing.
 use mathlib.Core.Path.{_≡_, refl, sym, ap, _∙_}
 use mathlib.Core.List.{List}
@@ -18,7 +18,7 @@ use Rattle.fox_rounds.proofs.Laws.Skeleton.{through-keeps}
 use Rattle.fox_refusals.specs.Refusals.{blockSize, Keyed}
 use Rattle.fox_block.specs.Block.{state64, state128, bytes64, bytes128, state, bytes, turnWith}
 
--- a number is 64 or not
+-- by cases: the cipher is 64, or it is not
 case : (c : ℕ) {A : Type 0} (t : Bool) → eqb c 64 ≡ t → (c ≡ 64 → A) → ((c ≡ 64 → ⊥) → A) → A
 case c true d is isnt = is (eqb-true c 64 d)
 case c false d is isnt = isnt (eqb-false c 64 d)
@@ -34,7 +34,7 @@ pub size-128 : (c : ℕ) → (c ≡ 64 → ⊥) → blockSize c ≡ 16
 unfolding blockSize
 size-128 c n = simp (ne-eqb c 64 n)
 
--- rounds that are handed on in a byte
+-- the rounds of a served call fit a byte
 pub rounds-whole : {c r k : ℕ} → Keyed c r k → r % 256 ≡ r
 rounds-whole s = omega arith
 
@@ -46,7 +46,7 @@ pub state-128 : (c : ℕ) (bs : List ℕ) → (c ≡ 64 → ⊥) → state c bs 
 unfolding state
 state-128 c bs n = simp (ne-eqb c 64 n)
 
--- a state has the cipher's size, and keeps it
+-- a state has the cipher's size, and rounds do not change it
 
 pub state-size : (c : ℕ) (bs : List ℕ) → size (state c bs) ≡ blockSize c
 unfolding size state blockSize
@@ -81,7 +81,7 @@ pub length-turned : (d : Bool) (c : ℕ) (ks bs : List ℕ) → length (turnWith
 unfolding turnWith
 length-turned d c ks bs = length-bytes (turned d ks (state c bs)) ∙ turned-size d ks (state c bs) ∙ state-size c bs
 
--- a state turned by either cipher's own code is the definition's block
+-- a state sealed or opened by either cipher's own rounds is the definition's block
 module _ (d : Bool) (c : ℕ) (ks bs : List ℕ) where
   pub turned-64 : {y : Fox64} → c ≡ 64 → Of64 y ≡ turned d ks (Of64 (state64 bs)) → bytes64 y ≡ turnWith d c ks bs
   unfolding turnWith bytes

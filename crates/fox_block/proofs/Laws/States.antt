@@ -1,4 +1,4 @@
--- A block's bytes and the words of a state are the same thing: either can be made of the other and back.
+-- A block's bytes and the words of a state determine each other: bytes to state to bytes, and state to bytes to state, change nothing.
 -- Assumes nothing.
 use mathlib.Core.Path.{_≡_, sym, ap, subst}
 use mathlib.Core.Bool.{Bool, true, false, cond}
@@ -43,7 +43,7 @@ bytes128-state128 : (bs : List ℕ) → Bytes bs → length bs ≡ 16 → bytes1
 unfolding state128 bytes128
 bytes128-state128 bs h n = sym (words-16 bs h n)
 
--- a word of four bytes, from place at on
+-- a word of four bytes, from place `at` on
 word-lt : (bs : List ℕ) (at : ℕ) → Bytes bs → 4 ≤ length (drop at bs) → joined (take 4 (drop at bs)) < 2 ^ 32
 word-lt bs at h n =
     subst (λ (k : ℕ). joined (take 4 (drop at bs)) < 2 ^ (8 * k)) (length-take-le 4 (drop at bs) n)

@@ -1,5 +1,5 @@
--- Bytes read one by one are a part of the list. A block of bytes is the bytes of its words: bytes joined and split again are the same bytes, word after word.
--- And what a part of a slice leaves that reaches to the slice's end: nothing stands after it.
+-- Bytes read one by one are a part of the list. A block of bytes is the bytes of its words: joining bytes and splitting them again gives the same bytes, word
+-- after word. And a part of a slice that reaches to the slice's end has nothing after it.
 -- Assumes nothing.
 use mathlib.Core.Path.{_≡_, refl, sym, ap, _∙_}
 use mathlib.Core.List.{List, [], _∷_, _++_, append-nil}
@@ -31,7 +31,7 @@ pub take-eight : (l : List ℕ) (at : ℕ) → at + 8 ≤ length l
     ∷ getD l (at + 4) 0 ∷ getD l (at + 5) 0 ∷ getD l (at + 6) 0 ∷ getD l (at + 7) 0 ∷ []
 take-eight l at h = rw (add-zero at) at (take-window l at 0 8 (omega arith))
 
--- a word that is joined of eight bytes has these bytes
+-- a word joined from eight bytes has these bytes
 pub word-of : (r : ℕ) (xs : List ℕ) → Bytes xs → length xs ≡ 8 → r ≡ joined xs → split 8 r ≡ xs
 word-of r xs h n e = ap (split 8) e ∙ ap (λ (k : ℕ). split k (joined xs)) (sym n) ∙ split-joined xs h
 
@@ -55,7 +55,7 @@ words-8 bs h l =
     sym (ap (λ (xs : List ℕ). split 4 (joined (take 4 bs)) ++ xs) (last-word 4 (drop 4 bs) (drop-bytes 4 bs h) rest)
     ∙ front-word 4 bs h (omega arith))
 
--- the two words at the front, and then a block of two words
+-- sixteen bytes, as the bytes of their four words
 pub words-16 : (bs : List ℕ) → Bytes bs → length bs ≡ 16 → bs ≡ split 4 (joined (take 4 bs)) ++ split 4 (joined (take 4 (drop 4 bs))) ++ split 4 (joined (take 4 (drop 8 bs))) ++ split 4 (joined (take 4 (drop 12 bs)))
 unfolding split
 words-16 bs h l =
@@ -70,13 +70,13 @@ words-16 bs h l =
     sym (ap (λ (xs : List ℕ). w bs ++ (w (drop 4 bs) ++ xs)) last
     ∙ ap (λ (xs : List ℕ). w bs ++ xs) second ∙ front-word 4 bs h (omega arith))
 
--- what is written from k to the end of a list that has k elements before it
+-- a list that is written over from place k to its end
 pub put-end : (k : ℕ) (l p : List ℕ) → putMid k (length l - k) l p ≡ take k l ++ p
 put-end k l p =
     let none : drop (length l - k) (drop k l) ≡ [] = drop-of-length-le (drop k l) {i = length l - k} (rw (length-drop k l) (omega arith)) in
     ap (λ (xs : List ℕ). take k l ++ (p ++ xs)) none ∙ ap (λ (xs : List ℕ). take k l ++ xs) (append-nil p)
 
--- the part from k to the end has no more elements than the n that are left
+-- the part from k to the end has at most n elements, where n are left
 pub end-spent : (k n : ℕ) (l : List ℕ) → length l ≡ k + n → drop n (midOf k (length l - k) l) ≡ []
 end-spent k n l e =
     drop-of-length-le (midOf k (length l - k) l) {i = n} (simp (length-take, length-drop) (omega arith))

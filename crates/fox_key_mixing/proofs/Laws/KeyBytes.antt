@@ -1,4 +1,4 @@
--- Lists of bytes added: the sum goes through parts of equal length and leaves out what only one of the lists has.
+-- XOR of lists of bytes: it can be taken part by part where the parts have equal length, and ends with the shorter list.
 -- Assumes nothing.
 use mathlib.Core.Path.{_≡_, refl, sym, ap, _∙_}
 use mathlib.Core.List.{List, [], _∷_, _++_, append-nil, append-assoc}
@@ -31,7 +31,7 @@ pub length-bytes32 : (k : Key32) → length (bytes32 k) ≡ 32
 unfolding bytes32
 length-bytes32 k = simp (length-append, length-split)
 
--- the bytes of words of n bytes, one after the other: adding the words adds their bytes
+-- the bytes of words of n bytes, one after the other: the XOR of the words has the XOR of their bytes
 abbrev pub wordBytes : ℕ → List ℕ → List ℕ
 wordBytes n [] = []
 wordBytes n (w ∷ ws) = split n w ++ wordBytes n ws
@@ -45,7 +45,7 @@ xorEach-wordBytes n (v ∷ vs) (w ∷ ws) e =
     rw (split-xor n v w, xorEach-wordBytes n vs ws (suc-inj e))
     (sym (xorEach-append (split n v) (wordBytes n vs) (split n w) (wordBytes n ws) (simp length-split)))
 
--- the keys' bytes are those of their words
+-- a key's bytes are those of its words
 pub wordBytes16 : (k : Key16) → bytes16 k ≡ wordBytes 8 (k .a ∷ k .b ∷ [])
 unfolding bytes16
 wordBytes16 k = simp append-nil

@@ -1,4 +1,4 @@
--- The padded key byte by byte, a step of the mixing, and the two cases of mkey.
+-- The padded key byte by byte, one step of the mixing, and the two cases of mkey.
 -- Assumes nothing.
 use mathlib.Core.Path.{_≡_, sym, ap, _∙_}
 use mathlib.Core.List.{List, _∷_, _++_}
@@ -25,7 +25,7 @@ module _ (ek : ℕ) (key : List ℕ) (fits : length key ≤ ek) where
   unfolding pad
   length-padded h = rw padded-take (length-take-le ek (key ++ pad) (rw length-append (omega arith)))
 
--- a byte stored, which the two before it and the next byte of p make, takes the place of the first byte that is still to be mixed
+-- one step: the mixed byte m, computed from the two before it and byte i of p, is stored at place i, and the rest is still to be mixed
 pub mixed-step : (p out all : List ℕ) (i x y m : ℕ) → i < length p → i < length out → m ≡ getD p i 0 ⊕ (y + x) % 256
     → take i out ++ mixed x y (drop i p) ≡ all → take (i + 1) (set out i m) ++ mixed y m (drop (i + 1) p) ≡ all
 unfolding mixed

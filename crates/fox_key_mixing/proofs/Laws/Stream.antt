@@ -1,4 +1,4 @@
--- The bytes of register values in a row: parts of the row, and the words that its bytes make.
+-- The bytes of successive register values: parts of them, and the words that they join to.
 -- Assumes nothing.
 use mathlib.Core.Path.{_≡_, refl, sym, ap, ap₂, _∙_}
 use mathlib.Core.List.{List, _++_, append-assoc}
@@ -19,11 +19,11 @@ stream-add zero n x = rw zero-add
 stream-add (suc m) n x =
     rw (suc-add, stream-add m n (clocked x), iterate-first m clocked x) (sym (append-assoc (split 3 x) (stream m (clocked x)) _))
 
--- the bytes of the register after k steps
+-- the bytes of the register r after k steps
 abbrev pub value : ℕ → ℕ → List ℕ
 value k r = split 3 (iterate k clocked r)
 
--- six values in a row, cut as the words of the front and of the rest take them
+-- six successive values, cut as the words of `front` and of `rest` take them
 pub front-row : (r : ℕ)
     → value 0 r ++ value 1 r ++ take 2 (value 2 r) ++ (drop 2 (value 2 r) ++ value 3 r ++ value 4 r ++ take 1 (value 5 r))
     ++ drop 1 (value 5 r) ≡ stream 6 r
@@ -35,7 +35,7 @@ pub rest-row : (r : ℕ)
 unfolding stream split iterate
 rest-row r = refl
 
--- the words that are joined of parts of register values: each has the parts' bytes
+-- words joined from parts of register values: each has the parts' bytes
 ruleset bytes = (append-bytes, take-bytes, drop-bytes, split-bytes)
 
 ruleset lengths = (length-append, length-take, length-drop, length-split)
@@ -95,8 +95,8 @@ word-1331 x y z t hy hz ht =
     ) in
     word-of _ all (search bytes) (simp lengths) number
 
--- Six values in a row and six more of which the first is the last of those before: where a list ends within that value and another goes on from there,
--- both together are the eleven values in a row.
+-- Eleven successive values from two rows of six, where the second row starts with the last value of the first: xs ends within that value, and ys goes on from
+-- there.
 pub eleven : (reg last : ℕ) (xs ys left : List ℕ) → last ≡ iterate 5 clocked reg → xs ++ drop 1 (split 3 last) ≡ stream 6 reg
     → ys ++ left ≡ drop 1 (stream 6 last) → xs ++ ys ++ left ≡ stream 11 reg
 unfolding stream split iterate

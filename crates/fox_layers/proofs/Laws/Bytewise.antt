@@ -1,5 +1,5 @@
--- A table of a function on bytes has the function's value at each byte. So two functions on bytes whose tables are the same list agree at
--- every byte, and that the lists are the same is one test, which antt computes.
+-- A table of a function on bytes has the function's value at each byte. So two functions on bytes whose tables are the same list agree at every byte, and
+-- that the lists are the same is one test, which the prover computes.
 -- Assumes nothing.
 use mathlib.Core.Path.{_≡_, refl, sym, ap, _∙_, subst}
 use mathlib.Core.Bool.{Bool, true, false}
@@ -32,6 +32,6 @@ table-at f x h = listed-at f 256 0 x h ∙ ap f (zero-add x)
 pub agree : (f g : ℕ → ℕ) → table f ≡ table g → (x : ℕ) → x < 256 → f x ≡ g x
 agree f g same x h = sym (table-at f x h) ∙ ap (λ (t : List ℕ). getD t x 0) same ∙ table-at g x h
 
--- what a remainder leaves as it is at every byte is below the divisor at every byte
+-- a function that equals its remainder by m at every byte is below m at every byte
 pub below : (m : ℕ) (f : ℕ → ℕ) → 0 < m → table (λ (x : ℕ). f x % m) ≡ table f → (x : ℕ) → x < 256 → f x < m
 below m f pos same x h = subst (λ (y : ℕ). y < m) (agree (λ (x : ℕ). f x % m) f same x h) (mod-lt (f x) pos)

@@ -1,4 +1,4 @@
--- That doubling and halving undo each other, and the products that the diffusion needs, by these two: each is one test over all bytes.
+-- Doubling and halving undo each other, and give the products that the diffusion needs: each law is one test over all bytes.
 -- Assumes nothing.
 use mathlib.Core.Path.{_≡_, refl, sym, ap₂, _∙_}
 use mathlib.Core.List.{List}
@@ -49,7 +49,7 @@ products x h =
       byFD = agree (product 0xFD) (λ (x : ℕ). halve x ⊕ x) refl x h;
     }
 
--- of the bytes of a list by their numbers: a byte is its product by 01, and doubled its product by 02
+-- at byte i of a list: a byte is its product by 01, and the doubled byte is its product by 02
 module _ (xs : List ℕ) (bytes : Bytes xs) (i : ℕ) where
   pub ones : getD xs i 0 ≡ product 0x01 (getD xs i 0)
   ones = sym (products (getD xs i 0) (bytes i) .by01)
@@ -57,8 +57,8 @@ module _ (xs : List ℕ) (bytes : Bytes xs) (i : ℕ) where
   pub twos : double (getD xs i 0) ≡ product 0x02 (getD xs i 0)
   twos = sym (products (getD xs i 0) (bytes i) .by02)
 
--- The product of two bytes is a byte: a product of polynomials of degree 7 has degree 14, and each step of the division takes away the
--- highest coefficient that is left.
+-- The product of two bytes is a byte: a product of polynomials of degree 7 has degree 14, and each step of the division takes away the highest coefficient
+-- that is left.
 choose-lt : (t : Bool) (k x y : ℕ) → x < k → y < k → cond t x y < k
 choose-lt true k x y hx hy = hx
 choose-lt false k x y hx hy = hy

@@ -1,4 +1,4 @@
--- A matrix product is the sum of the matrix's columns, each times its byte: row by row, the first byte's products come off as a column.
+-- A matrix product is the XOR of the matrix's columns, each times its byte: row by row, the first byte's products are split off as a column.
 -- Assumes nothing.
 use mathlib.Core.Path.{_≡_, refl, sym, _∙_}
 use mathlib.Core.List.{List, [], _∷_, map}
@@ -23,12 +23,12 @@ Wide n (row ∷ rows) = (length row ≡ n) × Wide n rows
 abbrev pub multiple : List ℕ → ℕ → List ℕ
 multiple ms x = map (λ (m : ℕ). product m x) ms
 
--- the sum of the columns from number j on, each times its byte
+-- the XOR of the columns from number j on, each times its byte
 unfoldable pub columns : List (List ℕ) → ℕ → List ℕ → List ℕ
 columns rows j [] = map (λ (row : List ℕ). 0) rows
 columns rows j (x ∷ xs) = xorEach (multiple (column j rows) x) (columns rows (suc j) xs)
 
--- the product with what is left of each row from entry j on
+-- the product with the rest of each row from entry j on
 from : List (List ℕ) → ℕ → List ℕ → List ℕ
 from rows j xs = map (λ (row : List ℕ). dot (drop j row) xs) rows
 
@@ -58,7 +58,7 @@ pub times-columns : (rows : List (List ℕ)) (n : ℕ) (xs : List ℕ) → Wide 
 unfolding times from
 times-columns rows n xs w e = from-columns rows n 0 xs w (omega arith)
 
--- such a sum has an entry for each row, and its entries are bytes
+-- such an XOR has an entry for each row, and its entries are bytes
 pub length-columns : (rows : List (List ℕ)) (j : ℕ) (xs : List ℕ) → length (columns rows j xs) ≡ length rows
 unfolding columns column
 length-columns rows j [] = length-map rows (λ (row : List ℕ). 0)

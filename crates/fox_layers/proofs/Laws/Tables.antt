@@ -1,5 +1,5 @@
--- What look-ups give where the lent array holds the tables: the moved boxes' entries, added, substitute, since each has a byte of its own; and the joined
--- tables' entries, added, substitute and diffuse, since their sum is the sum of the matrix's columns.
+-- What a lookup gives in an array of tables: in the shifted S-box (TBS) it substitutes, since each entry has a byte of its own; in the joined S-box/diffusion
+-- tables (TBSM) it substitutes and diffuses, since the XOR of the entries is the XOR of the matrix's columns.
 -- Assumes nothing.
 use mathlib.Core.Path.{_≡_, refl, sym, ap, _∙_}
 use mathlib.Core.List.{List, [], _∷_, map}
@@ -34,7 +34,7 @@ split-sigma n w =
     let same : length (map sbox (split n w)) ≡ n = simp (length-map, length-split) in
     rw same at (split-joined (map sbox (split n w)) (map-sbox-bytes (split n w) (split-bytes n w)))
 
--- the entries of tables that stand one after the other
+-- the entries of tables that follow one another
 tables-entry : (f : ℕ → ℕ → ℕ) (n i : ℕ) → i < n * 256 → getD (tables f n) i 0 ≡ f (i / 256) (i % 256)
 unfolding tables
 tables-entry f n i h = listed-at _ (n * 256) 0 i h ∙ ap (λ (k : ℕ). f (k / 256) (k % 256)) (zero-add i)
@@ -69,11 +69,11 @@ pub sboxTable-entry : (x : ℕ) → x < 256 → getD sboxTable x 0 ≡ sbox x
 unfolding sboxTable
 sboxTable-entry x h = table-at sbox x h
 
--- n numbers from j on
+-- the n numbers from j on
 abbrev from : ℕ → ℕ → List ℕ
 from n j = listed (λ (i : ℕ). i) n j
 
--- what bytes pick from tables is the sum of what these have, from table number j on
+-- a lookup of bytes in tables, from table number j on, is the XOR of these tables' functions at the bytes
 picked-from : (f : ℕ → ℕ → ℕ) (n j : ℕ) (xs : List ℕ) → Bytes xs → j + length xs ≡ n
     → xorOver (λ (j x : ℕ). getD (tables f n) (j * 256 + x) 0) (from (length xs) j) xs ≡ xorOver f (from (length xs) j) xs
 unfolding xorOver listed
@@ -85,7 +85,7 @@ unfolding picked
 picked-tables f n w =
     rw (length-split n w) at (picked-from f n 0 (split n w) (split-bytes n w) (zero-add (length (split n w)) ∙ length-split n w))
 
--- boxes moved to bytes of their own
+-- the S-box shifted to each byte, XORed: the S-box's values joined
 shifted-joined : (n j : ℕ) (xs : List ℕ) → Bytes xs → j + length xs ≡ n
     → xorOver (λ (j x : ℕ). sbox x * 2 ^ (8 * (n - 1 - j))) (from (length xs) j) xs ≡ joined (map sbox xs)
 unfolding xorOver listed joined
@@ -95,14 +95,14 @@ shifted-joined n j (x ∷ xs) h e =
     rw (left, shifted-joined n (suc j) xs (λ i. h (suc i)) (omega arith))
     (xor-shifted (sbox x) (8 * length (map sbox xs)) (joined (map sbox xs)) (joined-lt (map sbox xs) (map-sbox-bytes xs (λ i. h (suc i)))))
 
--- the lent list is the TBS tables: substitution
+-- a lookup in the TBS tables is the substitution
 pub picked-TBS : (n w : ℕ) → picked n (TBS n) w ≡ sigma n w
 unfolding TBS sigma
 picked-TBS n w =
     picked-tables _ n w
     ∙ rw (length-split n w) at (shifted-joined n 0 (split n w) (split-bytes n w) (zero-add (length (split n w)) ∙ length-split n w))
 
--- substitution of a word in two halves
+-- the substitution of a word in two halves
 low-half : (w : ℕ) → sigma 4 (w % 2 ^ 32) ≡ sigma 4 w
 unfolding sigma
 low-half w =
@@ -135,7 +135,7 @@ tbsmEntry-columns rows j (x ∷ xs) h =
     let more = columns-bytes rows (suc j) (map sbox xs) (map-sbox-bytes xs (λ i. h (suc i))) in
     rw (tbsmEntry-columns rows (suc j) xs (λ i. h (suc i)), joined-xorEach ms rest bytes more same)
 
--- the lent list is a matrix's TBSM tables: substitution, then diffusion
+-- a lookup in the TBSM tables of a matrix is the diffusion of the substitution
 pub picked-TBSM : (rows : List (List ℕ)) → Wide (length rows) rows → (w : ℕ)
     → picked (length rows) (TBSM rows) w ≡ diffused rows (sigma (length rows) w)
 unfolding TBSM diffused

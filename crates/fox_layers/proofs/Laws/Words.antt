@@ -1,4 +1,4 @@
--- Joining and splitting undo each other, and ⊕ goes through both, over any number of bytes.
+-- Joining and splitting undo each other, and XOR can be taken before or after either, for any number of bytes.
 -- Assumes nothing.
 use mathlib.Core.Path.{_≡_, refl, sym, ap, ap₂, _∙_}
 use mathlib.Core.List.{List, [], _∷_, _++_, map}
@@ -31,7 +31,7 @@ unfolding joined
 joined-lt [] h = zero-lt-suc 0
 joined-lt (x ∷ xs) h = rw (pow-byte (length xs)) (digits-lt (h 0) (joined-lt xs (λ i. h (suc i))))
 
--- what stands above the lowest n bytes of a word does not count in its split
+-- the bits above the lowest n bytes of a word do not change its split
 pub split-above : (n h w : ℕ) → split n (h * 2 ^ (8 * n) + w) ≡ split n w
 unfolding split
 split-above zero h w = refl
@@ -40,7 +40,7 @@ split-above (suc n) h w =
     let byte = mul-add-mod-self-right h 256 (w / 2 ^ (8 * n)) in
     rw (above, mul-add-div-right (pow-pos (8 * n)) (h * 256) w, byte, split-above n (h * 256) w)
 
--- the bytes of a word, joined again, are its lowest n bytes
+-- the bytes of a split, joined again, are the word's lowest n bytes
 pub joined-split-low : (n w : ℕ) → joined (split n w) ≡ w % 2 ^ (8 * n)
 unfolding joined split
 joined-split-low zero w = sym (mod-one w)
@@ -114,7 +114,7 @@ split-xor zero v w = refl
 split-xor (suc n) v w =
     rw (xor-shr v w (8 * n), split-xor n v w) (ap (λ (b : ℕ). b ∷ xorEach (split n v) (split n w)) (xor-mod (v / 2 ^ (8 * n)) (w / 2 ^ (8 * n)) 8))
 
--- the bytes of a word of four and of eight, as code writes them: the last is not divided
+-- the bytes of a word of four and of eight, as code computes them: the last is not divided
 pub split-4 : (w : ℕ) → split 4 w ≡ w / 0x1000000 % 256 ∷ w / 0x10000 % 256 ∷ w / 0x100 % 256 ∷ w % 256 ∷ []
 unfolding split
 split-4 w = rw div-one

@@ -1,4 +1,4 @@
--- ⊕ is associative and commutative, and undoes itself. All are laws of binary digits, taken up by induction on the halves of a number.
+-- XOR is associative and commutative, and undoes itself. These are laws of binary digits, proved by induction on the halves of a number.
 -- Assumes nothing.
 use mathlib.Core.Path.{_≡_, refl, sym, ap, ap₂, _∙_}
 use mathlib.Core.List.{List, [], _∷_}
@@ -32,7 +32,7 @@ xor-assoc =
     bin-ind (λ (a : ℕ). (b c : ℕ) → (a ⊕ b) ⊕ c ≡ a ⊕ b ⊕ c) (λ b c. refl)
     (λ a ih b c. omega (arith, half-assoc a b c (ih (b / 2) (c / 2)), low-assoc a b c))
 
--- what is added twice is gone
+-- XOR twice with the same number changes nothing
 pub xor-cancel : (a b : ℕ) → a ⊕ a ⊕ b ≡ b
 xor-cancel a b = sym (xor-assoc a a b) ∙ ap (λ (n : ℕ). n ⊕ b) (xor-self a) ∙ xor-zero-l b
 
@@ -42,12 +42,12 @@ xor-cancel-right a b = xor-assoc a b b ∙ ap (λ (n : ℕ). a ⊕ n) (xor-self 
 pub xor-left-comm : (a b c : ℕ) → a ⊕ b ⊕ c ≡ b ⊕ a ⊕ c
 xor-left-comm a b c = sym (xor-assoc a b c) ∙ ap (λ (n : ℕ). n ⊕ c) (xor-comm a b) ∙ xor-assoc b a c
 
--- two sums of two, taken the other way about
+-- two XORs of two, with the inner numbers exchanged
 pub xor-medial : (a b c d : ℕ) → (a ⊕ b) ⊕ c ⊕ d ≡ (a ⊕ c) ⊕ b ⊕ d
 xor-medial a b c d =
     xor-assoc a b (c ⊕ d) ∙ ap (λ (n : ℕ). a ⊕ n) (xor-left-comm b c d) ∙ sym (xor-assoc a c (b ⊕ d))
 
--- a sum built up from the left, as code does it, is the sum of the list
+-- an XOR computed from the left, as code does it, is the XOR of the list
 abbrev pub running : ℕ → List ℕ → ℕ
 running a [] = a
 running a (x ∷ xs) = running (a ⊕ x) xs
@@ -58,7 +58,7 @@ running-xorAll a [] = sym (xor-zero-r a)
 running-xorAll a (x ∷ xs) = running-xorAll (a ⊕ x) xs ∙ xor-assoc a x (xorAll xs)
 
 infixr 40 _▸_
--- the numbers of the third list are what f gives at each pair of the first two
+-- the numbers of the third list are f's values at the pairs of the first two
 pub data Terms {A : Type 0} (f : A → ℕ → ℕ) : List A → List ℕ → List ℕ → Type 0 where
   done : Terms f [] [] []
   _▸_ : {m : A} {x y : ℕ} {ms : List A} {xs ys : List ℕ} → y ≡ f m x → Terms f ms xs ys → Terms f (m ∷ ms) (x ∷ xs) (y ∷ ys)
@@ -68,11 +68,11 @@ unfolding xorAll xorOver
 terms-xorOver done = refl
 terms-xorOver (e ▸ es) = ap₂ (λ (a b : ℕ). a ⊕ b) e (terms-xorOver es)
 
--- a number that was promised to be the sum of such a list
+-- a number that is the XOR of such a list
 pub xorOver-of-terms : {A : Type 0} {f : A → ℕ → ℕ} {ms : List A} {xs ys : List ℕ} {r : ℕ} → r ≡ xorAll ys → Terms f ms xs ys → r ≡ xorOver f ms xs
 xorOver-of-terms e es = e ∙ terms-xorOver es
 
--- a sum of such a list that was built up from the left
+-- such an XOR computed from the left
 pub running-terms : {A : Type 0} {f : A → ℕ → ℕ} {ms : List A} {xs ys : List ℕ} {y : ℕ} → Terms f ms xs (y ∷ ys) → running y ys ≡ xorOver f ms xs
 unfolding xorAll
 running-terms {ys} {y} es = running-xorAll y ys ∙ terms-xorOver es

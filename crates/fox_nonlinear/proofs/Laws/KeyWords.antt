@@ -1,5 +1,5 @@
--- The words that a key's bytes make, at each width that the schedules read. A key's bytes are those of its words of 64 bits, one after the other. Words of
--- two times n bytes are also twice as many words of n bytes, so the same bytes read as halves, or as pairs, give the words' halves, or pairs.
+-- The words that a key's bytes join to, at each width that the schedules read. A key's bytes are those of its words of 64 bits, one after the other. Words of
+-- 2·n bytes are also twice as many words of n bytes, so the same bytes read as halves, or as pairs, give the words' halves, or pairs.
 -- Assumes nothing.
 use mathlib.Core.Path.{_≡_, refl, ap, _∙_}
 use mathlib.Core.List.{List, [], _∷_, _++_, map, append-assoc}
@@ -18,7 +18,7 @@ use Rattle.fox_key_mixing.specs.KeyBytes.{bytes16, bytes32}
 use Rattle.fox_key_mixing.proofs.Laws.KeyBytes.{wordBytes, wordBytes16, wordBytes32}
 use Rattle.fox_nonlinear.specs.Nonlinear.{words}
 
--- each word of two times n bytes, with its left half before it: words of n bytes, where what stands above does not count
+-- each word of 2·n bytes after its left half: taken as words of n bytes, these are its halves
 abbrev halved : ℕ → List ℕ → List ℕ
 halved n [] = []
 halved n (w ∷ ws) = w / 2 ^ (8 * n) ∷ w ∷ halved n ws
@@ -30,7 +30,7 @@ words-wordBytes n (w ∷ ws) =
     let whole = length-split n w in
     rw (take-at (split n w) (wordBytes n ws) n whole, drop-at (split n w) (wordBytes n ws) n whole, joined-split-low n w, words-wordBytes n ws)
 
--- the bytes above the lowest n, and these
+-- the bytes above the lowest n, followed by these
 split-parts : (m n w : ℕ) → split (m + n) w ≡ split m (w / 2 ^ (8 * n)) ++ split n w
 unfolding split
 split-parts zero n w = ap (λ (k : ℕ). split k w) (zero-add n)
@@ -47,7 +47,7 @@ module _ (k : Key16) (ha : k .a < 2 ^ 64) (hb : k .b < 2 ^ 64) where
   pub words16 : words 8 2 (bytes16 k) ≡ k .a ∷ k .b ∷ []
   words16 = rw (wordBytes16 k) (words-wordBytes 8 (k .a ∷ k .b ∷ []) ∙ cc (mod-eq-of-lt ha, mod-eq-of-lt hb))
 
-  -- in halves, as code writes them
+  -- a key as words of 32 bits, as code computes them
   pub halves16 : words 4 4 (bytes16 k) ≡ k .a / 2 ^ 32 ∷ k .a % 2 ^ 32 ∷ k .b / 2 ^ 32 ∷ k .b % 2 ^ 32 ∷ []
   halves16 =
       let ws = k .a ∷ k .b ∷ [] in
@@ -64,7 +64,7 @@ module _ (k : Key32) (ha : k .a < 2 ^ 64) (hb : k .b < 2 ^ 64) (hc : k .c < 2 ^ 
       let ws = k .a ∷ k .b ∷ k .c ∷ k .d ∷ [] in
       rw (wordBytes32 k, wordBytes-halved 4 ws) (words-wordBytes 4 (halved 4 ws) ∙ cc (shr-mod 32 32 ha, shr-mod 32 32 hb, shr-mod 32 32 hc, shr-mod 32 32 hd))
 
-  -- in pairs: the two numbers' halves are the four words
+  -- a key as numbers of 128 bits: the halves of the two numbers are the four words
   pub pairs32 : words 16 2 (bytes32 k) ≡ (k .a * 2 ^ 64 + k .b) ∷ (k .c * 2 ^ 64 + k .d) ∷ []
   pairs32 =
       let p = k .a * 2 ^ 64 + k .b in

@@ -1,4 +1,4 @@
--- The layers, word by word: to flip a list of words or not is to flip each of them or not. The pad's words compute.
+-- The layers, word by word: flipping a list of words, or not, is flipping each of them, or not. The pad's words are computed.
 -- Assumes nothing.
 use mathlib.Core.Path.{_≡_, refl, sym}
 use mathlib.Core.List.{List, [], _∷_, map}
@@ -22,7 +22,7 @@ pub pad-8-4 : words 8 4 pad ≡ 0xB7E151628AED2A6A ∷ 0xBF7158809CF4F3C7 ∷ 0x
 unfolding words pad joined
 pad-8-4 = refl
 
--- what follows the pad, on one word
+-- what follows the XOR with the pad, on one word
 abbrev pub turned : ℕ → Bool → ℕ → ℕ
 turned n flip w = sigma n (cond flip (flipped n w) w)
 
@@ -31,7 +31,7 @@ map-turned n true [] = refl
 map-turned n true (w ∷ ws) = rw (map-turned n true ws)
 map-turned n false ws = refl
 
--- from the words after the diffusion, and the pad's words
+-- the layers, from the words after the diffusion and the pad's words
 pub layers-made : (n k : ℕ) (mu : ℕ → ℕ) (mix : List ℕ → List ℕ) (flip : Bool) (ts : List ℕ) {xs ps : List ℕ}
     → xs ≡ map mu (map (sigma n) ts) → words n k pad ≡ ps → map (turned n flip) (xorEach (mix xs) ps) ≡ layers n k mu mix flip ts
 unfolding layers

@@ -1,4 +1,4 @@
--- A round key has the width of a block: the rounds that make it do not leave that of a state's words.
+-- A round key has the width of a block: the rounds that give it stay within the width of a state's words.
 -- Assumes nothing.
 use mathlib.Core.List.{List}
 use mathlib.Core.Bool.{Bool}

@@ -1,5 +1,5 @@
--- The first refusal of a list, test by test, and what is known where none applies. A list's number is 0 exactly where every test of it is
--- false, since no refusal has the number 0; and each test is true exactly where its fact fails.
+-- The first refusal of a list, test by test, and what holds where none applies. A list's number is 0 exactly where every test of it is false, since no
+-- refusal has the number 0; and each test is true exactly where its fact fails.
 -- Assumes nothing.
 use mathlib.Core.Path.{_≡_, refl, sym, ap, _∙_}
 use mathlib.Core.Logic.{_⊎_, inl, inr, ⊎-elim}
@@ -15,12 +15,12 @@ unfoldable pub Passed : List Refusal → Type 0
 Passed [] = Unit {0}
 Passed (x ∷ xs) = (x .applies ≡ false) × Passed xs
 
--- no refusal of the list has the number 0, which says that none applies: a test that is computed
+-- no refusal of the list has the number 0, which is the number where none applies; this is computed
 unfoldable pub numbered : List Refusal → Bool
 numbered [] = true
 numbered (x ∷ xs) = cond (eqb (x .number) 0) false (numbered xs)
 
--- the tests of a list taken one after the other, as code does it, from what is found so far
+-- the tests of a list taken one after the other, as code does it, from the refusal found so far
 unfoldable pub chain : ℕ → List Refusal → ℕ
 chain r [] = r
 chain r (x ∷ xs) = chain (orElse r (x .applies) (x .number)) xs
@@ -29,7 +29,7 @@ by-test : {P : Type 0} (t : Bool) → (t ≡ true → P) → (t ≡ false → P)
 by-test true f g = f refl
 by-test false f g = g refl
 
--- the first test of a list
+-- the number of a list whose first test applies
 
 refusal-here : (x : Refusal) (xs : List Refusal) → x .applies ≡ true → refusalOf (x ∷ xs) ≡ x .number
 unfolding refusalOf
@@ -43,12 +43,12 @@ first-numbered : (t u : Bool) → cond t false u ≡ true → (t ≡ false) × (
 first-numbered true u e = absurd (true≢false (sym e))
 first-numbered false u e = (refl, e)
 
--- the number of the first refusal is not 0, and the rest is numbered too
+-- the first refusal's number is not 0, and neither is any of the rest
 not-zero : (x : Refusal) (xs : List Refusal) → numbered (x ∷ xs) ≡ true → (x .number ≡ 0 → ⊥) × (numbered xs ≡ true)
 unfolding numbered
 not-zero x xs n = let h = first-numbered (eqb (x .number) 0) (numbered xs) n in (eqb-false (x .number) 0 (h .0), h .1)
 
--- a whole list
+-- a whole list: no test applies exactly where its number is 0
 
 pub passed-served : (xs : List Refusal) → Passed xs → refusalOf xs ≡ 0
 unfolding Passed refusalOf
@@ -74,7 +74,7 @@ given-first n [] e isnt = absurd (isnt (sym e))
 given-first n (x ∷ xs) e isnt =
     by-test (x .applies) (λ t. here t (sym (refusal-here x xs t) ∙ e)) (λ t. later t (given-first n xs (sym (refusal-later x xs t) ∙ e) isnt))
 
--- what is found stays, whatever tests follow
+-- a refusal that was found stays, whatever tests follow
 chain-stays : (r : ℕ) (xs : List Refusal) → (r ≡ 0 → ⊥) → chain r xs ≡ r
 unfolding chain orElse
 chain-stays r [] h = refl
@@ -90,7 +90,7 @@ chain-first (x ∷ xs) n =
     by-test (x .applies) (λ t. ap found t ∙ chain-stays (x .number) xs (h .0) ∙ sym (refusal-here x xs t))
     (λ t. ap found t ∙ chain-first xs (h .1) ∙ sym (refusal-later x xs t))
 
--- a list, and then the tests of another
+-- the tests of one list and then those of another
 pub chained : (xs ys : List Refusal) → numbered (xs ++ ys) ≡ true → chain (refusalOf xs) ys ≡ refusalOf (xs ++ ys)
 unfolding refusalOf
 chained [] ys n = chain-first ys n
@@ -99,7 +99,7 @@ chained (x ∷ xs) ys n =
     by-test (x .applies) (λ t. ap (λ (r : ℕ). chain r ys) (refusal-here x xs t) ∙ chain-stays (x .number) ys (h .0) ∙ sym (refusal-here x (xs ++ ys) t))
     (λ t. ap (λ (r : ℕ). chain r ys) (refusal-later x xs t) ∙ chained xs ys (h .1) ∙ sym (refusal-later x (xs ++ ys) t))
 
--- two numbers that must be the same; for a limit the tests' own laws serve
+-- the test that two numbers differ; the test of a limit needs no laws of its own
 
 differs-passed : (a b : ℕ) → a ≡ b → differs a b ≡ false
 differs-passed a b e = rw (eq-eqb a b e)
@@ -107,7 +107,7 @@ differs-passed a b e = rw (eq-eqb a b e)
 differs-known : (a b : ℕ) → differs a b ≡ false → a ≡ b
 differs-known a b e = eqb-true a b (not-false (eqb a b) e)
 
--- cipher and rounds, each of two tests
+-- cipher and rounds, which have two tests each
 
 cipher-passed : (c : ℕ) → (c ≡ 64) ⊎ (c ≡ 128) → wrongCipher c .applies ≡ false
 unfolding wrongCipher

@@ -1,4 +1,4 @@
--- A reply from its parts, and what it says: the two ways that a call ends. Which one it is, is decided by whether the number of the refusals is 0.
+-- A reply from its parts, and the two cases of how a call ends, served or refused: it is served exactly where the refusals' number is 0.
 -- Assumes nothing.
 use mathlib.Core.Path.{_≡_, sym, ap, ap₂, _∙_}
 use mathlib.Core.Bool.{cond}
@@ -13,7 +13,7 @@ use Rattle.fox_refusals.specs.Handed.{Handed, answer}
 use Rattle.fox_refusals.specs.declared.answer.Answer.{Answer}
 use Rattle.fox_refusals.proofs.Laws.Refusals.{first-given}
 
--- which of two a number of refusals picks
+-- the value that a `cond` on the refusals' number takes
 pub chosen : {A : Type 0} (n : ℕ) (a b : A) → n ≡ 0 → a ≡ cond (eqb n 0) a b
 chosen n a b e = simp (eq-eqb n 0 e)
 
@@ -47,7 +47,7 @@ module _ {rs : List Refusal} {value before after : List ℕ} {r : Answer} (call 
         output = call .output ∙ sym (chosen (refusalOf rs) value before z);
       }
 
-  -- a refused call has count 0 and leaves the output as it was, whatever kind of call it is
+  -- a refused call has count 0 and leaves the output as it was, whatever call it is
   pub refused : (r .refusal ≡ 0 → ⊥) → Refused rs before after r
   refused n =
       let h : refusalOf rs ≡ 0 → ⊥ = λ z. n (call .refusal ∙ z) in
@@ -57,13 +57,13 @@ module _ {rs : List Refusal} {value before after : List ℕ} {r : Answer} (call 
         output = call .output ∙ sym (passed-over (refusalOf rs) value before h);
       }
 
-  -- and which number it is: that of the first refusal that applies
+  -- the number of a refused call is that of the first refusal that applies
   pub refused-by : {n : ℕ} → First n rs → (n ≡ 0 → ⊥) → Refused rs before after r × (r .refusal ≡ n)
   refused-by f isnt =
       let is = call .refusal ∙ first-given f in
       (refused (λ z. isnt (sym is ∙ z)), is)
 
--- two calls with the same refusals, the same value and outputs of one length, whichever engines they are and whatever the outputs held
+-- two calls with the same refusals, the same value and outputs of one length, of any engines and whatever the outputs held
 pub same : {rs₁ rs₂ : List Refusal} {value before₁ before₂ after₁ after₂ : List ℕ} {r₁ r₂ : Answer} → rs₁ ≡ rs₂ → length before₁ ≡ length before₂
     → Reply rs₁ value before₁ after₁ r₁ → Reply rs₂ value before₂ after₂ r₂ → Same before₁ before₂ after₁ after₂ r₁ r₂
 same {rs₁} {rs₂} {value} e l a b =
@@ -75,7 +75,7 @@ same {rs₁} {rs₂} {value} e l a b =
       same-before = λ q. a .output ∙ ap₂ (λ (rs : List Refusal) (old : List ℕ). cond (eqb (refusalOf rs) 0) value old) e q ∙ sym (b .output);
     }
 
--- what a call over the C interface hands back is a reply, with the count that follows from the number
+-- what a call over the C interface returns is a reply, with the count that follows from the number
 pub handed-reply : {rs : List Refusal} {value before after : List ℕ} {r : ℕ}
     → Handed rs value before after r → Reply rs value before after (answer r (length before))
 unfolding answer

@@ -41,14 +41,14 @@ unfolding clocked
 clocked-lt x h =
     by-test (ltb x (2 ^ 23)) (λ t. rw t (omega (arith, ltb-true x (2 ^ 23) t))) (λ t. rw t (moved-lt x h))
 
--- adding a top bit that is not there. The powers stand as variables, since ⊕ of two numerals would be computed bit by bit
+-- XOR with a top bit that is not set is the sum. The powers are variables here, since ⊕ of two numerals would be computed bit by bit
 with-top : (k p b : ℕ) → p ≡ 2 ^ k → b < 2 ^ k → b ⊕ p ≡ p + b
 with-top k p b e h =
     xor-comm b p ∙ ap (λ (n : ℕ). n ⊕ b) (e ∙ sym (one-mul (2 ^ k))) ∙ xor-shifted 1 k b h
     ∙ ap (λ (n : ℕ). n + b) (one-mul (2 ^ k) ∙ sym e)
 
--- A register with its top bit set, that is 2 ^ 23 + z: a step makes it z * 2 ⊕ 1B, which is odd. Its half is z ⊕ 0D, and with 80000D added
--- that is z with the top bit again.
+-- A register with its top bit set is 2 ^ 23 + z: a step gives z * 2 ⊕ 1B, which is odd. Its half is z ⊕ 0D, and XORed with 80000D that is z with the top bit
+-- set again.
 odd-after : (z : ℕ) → (z * 2 ⊕ 0x1B) % 2 ≡ 1
 odd-after z =
     let even : z * 2 % 2 ≡ 0 = omega arith in

@@ -1,4 +1,4 @@
--- A number of two times n bits is its left half and its right half.
+-- A number of 2·n bits is its left half and its right half.
 -- Assumes nothing.
 use mathlib.Core.Path.{_≡_, sym, ap, _∙_}
 use Prim.Native.Nat.{ℕ, _+_, _*_, _/_, _%_, _^_, _<_}
@@ -14,7 +14,7 @@ pub right-lt : (n w : ℕ) → right n w < 2 ^ n
 unfolding right
 right-lt n w = mod-lt w (pow-pos n)
 
--- where nothing stands above the two halves
+-- where no bit is set above the two halves
 pub left-div : (n w : ℕ) → w < 2 ^ (n + n) → left n w ≡ w / 2 ^ n
 unfolding left
 left-div n w h = shr-mod n n h
@@ -31,7 +31,7 @@ pub pair : (n w : ℕ) → w < 2 ^ (n + n) → left n w * 2 ^ n + right n w ≡ 
 unfolding left right
 pair n w h = recompose n n h
 
--- what stands above the two halves does not count
+-- bits above the two halves do not count
 above : (n a b : ℕ) → a * 2 ^ (n + n) + b ≡ a * 2 ^ n * 2 ^ n + b
 above n a b = ap (λ (m : ℕ). m + b) (ap (λ (m : ℕ). a * m) (pow-add 2 n n) ∙ sym (mul-assoc a (2 ^ n) (2 ^ n)))
 

@@ -1,5 +1,5 @@
--- "or" and "io" undo each other on words of 32 bits; a round without them undoes itself, whatever its round function is, since the sum that the round
--- function is given does not change. No step leaves 32 bits.
+-- "or" and "io" undo each other on words of 32 bits. A round without them undoes itself, whatever its round function is, since the round does not change the
+-- XOR that is the round function's input. No step leaves 32 bits.
 -- Assumes nothing.
 use mathlib.Core.Path.{_≡_, sym, ap, ap₂, _∙_, subst}
 use mathlib.Core.List.{map}
@@ -17,7 +17,7 @@ use Rattle.fox_rounds.specs.declared.fox64.Fox64.{Fox64}
 use Rattle.fox_rounds.specs.declared.fox128.Fox128.{Fox128}
 use Rattle.fox_rounds.proofs.Laws.Halves.{left-lt, right-lt, left-pair, right-pair, pair, left-low, right-low}
 
--- two halves of 16 bits make a word of 32
+-- two halves of 16 bits join to a word of 32
 halves-lt : (a b : ℕ) → a < 2 ^ 16 → b < 2 ^ 16 → a * 2 ^ 16 + b < 2 ^ 32
 halves-lt a b ha hb = digits-lt ha hb
 
@@ -67,7 +67,7 @@ f-lt n mu x rk =
     xor-lt (8 * n) (sigma n (mu (sigma n (x ⊕ left (8 * n) rk)) ⊕ right (8 * n) rk)) (left (8 * n) rk)
     (sigma-lt n (mu (sigma n (x ⊕ left (8 * n) rk)) ⊕ right (8 * n) rk)) (left-lt (8 * n) rk)
 
--- the round function put together from the results of its steps, as code has them
+-- the round function from the results of its steps, as code has them
 pub f-made : (n : ℕ) (mu : ℕ → ℕ) (x rk : ℕ) {k l m s : ℕ} → left (8 * n) rk ≡ k → right (8 * n) rk ≡ l → m ≡ mu (sigma n (x ⊕ k)) → s ≡ sigma n (m ⊕ l)
     → s ⊕ k ≡ f n mu x rk
 unfolding f
@@ -75,7 +75,7 @@ f-made n mu x rk {k} {l} {m} {s} ek el em es =
     ap (λ (a : ℕ). a ⊕ k) (es ∙ ap (λ (a : ℕ). sigma n (a ⊕ l)) em)
     ∙ ap₂ (λ (a b : ℕ). sigma n (mu (sigma n (x ⊕ a)) ⊕ b) ⊕ a) (sym ek) (sym el)
 
--- what is added to both sides leaves the sum
+-- XOR of both sides with the same number leaves their XOR as it was
 same-xor : (a b t : ℕ) → (a ⊕ t) ⊕ b ⊕ t ≡ a ⊕ b
 same-xor a b t = xor-medial a t b t ∙ ap (λ (n : ℕ). (a ⊕ b) ⊕ n) (xor-same t) ∙ xor-zero (a ⊕ b)
 
@@ -166,7 +166,7 @@ unfolding or128 io128
 or128-io128 x w =
     λ i. record { ll = or-io (x .ll) (w .first) i; lr = x .lr; rl = or-io (x .rl) (w .third) i; rr = x .rr }
 
--- a round of FOX64 looks at the lowest 64 bits of its round key alone
+-- a round of FOX64 depends on the lowest 64 bits of its round key alone
 pub lmid64-low : (a b : ℕ) (x : Fox64) → lmid64 (a * 2 ^ 64 + b) x ≡ lmid64 b x
 unfolding lmid64 f32 f
 lmid64-low a b x =

@@ -1,4 +1,4 @@
--- Rounds over a numbered list of round keys, one turn at a time, as a loop does them; and the list read backwards.
+-- Rounds over a numbered list of round keys, one at a time, as a loop does them; and the list read backwards.
 -- Assumes nothing.
 use mathlib.Core.Path.{_≡_, refl, sym, ap, ap₂, _∙_}
 use mathlib.Core.Bool.{Bool, true, false}
@@ -15,7 +15,7 @@ use Rattle.fox_rounds.specs.declared.state.State.{State}
 use Rattle.fox_rounds.specs.declared.state.State.the-variants.{Of64, Of128}
 
 module _ {S : Type 0} (round : ℕ → S → S) (between : S → S) (k : ℕ → ℕ) where
-  -- one more round to come after this one
+  -- a round that is not the last
   pub turn : (n i : ℕ) (x : S) → i < n
       → through round between (numbered k (suc (n - i)) i) x
       ≡ through round between (numbered k (suc (n - (i + 1))) (i + 1)) (between (round (k i) x))
@@ -33,7 +33,7 @@ module _ {S : Type 0} (round : ℕ → S → S) (between : S → S) (k : ℕ →
       let none : n - n ≡ zero = omega arith in
       ap (λ (m : ℕ). through round between (numbered k (suc m) n) x) none
 
-  -- where a loop stands: n rounds are followed by "or" or "io", i of them are done, and they have made y of x
+  -- the state of a loop: of x's n rounds with "or" or "io" after them, i are done, with the result y; these and one last round are left
   abbrev pub RoundsLeft : ℕ → S → ℕ → S → Type 0
   RoundsLeft n x i y = through round between (numbered k (suc (n - i)) i) y ≡ through round between (numbered k (suc n) 0) x
 
@@ -57,7 +57,7 @@ module _ {S : Type 0} (round : ℕ → S → S) (between : S → S) (k : ℕ →
       ∙ g
       ∙ ap (λ (j : ℕ). through round between (numbered k j 0) x) whole
 
--- a round and what follows it, as code does them one after the other, before the rounds that are left
+-- a round and the "or" or "io" after it, as code does them, before the rounds that are left
 pub one-more : {S : Type 0} (round : ℕ → S → S) (between : S → S) (k l : ℕ) (ks : List ℕ) {x y z : S}
     → y ≡ round k x → z ≡ between y → through round between (l ∷ ks) z ≡ through round between (k ∷ l ∷ ks) x
 unfolding through
@@ -75,7 +75,7 @@ module _ {A : Type 0} where
   numbered-at k (suc n) i zero d h = ap k (sym (add-zero i))
   numbered-at k (suc n) i (suc j) d h = numbered-at k n (suc i) j d (le-of-suc-le-suc h) ∙ ap k (suc-add i j ∙ sym (add-suc i j))
 
-  -- the numbers moved by one
+  -- numbers counted from one further on
   pub numbered-next : (k : ℕ → A) (n i : ℕ) → numbered k n (suc i) ≡ numbered (λ (j : ℕ). k (suc j)) n i
   unfolding numbered
   numbered-next k zero i = refl
@@ -95,7 +95,7 @@ module _ {A : Type 0} where
   numbered-snoc k (suc n) i =
       ap (λ (ks : List A). k i ∷ ks) (numbered-snoc k n (suc i) ∙ ap (λ (j : ℕ). numbered k n (suc i) ++ (k j ∷ [])) (suc-add i n ∙ sym (add-suc i n)))
 
-  -- read backwards
+  -- the list read backwards
   pub reverse-numbered : (k : ℕ → A) (n : ℕ) → reverse (numbered k (suc n) 0) ≡ numbered (λ (j : ℕ). k (n - j)) (suc n) 0
   unfolding numbered
   reverse-numbered k zero = refl
@@ -116,13 +116,13 @@ module _ {A : Type 0} where
       ∙ reverse-numbered k (m - 1)
       ∙ ap (λ (n : ℕ). numbered (λ (j : ℕ). k (m - 1 - j)) n 0) (sym whole)
 
--- in the order of a direction
+-- the round keys in the order of sealing, or of opening
 pub inOrder-numbered : (d : Bool) (k : ℕ → ℕ) (m : ℕ) → 1 ≤ m → inOrder d (numbered k m 0) ≡ numbered (λ (i : ℕ). k (place d m i)) m 0
 unfolding inOrder place
 inOrder-numbered true k m some = refl
 inOrder-numbered false k m some = reversed k m some
 
--- a state turned by m rounds, one after the other, as a loop does them: i of them are done, and they have made y of x
+-- the state of a loop that seals or opens x in m rounds: i rounds are done, with the result y
 module _ (d : Bool) (k : ℕ → ℕ) (m : ℕ) where
   abbrev pub TurnLeft : State → ℕ → State → Type 0
   TurnLeft x i y = RoundsLeft round (between d) (λ (j : ℕ). k (place d m j)) (m - 1) x i y
@@ -159,7 +159,7 @@ sealed-128 ks x = on ks x
     on (k ∷ []) y = refl
     on (k ∷ l ∷ ls) y = on (l ∷ ls) (or128 (elmid128 k y))
 
--- what no round and no step between rounds changes, all of them leave
+-- what no round and no step between rounds changes, stays as it is through all of them
 pub through-keeps : {S A : Type 0} (f : S → A) (step : ℕ → S → S) (after : S → S) → ((k : ℕ) (x : S) → f (step k x) ≡ f x) → ((x : S) → f (after x) ≡ f x)
     → (ks : List ℕ) (x : S) → f (through step after ks x) ≡ f x
 unfolding through
@@ -167,14 +167,14 @@ through-keeps f step after s a [] x = refl
 through-keeps f step after s a (k ∷ []) x = s k x
 through-keeps f step after s a (k ∷ l ∷ ks) x = through-keeps f step after s a (l ∷ ks) (after (step k x)) ∙ a (step k x) ∙ s k x
 
--- one round key more at the end
+-- one more round key at the end
 pub through-snoc : {S : Type 0} (round : ℕ → S → S) (between : S → S) (l : ℕ) (ls : List ℕ) (k : ℕ) (x : S)
     → through round between ((l ∷ ls) ++ (k ∷ [])) x ≡ round k (between (through round between (l ∷ ls) x))
 unfolding through
 through-snoc round between l [] k x = refl
 through-snoc round between l (m ∷ ms) k x = through-snoc round between m ms k (between (round l x))
 
--- a state turned by m rounds, as a loop does them that has no round after it: the rounds done so far are those of the first i round keys
+-- the state of a loop that seals or opens x in m rounds with no round after the loop: y is x after the rounds with the first i round keys
 module _ (d : Bool) (k : ℕ → ℕ) (m : ℕ) where
   abbrev pub TurnDone : State → ℕ → State → Type 0
   TurnDone x i y = y ≡ through round (between d) (numbered (λ (j : ℕ). k (place d m j)) i 0) x

@@ -1,4 +1,4 @@
--- Opening undoes sealing, once for all: for any round that undoes itself, any two steps between rounds of which one undoes the other, and any list of round
+-- Opening undoes sealing, proved once: for any round that undoes itself, any two steps between rounds of which one undoes the other, and any list of round
 -- keys. FOX64 and FOX128, and both directions, are cases of it.
 -- Assumes nothing.
 use mathlib.Core.Path.{_≡_, refl, sym, ap, _∙_, subst}
@@ -42,7 +42,7 @@ undo {round = round} {there = there} {back = back} u (k ∷ l ∷ ks) x w =
     ∙ ap (round k) (u .undone (round k x) (u .round-wide k x w))
     ∙ u .twice k x
 
--- no number of rounds leaves the width
+-- rounds do not leave the width, however many they are
 through-wide : {S : Type 0} {Wide : S → Type 0} {round : ℕ → S → S} {there back : S → S} → Undone Wide round there back
     → (ks : List ℕ) (x : S) → Wide x → Wide (through round there ks x)
 unfolding through
@@ -95,7 +95,7 @@ between-undone false false (Of128 x) w = ap Of128 (or128-io128 x w)
 either-direction : (d b : Bool) → Undone (Fits b) round (between d) (between (not d))
 either-direction d b = record { round-wide = round-fits b; there-wide = between-fits d b; twice = round-twice; undone = between-undone d b }
 
--- a state that fits is turned into one that fits
+-- a state that fits, sealed or opened, fits
 pub turned-fits : (d b : Bool) (ks : List ℕ) (x : State) → Fits b x → Fits b (turned d ks x)
 unfolding turned
 turned-fits d b ks x w = through-wide (either-direction d b) (inOrder d ks) x w

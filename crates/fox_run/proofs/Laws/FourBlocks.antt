@@ -1,5 +1,5 @@
--- Bytes added to four blocks of a stream side by side: two blocks laid one after the other are their bytes joined, and four whole blocks from the one on
--- that byte n begins are the stream from byte n on.
+-- Bytes XORed with four blocks of a stream side by side: two XORs written one after the other are one with the blocks joined, and four whole blocks, from the
+-- one that byte n begins, are the stream from byte n on.
 -- Assumes nothing.
 use mathlib.Core.Path.{_≡_, sym, ap, ap₂, _∙_}
 use mathlib.Core.List.{List, _++_, append-assoc, append-nil}
@@ -15,7 +15,7 @@ use Rattle.fox_run.proofs.Laws.XorEach.{length-xorEach-min, xorEach-app
 use Rattle.fox_run.proofs.Laws.Streams.{blocksFrom, whole-blocks}
 use Rattle.fox_run.proofs.Laws.Loop.{part-end}
 
--- two sums laid one after the other, as the checker says it of parts from a to the end
+-- two XORs written one after the other, in the form of an obligation on parts from a to the end
 pub xoredTo-two : (a : ℕ) (xs ys ds os l p : List ℕ) → length xs ≡ a → a ≤ length ds → l ≡ xorEach xs ds ++ drop a os
     → p ≡ xorEach ys (midOf a (length ds - a) ds) ++ drop a (midOf a (length l - a) l) → putMid a (length l - a) l p ≡ xorEach (xs ++ ys) ds ++ drop (a + a) os
 xoredTo-two a xs ys ds os l p n h e f =
@@ -27,7 +27,7 @@ both : {ps qs xs ys : List ℕ} → ps ≡ xs → qs ≡ ys → ps ++ qs ≡ xs 
 both e f = ap₂ (λ (zs ws : List ℕ). zs ++ ws) e f
 
 module _ (block : ℕ → List ℕ) where
-  -- four blocks joined two and two are four of the stream
+  -- four blocks, joined two and two, are four of the stream
   four-blocks : (i : ℕ) (p q u v : List ℕ) → p ≡ block i → q ≡ block (i + 1) → u ≡ block (i + 2) → v ≡ block (i + 3)
       → (p ++ q) ++ (u ++ v) ≡ blocksFrom block i 4
   unfolding blocksFrom

@@ -1,5 +1,5 @@
--- A loop that lays a stretch down part by part: what stands in the output after a part is the stretch up to there, and the rest as it was. The next part
--- begins where the last one ended, in the input, in the output and in the stream.
+-- A loop that XORs a stretch part by part: after a part the output is XORed up to there, and the rest of it is as it was. The next part begins where the last
+-- one ended, in the input, in the output and in the stream.
 -- Assumes nothing.
 use mathlib.Core.Path.{_≡_, refl, sym, ap, ap₂, _∙_}
 use mathlib.Core.List.{List, _++_, append-nil, append-assoc}
@@ -39,7 +39,7 @@ module _ (f : ℕ → ℕ) (n : ℕ) (ds os : List ℕ) where
       en ∙ ap₂ (λ (xs ys : List ℕ). xs ++ ys) done (ep ∙ ap (λ (xs : List ℕ). more ++ drop m xs) left)
       ∙ sym (append-assoc front more (drop m (drop at os))) ∙ ap₂ (λ (xs ys : List ℕ). xs ++ ys) whole (drop-drop m at os)
 
-  -- the same as the checker says it of parts from at to the end, one lent for reading and one for writing
+  -- the same in the form of an obligation on parts from `at` to the end, one passed for reading and one for writing
   pub xoredTo-next : (at m : ℕ) (now part : List ℕ) → at + m ≤ length ds → length os ≡ length ds → XoredTo f n ds os at now
       → XoredTo f (n + at) (midOf at (length ds - at) ds) (midOf at (length now - at) now) m part → XoredTo f n ds os (at + m) (putMid at (length now - at) now part)
   xoredTo-next at m now part h same laid ep =

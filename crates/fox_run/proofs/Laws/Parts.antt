@@ -1,5 +1,4 @@
--- A part of a stretch laid down, from what code does: the rest of a sealed counter block added to the input, or whole blocks. And such a part in a loop that
--- lays a stretch down.
+-- A part of a stretch, from what code does: the rest of a sealed counter block XORed with the input. And such a part in a loop over the stretch.
 -- Assumes nothing.
 use mathlib.Core.Path.{_≡_, sym, ap, _∙_}
 use mathlib.Core.List.{List, _++_}
@@ -29,13 +28,13 @@ part-made B block pos size n {pad} {ds} {os} {after} {r} made added =
           (here ∙ sym (ap (λ (m : ℕ). xorFrom (streamed B block) n (take m ds)) many ∙ within-taken B block pos size n ds));
     }
 
--- a part in a loop that lays the stretch ds down from byte n on: at bytes of it are laid, and the part is of what is left
+-- a part in a loop that XORs the stretch ds from byte n on: `at` bytes of it are done, and the part is of what is left
 module _ (n at : ℕ) (ds now : List ℕ) {f : ℕ → ℕ} {part : List ℕ} {r : ℕ} (h : at ≤ length ds)
     (p : Part f (n + at) (midOf at (length ds - at) ds) (midOf at (length now - at) now) part r) where
   pub part-within : at + r ≤ length ds
   part-within = omega (arith, p .within, length-end at ds)
 
-  -- it gets on
+  -- at least one byte is done where any are left
   pub part-some : at < length ds → 1 ≤ r
   part-some more = p .some (omega (arith, length-end at ds))
 

@@ -1,4 +1,4 @@
--- Calls on a stretch of a run, from what they promise: where no refusal applies the answer is 0, the count that of the input, and the output the
+-- Calls on a stretch of a run, from what they promise: where no refusal applies the answer is 0, the count is the input's length, and the output is the
 -- stretch; and a call that answered 0 met no refusal.
 -- Assumes nothing.
 use mathlib.Core.Path.{_≡_, sym, _∙_}
@@ -28,6 +28,6 @@ module _ (c rounds k : ℕ) (rks counter : List ℕ) (offset : ℕ) (ds : List �
       let s = served call (stretched-served h) in
       record { refusal = s .refusal; count = s .count ∙ h .output; output = s .output }
 
-  -- what a call that answered 0 did
+  -- what a call that answered 0 gives
   pub call-did : r .refusal ≡ 0 → Served (length ds) (runWith c rks counter offset ds) after r
   call-did e = call-served (call-known e)

@@ -1,5 +1,5 @@
--- Bytes added to a stream of blocks, block by block: a stretch of the stream that is a known list of bytes is added as that list is. And the key stream
--- is that of the counter blocks as states: the state of the counter block number i is the first one's, counted on by i.
+-- Bytes XORed with a stream of blocks, block by block: XOR with a stretch of the stream is XOR with the list of its bytes. And the key stream is that of the
+-- counter blocks as states: the state of counter block number i is the first one's, counted on by i.
 -- Assumes nothing.
 use mathlib.Core.Path.{_≡_, refl, sym, ap, ap₂, _∙_}
 use mathlib.Core.Bool.{Bool, true, false, cond}
@@ -24,7 +24,7 @@ use Rattle.fox_run.specs.States.{counted64, counted128, counted, sealed,
 use Rattle.fox_run.proofs.Laws.XorEach.{length-xorEach-min, take-xorEach}
 use Rattle.fox_run.proofs.Laws.XorFrom.{xorFrom-same}
 
--- the bytes of a stream from its byte number n on are those of a list, as far as that goes
+-- the bytes of a stream from its byte n on are those of a list, up to the end of the list
 abbrev pub StreamHas : (ℕ → ℕ) → ℕ → List ℕ → Type 0
 StreamHas f n pad = (i : ℕ) → i < length pad → f (n + i) ≡ getD pad i 0
 
@@ -45,7 +45,7 @@ streamHas-append f n (x ∷ xs) ys hx hy (suc i) l =
     let after : StreamHas f (suc n + length xs) ys = λ j h. ap f (omega arith) ∙ hy j h in
     ap f (omega arith) ∙ streamHas-append f (suc n) xs ys later after i (omega arith)
 
--- blocks
+-- blocks of a stream
 
 unfoldable pub blocksFrom : (ℕ → List ℕ) → ℕ → ℕ → List ℕ
 blocksFrom block i zero = []
@@ -71,7 +71,7 @@ module _ (B : ℕ) (block : ℕ → List ℕ) (pos : 0 < B) (size : (i : ℕ) �
       let l : n % B + i < B = omega (arith, length-rest n, mod-lt n pos) in
       ap (streamed B block) (omega (arith, div-add-mod' n B)) ∙ streamed-at B block (n / B) (n % B + i) l ∙ sym (getD-drop (n % B) (block (n / B)) i 0)
 
-  -- one block's part: from byte n to the block's end, as far as the bytes go
+  -- the part of one block from byte n to the block's end, or to the end of the bytes
   pub length-within : (n : ℕ) (ds : List ℕ) → length (xorEach (drop (n % B) (block (n / B))) ds) ≡ min (B - n % B) (length ds)
   length-within n ds = length-xorEach-min _ ds ∙ ap (λ (k : ℕ). min k (length ds)) (length-rest n)
 
@@ -166,7 +166,7 @@ counted-state c counter i e = there (eqb c 64) e
     there true n = ap Of64 (counted-64 counter i n)
     there false n = ap Of128 (counted-128 counter i n)
 
--- a run is the bytes added to the stream of the first counter block's state
+-- a run is the bytes XORed with the stream of the first counter block's state
 pub run-streamed : (c : ℕ) (rks counter : List ℕ) (n : ℕ) (ds : List ℕ) → length counter ≡ blockSize c
     → xorFrom (stream rks (state c counter)) n ds ≡ runWith c rks counter n ds
 unfolding runWith keyStream stream sealed turnWith

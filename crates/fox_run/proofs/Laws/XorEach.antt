@@ -1,4 +1,4 @@
--- Two lists added place by place, as far as both go: their length, their places, and a sum made part by part.
+-- XOR of two lists place by place, up to the end of the shorter: its length, its places, and the XOR computed part by part.
 -- Assumes nothing.
 use mathlib.Core.Path.{_≡_, refl, sym, ap, ap₂, _∙_}
 use mathlib.Core.Logic.{_⊎_, inl, inr}
@@ -43,7 +43,7 @@ xorEach-parts (x ∷ xs) ys (z ∷ zs) h = ap (λ (l : List ℕ). (x ⊕ z) ∷ 
 pub xorEach-append : (xs ys zs : List ℕ) (n : ℕ) → length xs ≡ n → n ≤ length zs → xorEach (xs ++ ys) zs ≡ xorEach xs zs ++ xorEach ys (drop n zs)
 xorEach-append xs ys zs n e h = xorEach-parts xs ys zs (omega arith) ∙ ap (λ (m : ℕ). xorEach xs zs ++ xorEach ys (drop m zs)) e
 
--- only as much of the second list counts as the first one has
+-- of the second list only as many places count as the first one has
 pub xorEach-take : (xs ys : List ℕ) → xorEach xs (take (length xs) ys) ≡ xorEach xs ys
 unfolding xorEach
 xorEach-take [] ys = refl
@@ -60,12 +60,12 @@ written-next s os now i h l e =
     ∙ ap (λ (xs : List ℕ). xs ++ drop (suc i) os) (sym (take-suc s i 0 h))
     ∙ ap (λ (j : ℕ). take j s ++ drop j os) (sym (add-one i))
 
--- the shorter of two lists bounds their sum
+-- the XOR of two lists is as long as the shorter
 pub shorter-xorEach : (xs ys : List ℕ) (n : ℕ) → n ≤ length xs → n ≤ length ys → (n ≡ length xs) ⊎ (n ≡ length ys) → n ≡ length (xorEach xs ys)
 shorter-xorEach xs ys n g h (inl e) = omega (arith, length-xorEach-min xs ys)
 shorter-xorEach xs ys n g h (inr e) = omega (arith, length-xorEach-min xs ys)
 
--- a word added to the word that four bytes join to
+-- a word XORed with the word that four bytes join to has the XOR of their bytes
 pub word-xored : (w v k : ℕ) (ds : List ℕ) → Bytes ds → k + 4 ≤ length ds → v ≡ joined (take 4 (drop k ds)) → split 4 (w ⊕ v) ≡ xorEach (split 4 w) (drop k ds)
 unfolding split
 word-xored w v k ds h l e =
@@ -77,7 +77,7 @@ word-xored w v k ds h l e =
     ∙ split-joined (take 4 (drop k ds)) (take-bytes 4 (drop k ds) (drop-bytes k ds h)))
     ∙ xorEach-take (split 4 w) (drop k ds)
 
--- what is laid over the front of a list, and then over what comes next
+-- a list written over the front of another, and a second one written after it
 pub xoredTo-after : (a b : ℕ) (xs ys os l p : List ℕ) → length xs ≡ a → l ≡ xs ++ drop a os → p ≡ ys ++ drop b (midOf a (length l - a) l)
     → putMid a (length l - a) l p ≡ (xs ++ ys) ++ drop (a + b) os
 xoredTo-after a b xs ys os l p n e f =

@@ -1,5 +1,5 @@
--- Bytes added to those of any stream: cut and joined at any byte, and added twice they are the bytes again. Each is an induction on the bytes, since a byte
--- of the sum hangs on its own place alone.
+-- Bytes XORed with those of any stream: they may be cut and joined at any byte, and XORed twice they are the bytes again. Each law is an induction on the
+-- bytes, since each byte of the XOR depends on its own place alone.
 -- Assumes nothing.
 use mathlib.Core.Path.{_≡_, refl, sym, ap, ap₂, _∙_}
 use mathlib.Core.List.{List, [], _∷_, _++_}
@@ -20,7 +20,7 @@ xorFrom-same f g n [] h = refl
 xorFrom-same f g n (d ∷ ds) h = cons (ap (λ (s : ℕ). s ⊕ d) (h n)) (xorFrom-same f g (suc n) ds h)
 
 module _ (f : ℕ → ℕ) where
-  -- from another name of the same byte on
+  -- from an equal place on
   pub xorFrom-from : {m n : ℕ} (ds : List ℕ) → m ≡ n → xorFrom f m ds ≡ xorFrom f n ds
   xorFrom-from ds e = ap (λ (k : ℕ). xorFrom f k ds) e
 
@@ -29,7 +29,7 @@ module _ (f : ℕ → ℕ) where
   length-xorFrom n [] = refl
   length-xorFrom n (d ∷ ds) = ap suc (length-xorFrom (suc n) ds)
 
-  -- one byte of it
+  -- one byte of the XOR
   pub xorFrom-at : (n : ℕ) (ds : List ℕ) (i : ℕ) → i < length ds → getD (xorFrom f n ds) i 0 ≡ f (n + i) ⊕ getD ds i 0
   unfolding xorFrom
   xorFrom-at n [] i h = absurd (omega arith)

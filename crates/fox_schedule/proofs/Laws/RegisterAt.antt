@@ -1,4 +1,4 @@
--- The register as it is moved from round key to round key: forward from the seed, and back from where the last round key stands.
+-- The register from round key to round key: forward from the seed, and back from its value for the last round key.
 -- Assumes nothing.
 use mathlib.Core.Path.{_≡_, refl, sym, ap, ap₂, _∙_}
 use mathlib.Core.Bool.{Bool, true, false}
@@ -27,7 +27,7 @@ reg-next i r {g} e at moved =
     ∙ LFSR-forward (i * g) g r
     ∙ ap (λ (n : ℕ). LFSR n r) (one-more i g)
 
--- all n steps at once, to the last round key
+-- from the seed to the value for the last round key, all its steps at once
 reg-last : (n r : ℕ) {g steps reg to : ℕ} → steps ≡ g → reg ≡ seed r → to ≡ iterate (n * steps) clocked reg → to ≡ LFSR ((n - 0) * g) r
 unfolding LFSR
 reg-last n r {g} e at moved =
@@ -51,7 +51,7 @@ steps-few (Ks64 m flip) = lit≤ tt
 steps-few (Ks64h m flip) = lit≤ tt
 steps-few (Ks128 m flip) = lit≤ tt
 
--- the steps to the last round key, of which there are at most 2,805, fit a word
+-- the steps to the last round key, at most 2,805, fit a word
 pub few-steps : (n : ℕ) (s : Schedule) {k : ℕ} → n < 256 → k ≡ steps s → n * k < 2 ^ 32
 few-steps n s {k} h e =
     let bound : k ≤ 11 = rw e (steps-few s) in
@@ -67,18 +67,18 @@ module _ (s : Schedule) (r : ℕ) where
   unfolding place
   registerAt-last e at moved h = record { here = reg-last (r - 1) r e at moved; small = h }
 
-  -- sealing goes on, past the last round too
+  -- sealing, from a round to the next, also past the last round
   pub registerAt-on : (i : ℕ) {reg to : ℕ} → RegisterAt s true r i reg → RegisterNext s true reg to → RegisterAt s true r (i + 1) to
   unfolding place stepped
   registerAt-on i at m = record { here = reg-next i r refl (at .here) (m .there); small = m .small }
 
-  -- either direction, from a round to the next
+  -- sealing or opening, from a round to the next
   pub registerAt-next : (d : Bool) (i : ℕ) {reg to : ℕ} → r < 256 → i < r - 1 → RegisterAt s d r i reg → RegisterNext s d reg to → RegisterAt s d r (i + 1) to
   unfolding place stepped
   registerAt-next true i few h at m = registerAt-on i at m
   registerAt-next false i few h at m = record { here = reg-back (r - 1) i r few h refl (at .here) (m .there); small = m .small }
 
-  -- the round key made there
+  -- the round key at that register value
   pub registerAt-key : (d : Bool) (i : ℕ) {reg : ℕ} → RegisterAt s d r i reg → roundKeyAt s reg ≡ roundKeyOf s r (place d r i)
   unfolding roundKeyOf
   registerAt-key d i at = ap (roundKeyAt s) (at .here)

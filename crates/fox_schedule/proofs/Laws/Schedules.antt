@@ -1,4 +1,4 @@
--- Which key schedule serves (001 Fig. 8), and the round keys of a key as a schedule of it makes them, one after the other.
+-- Which key schedule a key takes (001 Fig. 8), and the round keys of a key, one after the other, as its `Schedule` gives them.
 -- Assumes nothing.
 use mathlib.Core.Path.{_≡_, refl, sym, ap, ap₂, _∙_}
 use mathlib.Core.List.{List}
@@ -55,7 +55,7 @@ pub roundKey128-lt : (r : ℕ) (key : List ℕ) (i : ℕ) → roundKey128 r key 
 unfolding roundKey128 roundKeyAt128
 roundKey128-lt r key i = NL128-lt _ _
 
--- the schedule of a key makes the round keys of that key
+-- the schedule of a key gives the round keys of that key
 scheduled-key : (c r : ℕ) (key : List ℕ) (s : Schedule) → Scheduled c key s → (i : ℕ) → roundKey c r key i ≡ roundKeyOf s r i
 unfolding Scheduled roundKeyOf roundKeyAt steps roundKey64 roundKey128 roundKeyAt128 ek128 groups
 scheduled-key c r key (Ks64 m flip) is i =
@@ -72,17 +72,17 @@ scheduled-key c r key (Ks128 m flip) is i =
     roundKey-128 c r key i (is .0)
     ∙ ap₂ (λ (f : Bool) (ms : List ℕ). NL128 f (dkey ms (LFSR (i * 11) r))) (sym (is .2)) (sym (is .1))
 
--- and in a row
+-- all round keys of a key, in their order
 pub roundKeys-scheduled : (c r : ℕ) (key : List ℕ) (s : Schedule) → Scheduled c key s → roundKeys c r key ≡ numbered (roundKeyOf s r) r 0
 unfolding roundKeys
 roundKeys-scheduled c r key s is =
     numbered-same (roundKey c r key) (roundKeyOf s r) r 0 (λ i h. scheduled-key c r key s is i)
 
--- a round key of 64 bits is its right word, and one of 128 bits has these halves
+-- a round key of 64 bits is its right word; one of 128 bits has these halves
 pub right-roundKeyAt : {s : Schedule} {reg : ℕ} {k : Key128} → RoundKeyAt s reg k → narrow s ≡ true → k .right ≡ roundKeyAt s reg
 right-roundKeyAt {k = k} m e = sym (zero-add (k .right)) ∙ ap (λ (l : ℕ). l * 2 ^ 64 + k .right) (sym (m .short e)) ∙ m .whole
 
--- where a schedule of a key is of FOX64
+-- the schedule of a key of FOX64 is narrow
 pub scheduled-narrow : (c : ℕ) (key : List ℕ) (s : Schedule) → Scheduled c key s → c ≡ 64 → narrow s ≡ true
 unfolding Scheduled narrow
 scheduled-narrow c key (Ks64 m flip) is e = refl

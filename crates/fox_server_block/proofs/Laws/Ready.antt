@@ -1,4 +1,4 @@
--- What a served call on one block knows, as the steps ask for it.
+-- What a served call on one block has is what the server engine's steps need.
 -- Assumes nothing.
 use mathlib.Core.Path.{_≡_, _∙_}
 use mathlib.Core.List.{List}
@@ -8,7 +8,7 @@ use lib.ListN.{length}
 use Rattle.fox_refusals.specs.Refusals.{blockSize, Blocked}
 use Rattle.fox_server_block.specs.Ready.{Ready}
 
--- what the step for the cipher asks, where no refusal applies
+-- what the step for the cipher needs, where no refusal applies
 pub ready : {c r k B : ℕ} (block out : List ℕ) → Blocked c r k (length block) (length out) → blockSize c ≡ B → Ready B r block out
 ready block out s size =
     let whole = s .block ∙ size in

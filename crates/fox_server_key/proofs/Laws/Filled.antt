@@ -1,4 +1,4 @@
--- The words of a prepared key as a loop stores them, one round key after the other, and read again.
+-- The words of a prepared key while a loop stores them, one round key after the other.
 -- Assumes nothing.
 use mathlib.Core.Path.{_≡_, refl, sym, ap, ap₂, _∙_}
 use mathlib.Core.List.{List, [], _∷_, _++_, append-assoc}

@@ -1,4 +1,4 @@
--- What preparing a key hands back, put together for a key that is served and for one that is refused.
+-- What preparing a key returns, from its parts: for a key that is served, and for one that is refused.
 -- Assumes nothing.
 use mathlib.Core.Path.{_≡_, refl, sym, _∙_, subst}
 use mathlib.Core.List.{List}
@@ -36,13 +36,13 @@ size-le c e = rw e (small (eqb c 64))
     small true = lit≤ tt
     small false = lit≤ tt
 
--- the bytes of round keys in use, of which there are at most 4,080
+-- the bytes of round keys in use, at most 4,080, fit a word
 pub in-use : (c n : ℕ) {b : ℕ} → b ≡ blockSize c → n ≤ 255 → b * n < 2 ^ 64
 in-use c n {b} e few =
     let most : b * n ≤ 16 * n = mul-le-mul-right n (size-le c e) in
     omega arith
 
--- what holds of a call with a key prepared within it, and the round keys that it holds, holds with the key's own length and round keys
+-- what holds of a call with a key prepared within it, and with the round keys that this holds, holds with the key's own length and round keys
 pub from-prepared : (P : ℕ → ℕ → ℕ → List ℕ → Type 0) (c n : ℕ) (key : List ℕ) (made : Preparation) → Keyed c n (length key) → Prepares c n key made
     → P (made .key .cipher) (made .key .rounds) (made .key .«key_len») (roundKeysIn (made .key)) → P c n (length key) (roundKeys c n key)
 unfolding preparedKey

@@ -24,7 +24,7 @@ use Rattle.fox_server_key.specs.Prepared.{inHalves, filled, preparedWord
 use Rattle.fox_server_key.specs.declared.prepared.Prepared.{Prepared}
 use Rattle.fox_server_key.proofs.Laws.Filled.{length-inHalves}
 
--- a list is its elements, numbered
+-- a list is the numbered list of its elements
 listed : (ks : List ℕ) → numbered (λ (i : ℕ). getD ks i 0) (length ks) 0 ≡ ks
 unfolding numbered
 listed [] = refl
@@ -124,7 +124,7 @@ roundKeysIn-prepared p key e =
     ∙ ap (λ (ws : List ℕ). numbered (roundKeyIn128 ws) r 0) (e ∙ preparedWords-128 c r key isnt)
     ∙ roundKeyIn128-filled (numbered k r 0) r (λ i h. rw (numbered-at k r 0 i 0 h) (wide c r key (0 + i) isnt)) (length-numbered k r 0))
 
--- a block turned by the round keys that a prepared key holds, by cases of the cipher
+-- a block sealed or opened with the round keys that a prepared key holds, by cases of the cipher
 module _ (d : Bool) (p : Prepared) (bs : List ℕ) where
   pub turned-in-64 : p .cipher ≡ 64
       → bytes (turned d (numbered (roundKeyIn64 (p .keys)) (p .rounds) 0) (Of64 (state64 bs))) ≡ turnWith d (p .cipher) (roundKeysIn p) bs

@@ -1,4 +1,4 @@
--- What look-ups give over tables that are lent as they should be: substitution, and diffusion after substitution.
+-- What lookups give in the tables of `TablesOf`: substitution in TBS, and diffusion after substitution in TBSM.
 -- Assumes nothing.
 use mathlib.Core.Path.{_≡_, sym, ap, ap₂, _∙_}
 use mathlib.Core.List.{List}
@@ -30,7 +30,7 @@ tables-mu4 lent w = ap (λ (l : List ℕ). picked 4 l w) (lent .t) ∙ picked-mu
 pub tables-mu8 : {s t : List ℕ} → TablesOf mu8Rows s t → (w : ℕ) → picked 8 t w ≡ mu8 (sigma 8 w)
 tables-mu8 lent w = ap (λ (l : List ℕ). picked 8 l w) (lent .t) ∙ picked-mu8 w
 
--- a word added to another half by half
+-- a word XORed with another, half by half
 pub halves-xored : (p q k : ℕ) → p < 2 ^ 32 → q < 2 ^ 32 → (p * 2 ^ 32 + q) ⊕ k ≡ (p ⊕ k / 2 ^ 32) * 2 ^ 32 + (q ⊕ k % 2 ^ 32)
 halves-xored p q k hp hq =
     ap (λ (x : ℕ). (p * 2 ^ 32 + q) ⊕ x) (sym (div-add-mod' k (2 ^ 32)))

@@ -1,4 +1,4 @@
--- Rounds on four blocks at once are the rounds on each of them.
+-- Rounds on four blocks side by side are the rounds on each of them.
 -- Assumes nothing.
 use mathlib.Core.Path.{_≡_, refl}
 use mathlib.Core.List.{List, [], _∷_}

@@ -1,5 +1,5 @@
--- A stretch by a prepared key, by cases of the cipher: what the steps ask where no refusal applies, and what they write is the definition's stretch by the
--- round keys that the prepared key holds.
+-- A stretch with a prepared key, by cases of the cipher: what the steps need where no refusal applies, and that what they write is the definition's stretch
+-- with the round keys that the prepared key holds.
 -- Assumes nothing.
 use mathlib.Core.Path.{_≡_, sym, ap₂, _∙_}
 use mathlib.Core.List.{List}

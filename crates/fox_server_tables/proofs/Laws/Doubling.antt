@@ -1,5 +1,5 @@
--- The joined tables by doubling and halving. A product worked out as the field defines it takes antt a hundred steps where a doubling takes a
--- few, and twelve tables want twenty thousand products; so a table is computed in this form, which is the same list.
+-- The joined S-box/diffusion tables (TBSM) by doubling and halving. A product computed as the field defines it takes the prover a hundred steps where a
+-- doubling takes a few, and twelve tables need twenty thousand products; so a table is computed in this form, which is the same list.
 -- Assumes nothing.
 use mathlib.Core.Path.{_≡_, refl, sym, ap, _∙_, fun-ext}
 use mathlib.Core.Bool.{cond}
@@ -16,8 +16,7 @@ use Rattle.fox_layers.proofs.Laws.Bytewise.{by-test}
 use Rattle.fox_layers.proofs.Laws.Field.{products}
 use Rattle.fox_layers.proofs.Laws.Tables.{sbox-lt}
 
--- the product by m: a case for each coefficient of mu4 and mu8, and the definition for any other number. What a `let` names is worked out
--- only if it is asked for.
+-- the product by m: a case for each coefficient of mu4 and mu8, and the definition for any other number. What a `let` names is computed only if it is used.
 unfoldable pub quick : ℕ → ℕ → ℕ
 quick m x =
     let other = product m x in
@@ -38,7 +37,7 @@ quick m x =
     let p01 = x in
     cond (eqb m 0x01) p01 upto02
 
--- one case: where m is k, the product by k will do
+-- one case: where m is k, the product by k is the product by m
 one-case : (m k x y rest : ℕ) → product k x ≡ y → rest ≡ product m x → cond (eqb m k) y rest ≡ product m x
 one-case m k x y rest here else = by-test (eqb m k) (λ t. rw (t, eqb-true m k t) (sym here)) (λ t. rw t else)
 
@@ -68,7 +67,7 @@ tbsmEntry-quick rows j =
     listed-same (λ (x : ℕ). scaled (column j rows) (sbox x)) (λ (x : ℕ). quickScaled (column j rows) (sbox x))
     (λ x h. quick-scaled (column j rows) (sbox x) (sbox-lt x h)) 256 0 (omega arith)
 
--- table number j, where j is k, from what antt computes at k
+-- table number j, where j is k, from what the prover computes at k
 pub by-number : (rows : List (List ℕ)) (k : ℕ) {j : ℕ} {t : List ℕ} → j ≡ k → t ≡ table (λ (x : ℕ). quickScaled (column k rows) (sbox x))
     → t ≡ table (tbsmEntry rows j)
 by-number rows k e computed = rw e (computed ∙ sym (tbsmEntry-quick rows k))

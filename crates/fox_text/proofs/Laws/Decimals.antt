@@ -1,4 +1,4 @@
--- Decimals: one digit further, what is known of digits that are right, and digits as they are written.
+-- Decimals: one digit further, what holds of well-formed digits, and digits as they are written.
 -- Assumes nothing.
 use mathlib.Core.Path.{_≡_, refl, sym}
 use mathlib.Core.List.{List, [], _∷_, _++_}
@@ -13,7 +13,7 @@ use Rattle.fox_text.specs.Decimal.{isDigit, allDigits, onward, decimalOf
 use Rattle.fox_text.proofs.Laws.Tests.{both, by-test}
 use Rattle.fox_text.proofs.Laws.Lines.{from-here}
 
--- what is found
+-- what reading returns
 
 pub not-found : {ok : Bool} {n : ℕ} → ok ≡ false → Found ok n (record { right = false; value = 0 })
 not-found e = record { right = sym e; value = rw e }
@@ -35,13 +35,13 @@ pub digits-done : (v : ℕ) (ds : List ℕ) (i : ℕ) → length ds ≤ i → (a
 unfolding allDigits onward
 digits-done v ds i h = (rw (drop-of-length-le ds h), rw (drop-of-length-le ds h))
 
--- more digits make no smaller number
+-- more digits give no smaller number
 pub grows : (v : ℕ) (ds : List ℕ) → v ≤ onward v ds
 unfolding onward
 grows v [] = omega arith
 grows v (d ∷ ds) = omega (arith, grows (v * 10 + (d - 48)) ds)
 
--- a byte that is no digit, or a number that is too large, settles the matter
+-- a byte that is no digit, or a value above the limit, settles the answer
 
 pub no-digits : (most : ℕ) (ds : List ℕ) → allDigits ds ≡ false → inRange most ds ≡ false
 unfolding inRange
@@ -77,7 +77,7 @@ pub not-begun : (most : ℕ) (ds : List ℕ) → begins ds ≡ false → isDecim
 unfolding isDecimal
 not-begun most ds e = rw e
 
--- what is known of digits that are right
+-- what holds of well-formed digits
 
 pub record Digits (most : ℕ) (ds : List ℕ) : Type 0 where
   pub first : begins ds ≡ true
@@ -100,7 +100,7 @@ digit-known d e =
     let (low, high) = both (leb 48 d) (leb d 57) e in
     record { low = leb-true 48 d low; high = leb-true d 57 high }
 
--- a first digit that is not 0 is worth 1 or more
+-- a first digit that is not 0 has a value of at least 1
 pub first-digit : {most : ℕ} (d x : ℕ) (ds : List ℕ) → Digits most (d ∷ x ∷ ds) → 49 ≤ d
 unfolding begins allDigits
 first-digit d x ds r =
@@ -108,7 +108,7 @@ first-digit d x ds r =
     let other = eqb-false d 48 (not-true (eqb d 48) (r .first)) in
     omega arith
 
--- digits go on from v to at least v times the power of ten
+-- the digits ds appended to v give at least v times their power of ten
 onward-low : (v : ℕ) (ds : List ℕ) → v * 10 ^ length ds ≤ onward v ds
 unfolding onward
 onward-low v [] = omega arith
@@ -117,7 +117,7 @@ onward-low v (d ∷ ds) =
     let more : v * 10 * 10 ^ length ds ≤ (v * 10 + (d - 48)) * 10 ^ length ds = mul-le-mul-right (10 ^ length ds) (omega arith) in
     rw (pow-succ' 10 (length ds), ← mul-assoc v 10 (10 ^ length ds)) (le-trans more next)
 
--- so a decimal below 100,000 has at most five digits: one with six that does not begin with 0 is 100,000 or more
+-- so a decimal below 100,000 has at most five digits: one of six or more that does not begin with 0 is at least 100,000
 pub decimal-length : (most : ℕ) (ds : List ℕ) → most < 100000 → isDecimal most ds ≡ true → length ds ≤ 5
 unfolding onward
 decimal-length most [] top e = omega arith
@@ -136,7 +136,7 @@ decimal-length most (d ∷ x ∷ ds) top e =
     absurd (omega arith))
     (λ q. let few = ltb-false 4 (suc (length ds)) q in omega arith)
 
--- written digits, where there is room for one
+-- the digits written, where there is room for at least one
 pub digits-more : (k n : ℕ) → 0 < k → digitsText k n ≡ cond (ltb n 10) ((48 + n) ∷ []) (digitsText (k - 1) (n / 10) ++ ((48 + n % 10) ∷ []))
 unfolding digitsText
 digits-more zero n h = absurd (omega arith)

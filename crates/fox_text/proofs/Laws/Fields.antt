@@ -1,4 +1,4 @@
--- A line of a name and a value that was read: what its parts were found to be makes what the line is found to be.
+-- A line of a name and a value that was read: the results for its parts give the result for the line.
 -- Assumes nothing.
 use mathlib.Core.Path.{_≡_, refl, sym, _∙_}
 use mathlib.Core.Bool.{Bool, true, false, _&&_, and-true, and-false}

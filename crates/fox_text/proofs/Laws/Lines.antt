@@ -1,4 +1,4 @@
--- Lines and names, one byte further: what a loop has found so far, it finds on from there. Each follows from the text being its byte at i and what is after it.
+-- Lines and names, one byte further, as a loop goes over them: a text from place i on is its byte there and the rest.
 -- Assumes nothing.
 use mathlib.Core.Path.{_≡_, refl, sym}
 use mathlib.Core.List.{List, [], _∷_}

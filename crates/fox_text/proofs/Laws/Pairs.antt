@@ -1,4 +1,4 @@
--- Pairs of hex digits: one digit or one pair further, and what is known of digits and pairs that are right.
+-- Pairs of hex digits: one digit or one pair further, and what holds of well-formed digits and pairs.
 -- Assumes nothing.
 use mathlib.Core.Path.{_≡_, refl, sym, _∙_}
 use mathlib.Core.List.{List, [], _∷_}
@@ -29,7 +29,7 @@ hex-at [] i e h = absurd (omega arith)
 hex-at (d ∷ ds) zero e h = both (isHex d) (allHex ds) e .0
 hex-at (d ∷ ds) (suc i) e h = hex-at ds i (both (isHex d) (allHex ds) e .1) (omega arith)
 
--- what is known of a hex digit: it is one of two ranges, and stands for less than 16
+-- what holds of a hex digit: it is in one of two ranges, and its value is below 16
 pub record Ranges (d : ℕ) : Type 0 where
   pub low : 48 ≤ d
   pub high : d ≤ 70
@@ -51,7 +51,7 @@ nibble-small d e =
     let r = ranges d e in
     by-test (ltb d 65) (λ p. rw p (omega (arith, r .between (ltb-true d 65 p)))) (λ p. rw p (omega (arith, r .high, ltb-false d 65 p)))
 
--- after the last pair
+-- no pair is left after the last
 pairs-end : (ds : List ℕ) → length ds < 2 → pairsOf ds ≡ []
 unfolding pairsOf
 pairs-end [] h = refl
@@ -82,7 +82,7 @@ unfolding hexText
 length-hex-text [] = refl
 length-hex-text (b ∷ bs) = omega (arith, length-hex-text bs)
 
--- what is known of digits that are pairs
+-- what holds of digits that are pairs
 pub record Even (most : ℕ) (ds : List ℕ) : Type 0 where
   pub even : length ds % 2 ≡ 0
   pub few : length ds / 2 ≤ most

@@ -1,7 +1,7 @@
--- A rule on a text's first line is settled by the first bytes of the text, one more of them than a right line can have: where the line ends among
--- them, they hold it whole, and where it does not, it has no end in them and is too long in the text. What follows a right line in a part of a text is
--- a part, with so many bytes fewer, of what follows it in the text. So the rules of a text's lines, one after the other, are settled by as many bytes as
--- right lines can have, and one more, which shows whether text follows.
+-- Whether a text's first line passes a test is settled by the text's first bytes, one more of them than a passing line can have: a line that ends among them
+-- is whole in them, and one that does not is too long. After a passing line, what is left of these bytes is again the beginning of what is left of the text.
+-- So the tests of a text's lines, one after the other, are settled by as many bytes as passing lines can have, and one more, which shows whether text
+-- follows.
 -- Assumes nothing.
 use mathlib.Core.Path.{_≡_, refl, sym, ap, ap₂, _∙_}
 use mathlib.Core.Bool.{Bool, true, false, cond}
@@ -24,7 +24,7 @@ use Rattle.fox_text.proofs.Laws.Lines.{length-line}
 use Rattle.fox_text.proofs.Laws.Decimals.{decimal-length}
 use Rattle.fox_text.proofs.Laws.Pairs.{even-pairs}
 
--- the first line of a part
+-- the first line of a text's first bytes
 
 min-end : (b : Bool) (m n : ℕ) → cond b 0 (suc (min m n)) ≡ min (suc m) (cond b 0 (suc n))
 min-end true m n = sym (min-zero (suc m))
@@ -42,7 +42,7 @@ drop-take (suc k) zero t = rw (zero-sub (suc k))
 drop-take (suc k) (suc m) [] = sym (take-nil (suc m - suc k))
 drop-take (suc k) (suc m) (x ∷ xs) = rw (suc-sub-suc m k) (drop-take k m xs)
 
--- s is the first bytes of t, k of them or more, or all
+-- s is the first bytes of t, at least k of them, or all of t
 pub record Prefix (k : ℕ) (s t : List ℕ) : Type 0 where
   pub kept : ℕ
   pub enough : k ≤ kept
@@ -61,7 +61,7 @@ ltb-min e m n h =
     by-test (ltb e n) (λ q. let lt = ltb-true e n q in lt-ltb e (min m n) (omega arith) ∙ sym q)
     (λ q. let le = ltb-false e n q in le-ltb e (min m n) (omega arith) ∙ sym q)
 
--- m bytes that hold the line hold it as it is
+-- m bytes that contain the first line whole have the same first line
 module _ (m : ℕ) (t : List ℕ) (held : lineEnd t < m) where
   lineEnd-held : lineEnd (take m t) ≡ lineEnd t
   lineEnd-held = lineEnd-take m t ∙ omega arith
@@ -76,7 +76,7 @@ module _ (m : ℕ) (t : List ℕ) (held : lineEnd t < m) where
   unfolding afterLine
   afterLine-held = rw lineEnd-held (drop-take (suc (lineEnd t)) m t)
 
--- m bytes that do not hold it have no line
+-- m bytes that end before the first line does have no line
 hasLine-cut : (m : ℕ) (t : List ℕ) → m ≤ lineEnd t → hasLine (take m t) ≡ false
 hasLine-cut m t h = rw (lineEnd-take m t, length-take m t) (le-ltb (min m (lineEnd t)) (min m (length t)) (omega arith))
 
@@ -108,7 +108,7 @@ module _ {m : ℕ} {test : Test} (within : Within m test) where
       let many = p .enough in
       record { kept = p .kept - suc (lineEnd t); enough = omega arith; is = ap afterLine (p .is) ∙ afterLine-held (p .kept) t (omega arith) }
 
--- how many bytes settle the rules of lines, one after the other
+-- how many bytes settle the tests of lines, one after the other
 pub data Settled : List Test → ℕ → Type 0 where
   end : Settled [] 1
   next : {m k : ℕ} {test : Test} {tests : List Test} → Within m test → Settled tests k → Settled (test ∷ tests) (suc m + k)

@@ -14,7 +14,7 @@ sets-append : (l : List ℕ) (i : ℕ) (a b : List ℕ) → sets l i (a ++ b) �
 sets-append l i [] b = ap (λ (n : ℕ). sets l n b) (omega arith)
 sets-append l i (x ∷ a) b = sets-append (set l i x) (suc i) a b ∙ ap (λ (n : ℕ). sets (sets (set l i x) (suc i) a) n b) (omega arith)
 
--- the text's byte number i stored, with those after it still to be stored
+-- byte i of the text stored, with those after it still to be stored
 pub text-stored : (out t : List ℕ) (at i : ℕ) → i < length t
     → sets (set out (at + i) (getD t i 0)) (at + (i + 1)) (drop (i + 1) t) ≡ sets out (at + i) (drop i t)
 text-stored out t at i h =
@@ -37,7 +37,7 @@ pub hex-done : (out bs : List ℕ) (at i : ℕ) → length bs ≤ i → sets out
 unfolding hexText
 hex-done out bs at i h = rw (drop-of-length-le bs h)
 
--- one byte is written by a store
+-- a store writes one byte
 pub one : (l : List ℕ) (at x : ℕ) → Put 1 (x ∷ []) l (set l at x) at (at + 1)
 one l at x = record { place = refl; short = omega arith; bytes = refl }
 
@@ -53,7 +53,7 @@ then {at = at} {a = a} {b = b} {l = l} p q =
 pub at-most : {m k at r : ℕ} {a l l′ : List ℕ} → Put m a l l′ at r → m ≤ k → Put k a l l′ at r
 at-most p h = record { place = p .place; short = omega (arith, p .short); bytes = p .bytes }
 
--- bytes stored at the start of a list that has room for them stand there, and what is after them stays
+-- bytes stored at the start of a list that has room for them are there, and what is after them stays
 take-stored : (l v : List ℕ) → length v ≤ length l → take (length v) (sets l 0 v) ≡ v
 take-stored l v h =
     let e : 0 + length v ≡ length v = omega arith in

@@ -1,5 +1,5 @@
--- Lines of a name and a value: what is written is read again, and what is right is as it would be written. A number's digits, read from the left, make it
--- digit by digit, and the first that is written is not 0, since one more digit moves the others up by a place. Two digits stand for the two halves of a byte.
+-- Lines of a name and a value: what is written reads back the same, and a well-formed line is as it would be written. A number's digits, read from the left,
+-- give it digit by digit; the first digit written is not 0, unless the number is 0. Two hex digits are the two halves of a byte.
 -- Assumes nothing.
 use mathlib.Core.Path.{_≡_, refl, sym, ap₂, _∙_}
 use mathlib.Core.Bool.{true, false, _&&_, true≢false}
@@ -75,7 +75,7 @@ text-read (suc k) n h =
     by-test (ltb n 10) (λ e. rw e (omega arith))
     (λ e. rw (e, onward-append 0 (digitsText k (n / 10)) ((48 + n % 10) ∷ []), text-read k (n / 10) (omega arith)) (omega arith))
 
--- a number that is not 0 does not begin with 0
+-- the text of a number that is not 0 does not begin with 0
 first-append : (ds es : List ℕ) → 48 < getD ds 0 0 → 48 < getD (ds ++ es) 0 0
 first-append [] es h = absurd (omega arith)
 first-append (d ∷ ds) es h = h
@@ -110,7 +110,7 @@ digits-plain (d ∷ ds) e =
     let (first, later) = both (isDigit d) (allDigits ds) e in
     (digit-plain d (digit-known d first .low), digits-plain ds later)
 
--- decimals written again
+-- decimals that were read, written again
 
 text-next : (k v d : ℕ) → 1 ≤ v → isDigit d ≡ true → digitsText (suc k) (v * 10 + (d - 48)) ≡ digitsText k v ++ (d ∷ [])
 unfolding digitsText
@@ -152,7 +152,7 @@ decimal-again most (d ∷ x ∷ ds) top e =
 
 -- pairs of digits as they are written
 
--- by whether a digit is a letter
+-- by whether a hex digit is a decimal digit or a letter
 by-digit : (P : ℕ → Type 0) (n : ℕ) → (n < 10 → P (48 + n)) → (10 ≤ n → P (55 + n)) → P (digit n)
 unfolding digit
 by-digit P n f g = by-test (ltb n 10) (λ e. rw e (f (ltb-true n 10 e))) (λ e. rw e (g (ltb-false n 10 e)))
@@ -195,7 +195,7 @@ hex-plain (d ∷ ds) e =
     let (first, later) = both (isHex d) (allHex ds) e in
     (digit-plain d (ranges d first .low), hex-plain ds later)
 
--- pairs of digits written again
+-- pairs of digits that were read, written again
 
 digit-again : (d : ℕ) → isHex d ≡ true → digit (nibble d) ≡ d
 unfolding nibble digit
@@ -249,7 +249,7 @@ pub decimal-line-plain : (name : List ℕ) (n : ℕ) → Plain name → Plain (d
 unfolding decimalLine
 decimal-line-plain name n plain = plain-append name (decimalText n) plain (digits-plain (decimalText n) (text-digits 5 n))
 
--- a right line's number is within the limit, and the line is as it would be written
+-- a well-formed line's number is within the limit, and the line is as it would be written
 pub record Numbered (most : ℕ) (name l : List ℕ) : Type 0 where
   pub range : decimalIn most name l ≤ most
   pub text : l ≡ decimalLine name (decimalIn most name l)
@@ -277,7 +277,7 @@ pub pairs-line-plain : (name bs : List ℕ) → Plain name → ((i : ℕ) → ge
 unfolding pairsLine
 pairs-line-plain name bs plain bytes = plain-append name (hexText bs) plain (hex-plain (hexText bs) (text-hex bs bytes))
 
--- a right line's bytes are bytes, at most so many, and the line is as it would be written
+-- a well-formed line's bytes are bytes, at most so many, and the line is as it would be written
 pub record Paired (most : ℕ) (name l : List ℕ) : Type 0 where
   pub few : length (pairsIn most name l) ≤ most
   pub bytes : (i : ℕ) → getD (pairsIn most name l) i 0 < 256

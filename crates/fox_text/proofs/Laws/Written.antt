@@ -1,5 +1,5 @@
--- Texts of lines, as they are written and as they are read. A written line ends at the first line feed where it holds none itself, so lines that pass their
--- tests make a text that breaks no rule, whose lines they are; and a text that breaks no rule is its lines, one after the other.
+-- Texts of lines, as they are written and as they are read. A written line ends at the first line feed if it has none itself, so lines that pass their tests
+-- give a text that breaks no rule, with these lines; and a text that breaks no rule is its lines, one after the other.
 -- Assumes nothing.
 use mathlib.Core.Path.{_≡_, refl, ap, ap₂, _∙_}
 use mathlib.Core.Bool.{true, false}
@@ -91,7 +91,7 @@ nothing : (t : List ℕ) → length t ≡ 0 → t ≡ []
 nothing [] e = refl
 nothing (x ∷ xs) e = absurd (omega arith)
 
--- the lines of a text that breaks no rule, and that it is made of them
+-- a text that breaks no rule: its lines pass, and it consists of them
 pub record Right (tests : List Test) (t : List ℕ) : Type 0 where
   pub passing : Passing tests (lines (length tests) t)
   pub text : t ≡ textOf (lines (length tests) t)
