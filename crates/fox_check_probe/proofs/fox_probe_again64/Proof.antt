@@ -1,4 +1,4 @@
--- `fox_probe_again64` meets its contract: each turn seals once more what the turns before have made.
+-- `fox_probe_again64` meets its contract: each turn of the loop seals the block once more.
 -- Assumes nothing.
 use borrow.Author.Needs.{needs}
 use mathlib.Core.Path.{_≡_, refl, sym, ap, _∙_}

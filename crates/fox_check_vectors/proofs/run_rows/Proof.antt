@@ -1,4 +1,4 @@
--- `run_rows` is safe and ends: each turn takes at least one byte of the text, and counts one row. The measure is what is left of the text.
+-- `run_rows` is safe and ends: each turn of the loop takes at least one byte of the text, and counts one row. The measure is what is left of the text.
 -- Assumes nothing.
 use mathlib.Core.Path.{ap}
 use Prim.Native.Nat.{_+_, _-_, _≤_}
@@ -14,7 +14,7 @@ Inv-loop text cut left₀ rows₀ differ₀ left rows differ = (rows + left ≤ 
 abbrev μ-loop : tie.MeasureT-loop
 μ-loop text cut left₀ rows₀ differ₀ left rows differ = left
 
--- after a turn less is left: what the row was read from is what was left before
+-- after a turn less is left: the row was read from what was left before
 module _ (c : tie.After-left-after Inv-loop μ-loop) where
   less : c .left-after .result ≤ c .before .before .before .before .loop .left - 1
   less =

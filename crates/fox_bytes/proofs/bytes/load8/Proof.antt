@@ -1,4 +1,4 @@
--- `bytes::load8` meets its contract: a word that is joined of eight bytes has these bytes, and the elements of a slice of bytes are bytes.
+-- `bytes::load8` meets its contract: a word joined from eight bytes has these bytes, and the elements of a slice of bytes are bytes.
 -- Assumes nothing.
 use mathlib.Core.Path.{sym, ap, _∙_}
 use lib.ListN.{length, take, drop}

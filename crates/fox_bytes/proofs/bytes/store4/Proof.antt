@@ -1,4 +1,4 @@
--- `bytes::store4` meets its contract: four stores from the front put the word's bytes in the place of the first four.
+-- `bytes::store4` meets its contract: four stores from the front replace the first four bytes by the word's.
 -- Assumes nothing.
 use mathlib.Core.Path.{ap, _∙_}
 use mathlib.Core.List.{List, [], _∷_, _++_}

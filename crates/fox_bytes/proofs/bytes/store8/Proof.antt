@@ -1,4 +1,4 @@
--- `bytes::store8` meets its contract: each word is written over four bytes, the second over the last four, so nothing of what was there stays.
+-- `bytes::store8` meets its contract: each word is written over four bytes, the second over the last four, so no earlier byte stays.
 -- Assumes nothing.
 use mathlib.Core.Path.{_≡_, ap, ap₂, _∙_}
 use mathlib.Core.List.{List, _++_}

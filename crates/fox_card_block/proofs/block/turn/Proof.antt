@@ -1,5 +1,5 @@
--- `block::turn` meets its contract: a refused call hands back the first refusal that applies and writes nothing; past the refusals the schedule of the key
--- makes the round keys of the definition, and what is written is the definition's value.
+-- `block::turn` meets its contract: a refused call returns the first refusal that applies and writes nothing; past the refusals the key's schedule gives the
+-- round keys of the definition, and what is written is the definition's value.
 -- Assumes nothing.
 use borrow.Author.Needs.{needs}
 use mathlib.Core.Path.{_≡_, refl, sym, ap, ap₂, _∙_}

@@ -1,4 +1,4 @@
--- `rounds::round_at` meets its contract: the round key made there is the round's.
+-- `rounds::round_at` meets its contract: the round takes the round key at that register value.
 -- Assumes nothing.
 use borrow.Author.Needs.{needs}
 use mathlib.Core.Path.{ap, _∙_}

@@ -1,5 +1,5 @@
--- `rounds::turned` meets its contract: whenever the loop's test is reached the register stands where the next round key is made, and what the rounds to
--- come make of the state is what all rounds make of the block.
+-- `rounds::turned` meets its contract: whenever the loop's test is reached, the register has the value of the round just done, at first that of round 0, and
+-- the state is the block after the rounds with the first i round keys.
 -- Assumes nothing.
 use borrow.Author.Needs.{needs}
 use mathlib.Core.Path.{_≡_, sym, ap, _∙_, subst}
@@ -16,7 +16,7 @@ use Rattle.fox_schedule.proofs.Laws.RegisterAt.{registerAt-next, registerAt-key
 use Rattle.fox_card_block.proofs.rounds.turned.Statement.{statement}
 use Rattle.fox_card_block.proofs.rounds.turned.Tie as tie
 
--- the register stands at the round key of round number i, and that round makes i + 1 of the rounds done
+-- the register has the value for round number i, and with that round i + 1 rounds are done
 record Comes (d : Bool) (s : Schedule) (m : ℕ) (x : State) (i reg : ℕ) (y : State) : Type 0 where
   stands : RegisterAt s d m i reg
   after : RegisterAt s d m (i + 1 - 1) reg
@@ -56,7 +56,7 @@ loop-holds c =
     let a = c .before .args in
     (search needs, c .first .ensures, turnDone-none (a .sealing) (roundKeyOf (a .s) (a .rounds)) (a .rounds) (a .x))
 
--- where the round comes, whether or not the register was moved for it: the register stands at its round key, and the round makes one more
+-- before the round, whether or not the register was stepped for it: the register has the round's value, and one more round is done with it
 round-comes : (c : tie.Joined1 Inv-loop μ-loop) → Comes (c .before .before .before .before .args .sealing) (c .before .before .before .before .args .s)
     (c .before .before .before .before .args .rounds) (c .before .before .before .before .args .x) (c .before .before .loop .i) (c .if1 .reg) (c .if1 .y)
 round-comes c =

@@ -1,5 +1,5 @@
--- `stretch::stretch` meets its contract: whenever the loop's test is reached, the run's bytes stand in the output up to where the loop is, and the rest of it is as
--- it was. A step on what is left gets on by a byte at least.
+-- `stretch::stretch` meets its contract: whenever the loop's test is reached, the output is XORed up to `at`, and the rest of it is as it was. Each step does
+-- at least one byte of what is left.
 -- Assumes nothing.
 use mathlib.Core.Path.{_≡_}
 use Prim.Native.Nat.{_-_, _≤_, _<_}

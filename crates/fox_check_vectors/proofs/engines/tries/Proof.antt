@@ -1,4 +1,4 @@
--- `engines::tries` is safe: the output that it lends is as long as what is to be put out.
+-- `engines::tries` is safe: the output that it passes is as long as `to`.
 -- Assumes nothing.
 use mathlib.Core.Path.{sym}
 use lib.Seq.{length-take-le}

@@ -1,4 +1,4 @@
--- `blocks::read` meets its contract: for either cipher it is that cipher's state.
+-- `blocks::read` meets its contract: for either cipher it reads that cipher's state.
 -- Assumes nothing.
 use borrow.Author.Needs.{needs}
 use mathlib.Core.Path.{sym, ap, _∙_}

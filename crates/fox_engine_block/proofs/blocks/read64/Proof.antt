@@ -1,4 +1,4 @@
--- `blocks::read64` meets its contract: each word is that of its four bytes.
+-- `blocks::read64` meets its contract: each word is joined from its four bytes.
 -- Assumes nothing.
 use borrow.Author.Needs.{needs}
 use Rattle.fox_block.specs.Block.{state64}

@@ -1,4 +1,4 @@
--- `blocks::write` meets its contract: for either cipher the bytes are those of its state.
+-- `blocks::write` meets its contract: for either cipher it writes the bytes of that cipher's state.
 -- Assumes nothing.
 use borrow.Author.Needs.{needs}
 use mathlib.Core.Path.{sym, ap, _∙_}

@@ -1,4 +1,4 @@
--- `counter::counted` meets its contract: for either cipher it is that cipher's counting.
+-- `counter::counted` meets its contract: for either cipher it counts as that cipher's function does.
 -- Assumes nothing.
 use borrow.Author.Needs.{needs}
 use mathlib.Core.Path.{sym, ap, _∙_}

@@ -1,4 +1,4 @@
--- `counter::counted128` meets its contract: the last word is the sum as it wraps, the others stay.
+-- `counter::counted128` meets its contract: the last word is the wrapping sum, the others stay.
 -- Assumes nothing.
 use borrow.Author.Needs.{needs}
 use Rattle.fox_run.specs.States.{counted128}

@@ -1,4 +1,4 @@
--- `counter::counted64` meets its contract: the last word is the sum as it wraps, the other stays.
+-- `counter::counted64` meets its contract: the last word is the wrapping sum, the other stays.
 -- Assumes nothing.
 use borrow.Author.Needs.{needs}
 use Rattle.fox_run.specs.States.{counted64}

@@ -1,4 +1,5 @@
--- `key_stream::xor_bytes` meets its contract: whenever the loop's test is reached, the sum's first i bytes stand in the output, and the rest of it is as it was.
+-- `key_stream::xor_bytes` meets its contract: whenever the loop's test is reached, the first i bytes of the XOR are in the output, and the rest of it is as
+-- it was.
 -- Assumes nothing.
 use mathlib.Core.Path.{_≡_, refl, sym, ap, _∙_}
 use mathlib.Core.List.{List, _++_}

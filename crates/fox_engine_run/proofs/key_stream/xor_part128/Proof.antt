@@ -1,4 +1,4 @@
--- `key_stream::xor_part128` meets its contract: the pad is the block's bytes, and what is added is its part from skip to its end.
+-- `key_stream::xor_part128` meets its contract: the block of key stream is the state's bytes, and the input is XORed with its part from `skip` to its end.
 -- Assumes nothing.
 use mathlib.Core.Path.{_≡_, ap, _∙_}
 use mathlib.Core.List.{List, _++_}

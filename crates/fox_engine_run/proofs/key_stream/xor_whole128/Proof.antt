@@ -1,4 +1,4 @@
--- `key_stream::xor_whole128` meets its contract: the block's bytes are those of its four words, two laid after two.
+-- `key_stream::xor_whole128` meets its contract: the block's bytes are those of its four words, XORed two by two.
 -- Assumes nothing.
 use mathlib.Core.Path.{_≡_, sym, ap, _∙_}
 use mathlib.Core.List.{List, _++_, append-assoc}

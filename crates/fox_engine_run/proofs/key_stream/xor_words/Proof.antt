@@ -1,4 +1,5 @@
--- `key_stream::xor_words` meets its contract: a word added to the word that four bytes join to is the sum of their bytes; the second four are laid after the first.
+-- `key_stream::xor_words` meets its contract: a word XORed with the word that four bytes join to has the XOR of their bytes; the second four are written
+-- after the first.
 -- Assumes nothing.
 use mathlib.Core.Path.{sym, ap, _∙_}
 use mathlib.Core.List.{List, _++_}

@@ -1,4 +1,5 @@
--- `diversification::dkey16` meets its contract: adding words adds their bytes, and the two bytes that are left of the row do not count.
+-- `diversification::dkey16` meets its contract: the XOR of words has the XOR of their bytes, and the two bytes that are left of the register values do not
+-- count.
 -- Assumes nothing.
 use mathlib.Core.Path.{sym, _∙_}
 use lib.ListN.{drop}

@@ -1,4 +1,4 @@
--- `diversification::dkey32` meets its contract: adding words adds their bytes, and the byte that is left of the row does not count.
+-- `diversification::dkey32` meets its contract: the XOR of words has the XOR of their bytes, and the byte that is left of the register values does not count.
 -- Assumes nothing.
 use mathlib.Core.Path.{sym, _∙_}
 use mathlib.Core.List.{_++_, append-assoc}

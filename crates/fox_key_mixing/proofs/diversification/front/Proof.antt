@@ -1,5 +1,4 @@
--- `diversification::front` meets its contract: the two words and what is left of the last register value are the six values in a row, cut at other
--- places.
+-- `diversification::front` meets its contract: the two words and what is left of the last register value are six successive values, cut at other places.
 -- Assumes nothing.
 use Rattle.fox_register.specs.Register.{iterate}
 use Rattle.fox_key_mixing.proofs.Laws.Stream.{front-row}

@@ -1,5 +1,4 @@
--- `diversification::rest` meets its contract: the two words and the byte that is left are the six values in a row after their first byte, cut at
--- other places.
+-- `diversification::rest` meets its contract: the two words and the byte that is left are six successive values after their first byte, cut at other places.
 -- Assumes nothing.
 use Rattle.fox_key_mixing.specs.KeyBytes.{bytes16}
 use Rattle.fox_register.specs.Register.{iterate}

@@ -1,4 +1,4 @@
--- `key_bytes::load16` meets its contract: two words of eight bytes in a row are the first sixteen bytes.
+-- `key_bytes::load16` meets its contract: two successive words of eight bytes are the first sixteen bytes.
 -- Assumes nothing.
 use borrow.Author.Needs.{needs}
 use lib.Seq.{take-add}

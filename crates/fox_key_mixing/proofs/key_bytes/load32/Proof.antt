@@ -1,4 +1,4 @@
--- `key_bytes::load32` meets its contract: four words of eight bytes in a row are the first thirty-two bytes.
+-- `key_bytes::load32` meets its contract: four successive words of eight bytes are the first thirty-two bytes.
 -- Assumes nothing.
 use borrow.Author.Needs.{needs}
 use lib.Seq.{take-add}

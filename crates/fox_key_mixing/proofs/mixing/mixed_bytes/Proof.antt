@@ -1,5 +1,5 @@
--- `mixing::mixed_bytes` meets its contract. The loop's invariant: the first i bytes, and after them what the mixing makes of the padded key from i on
--- after the two bytes at hand, are the mixed key.
+-- `mixing::mixed_bytes` meets its contract: whenever the loop's test is reached, the first i bytes, followed by the padded key from i on mixed after the
+-- bytes x and y, are the mixed key.
 -- Assumes nothing.
 use Prim.Native.Nat.{_-_, _≤_, _<_, zero-le}
 use native.Mathlib.Omega.{arith}

@@ -1,4 +1,4 @@
--- `mixing::padded_byte` meets its contract: either branch is the law for an element of two lists in a row.
+-- `mixing::padded_byte` meets its contract: each branch is the law for an element of two lists joined.
 -- Assumes nothing.
 use Prim.Native.Nat.{_+_, _-_}
 use native.Mathlib.Omega.{arith}

@@ -1,4 +1,4 @@
--- `diffusion::mu8` meets its contract: each sum has the products of its row of the matrix, by the promises of the field's functions.
+-- `diffusion::mu8` meets its contract: each XOR has the products of its row of the matrix, by the promises of the field's functions.
 -- Assumes nothing.
 use mathlib.Core.Path.{_≡_, sym, ap, _∙_, subst}
 use mathlib.Core.List.{[], _∷_}

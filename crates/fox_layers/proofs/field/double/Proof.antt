@@ -1,4 +1,4 @@
--- `field::double` meets its contract: the test on the byte is the definition's, and either way of moving it left is the same number.
+-- `field::double` meets its contract: the test on the byte is the definition's, and so is the shift left in both cases.
 -- Assumes nothing.
 use native.Mathlib.Omega.{arith}
 use borrow.Author.Tests.{lt-ltb, le-ltb}

@@ -1,4 +1,4 @@
--- `field::multiples_of` meets its contract: what it doubles, halves and adds up are the products, by a law that was computed over all bytes.
+-- `field::multiples_of` meets its contract: what it doubles, halves and XORs are the products, by a law that was computed over all bytes.
 -- Assumes nothing.
 use mathlib.Core.Path.{_≡_, sym, ap, ap₂, _∙_}
 use Prim.Native.Nat.{ℕ}

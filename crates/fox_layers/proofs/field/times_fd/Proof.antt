@@ -1,4 +1,4 @@
--- `field::times_fd` meets its contract: what it adds up is the product, by a law that was computed over all bytes.
+-- `field::times_fd` meets its contract: its XOR is the product, by a law that was computed over all bytes.
 -- Assumes nothing.
 use Rattle.fox_layers.proofs.Laws.Field.{products}
 use Rattle.fox_layers.proofs.field.times_fd.Statement.{statement}

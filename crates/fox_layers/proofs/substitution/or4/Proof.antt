@@ -1,4 +1,4 @@
--- `substitution::or4` meets its contract, which has its sum word by word. The sum fits a byte, since a byte over 4 has six bits.
+-- `substitution::or4` meets its contract, whose expression it is. Its sum fits a byte, since a byte over 4 has six bits.
 -- Assumes nothing.
 use mathlib.Core.Path.{refl}
 use Prim.Native.Nat.{_/_, _%_}

@@ -1,5 +1,5 @@
--- `substitution::sbox` meets its contract: it takes the definition's steps in the definition's order. Each index and the last sum rest on the
--- halves staying below 16, which is tested over all bytes.
+-- `substitution::sbox` meets its contract: it takes the definition's steps in the definition's order. Each index and the last sum fit, since the halves stay
+-- below 16, which is tested over all bytes.
 -- Assumes nothing.
 use mathlib.Core.Path.{refl}
 use Prim.Native.Nat.{ℕ, _<_}

@@ -1,4 +1,4 @@
--- `substitution::sigma8` meets its contract: each byte of the split goes through the box, and the results are joined.
+-- `substitution::sigma8` meets its contract: each byte of the split goes through the S-box, and the results are joined.
 -- Assumes nothing.
 use Rattle.fox_layers.specs.Substitution.{sigma}
 use Rattle.fox_layers.proofs.substitution.sigma8.Statement.{statement}

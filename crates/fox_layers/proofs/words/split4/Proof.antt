@@ -1,4 +1,4 @@
--- `words::split4` meets its contract: each byte is the one that the definition names.
+-- `words::split4` meets its contract: each byte is the definition's.
 -- Assumes nothing.
 use native.Mathlib.Omega.{arith}
 use mathlib.Core.Path.{sym}

@@ -1,4 +1,4 @@
--- `words::xor8` meets its contract: the two sums differ only in how they are bracketed.
+-- `words::xor8` meets its contract: the two XORs differ only in how they are bracketed.
 -- Assumes nothing.
 use mathlib.Core.List.{[], _∷_}
 use Rattle.fox_layers.specs.Words.{xorAll}

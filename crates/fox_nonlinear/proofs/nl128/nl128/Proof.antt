@@ -1,4 +1,4 @@
--- `nl128::nl128` meets its contract: the state is the hashing layer's, and each round takes the next two of the key's words as one number.
+-- `nl128::nl128` meets its contract: the state is the hashing layer's, and each round takes the next two of the key's words as one round key.
 -- Assumes nothing.
 use Rattle.fox_rounds.specs.Skeleton.{through, seal128}
 use Rattle.fox_nonlinear.specs.Nonlinear.{number128, NL128}

@@ -1,4 +1,4 @@
--- `nl128::state` meets its contract: nothing stands above the two halves of a word of 64 bits.
+-- `nl128::state` meets its contract: a word of 64 bits has no bit above its two halves.
 -- Assumes nothing.
 use borrow.Author.Needs.{needs}
 use Rattle.fox_rounds.specs.Rounds.{right}

@@ -1,4 +1,4 @@
--- `nl64h::nl64h` meets its contract: the state is the hashing layer's, and each round takes the next of the key's words.
+-- `nl64h::nl64h` meets its contract: the state is the hashing layer's, and each round takes the next of the key's words as its round key.
 -- Assumes nothing.
 use mathlib.Core.Path.{_≡_}
 use Rattle.fox_layers.specs.Words.{_⊕_}

@@ -1,4 +1,4 @@
--- `one_word::second8` meets its contract: the flip adds ones, as many as the definition has, and the test on `flip` is the definition's.
+-- `one_word::second8` meets its contract: the flip XORs with ones, as many as the definition has, and the test on `flip` is the definition's.
 -- Assumes nothing.
 use Rattle.fox_nonlinear.specs.Nonlinear.{flipped}
 use Rattle.fox_nonlinear.proofs.one_word.second8.Statement.{statement}

@@ -1,4 +1,5 @@
--- `stretch::past_end` meets its contract: a sum that wraps is above every limit and comes out below the offset; one that does not is the true sum.
+-- `stretch::past_end` meets its contract: a sum that wraps is above every limit, and its wrapped value is below the offset; a sum that does not wrap is the
+-- true sum.
 -- Assumes nothing.
 use mathlib.Core.Path.{_≡_, sym, ap}
 use Prim.Native.Nat.{ℕ, _+_, _%_, _^_, _<_, _≤_}
@@ -11,11 +12,11 @@ use Rattle.fox_refusals.specs.Refusals.{pastEnd}
 use Rattle.fox_refusals.proofs.stretch.past_end.Statement.{statement}
 use Rattle.fox_refusals.proofs.stretch.past_end.Tie as tie
 
--- a sum that comes out below one of its terms has wrapped
+-- a sum whose wrapped value is below one of its terms has wrapped
 wrapped : (n d e : ℕ) → e ≡ (n + d) % 2 ^ 64 → e < n → 1073741824 < n + d
 wrapped n d e sum low = omega (arith, div-add-mod' (n + d) (2 ^ 64))
 
--- one that does not is the true one
+-- any other sum is the true one
 whole : (n d e : ℕ) → d < 2 ^ 64 → e ≡ (n + d) % 2 ^ 64 → n ≤ e → e ≡ n + d
 whole n d e small sum high = omega (arith, div-add-mod' (n + d) (2 ^ 64), mod-lt (n + d) {m = 2 ^ 64} (omega arith))
 

@@ -1,4 +1,4 @@
--- `register::back` meets its contract. The loop's invariant: after undone steps the register holds what undone steps back make of it, within 24 bits.
+-- `register::back` meets its contract: whenever the loop's test is reached, the register was stepped back `undone` times, and stays within 24 bits.
 -- Assumes nothing.
 use Prim.Native.Nat.{_≤_, _<_, _-_, _^_}
 use native.Mathlib.Omega.{arith}

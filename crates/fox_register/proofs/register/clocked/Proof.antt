@@ -1,4 +1,4 @@
--- `register::clocked` meets its contract: the test on the register is the definition's, and either branch stays within 24 bits.
+-- `register::clocked` meets its contract: the test on the register is the definition's, and both branches stay within 24 bits.
 -- Assumes nothing.
 use native.Mathlib.Omega.{arith}
 use mathlib.Core.Path.{sym}

@@ -1,4 +1,4 @@
--- `register::forward` meets its contract. The loop's invariant: after done steps the register holds what done steps make of it, within 24 bits.
+-- `register::forward` meets its contract: whenever the loop's test is reached, the register was stepped `done` times, and stays within 24 bits.
 -- Assumes nothing.
 use Prim.Native.Nat.{_≤_, _<_, _-_, _^_}
 use native.Mathlib.Omega.{arith}

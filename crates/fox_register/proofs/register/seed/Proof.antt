@@ -1,4 +1,4 @@
--- `register::seed` meets its contract: the byte 0 that it joins in front counts nothing, and three bytes are below 2 ^ 24.
+-- `register::seed` meets its contract: the byte 0 joined in front changes nothing, and three bytes are below 2 ^ 24.
 -- Assumes nothing.
 use borrow.Author.Needs.{needs}
 use native.Mathlib.Omega.{arith}

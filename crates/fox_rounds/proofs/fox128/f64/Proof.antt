@@ -1,4 +1,4 @@
--- `fox128::f64` meets its contract: the round key is the number of which the two words are the halves; the steps are the definition's.
+-- `fox128::f64` meets its contract: the two words are the halves of the round key; the steps are the definition's.
 -- Assumes nothing.
 use borrow.Author.Needs.{needs}
 use mathlib.Core.Path.{ap, _∙_}

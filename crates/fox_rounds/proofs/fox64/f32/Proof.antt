@@ -1,4 +1,4 @@
--- `fox64::f32` meets its contract: the halves of the round key are its quotient and its remainder by 2 to the 32; the steps are the definition's.
+-- `fox64::f32` meets its contract: the halves of the round key are its quotient and its remainder by 2 ^ 32; the steps are the definition's.
 -- Assumes nothing.
 use borrow.Author.Needs.{needs}
 use mathlib.Core.Path.{refl, ap, _∙_}

@@ -1,4 +1,4 @@
--- `fox64::io` meets its contract: the halves of a word are its quotient and its remainder by 2 to the 16, and the sum of the two has 16 bits.
+-- `fox64::io` meets its contract: the halves of a word are its quotient and its remainder by 2 ^ 16, and the XOR of the two has 16 bits.
 -- Assumes nothing.
 use mathlib.Core.Path.{sym, ap}
 use Prim.Native.Nat.{ℕ, _+_, _*_, _/_, _%_, _<_}

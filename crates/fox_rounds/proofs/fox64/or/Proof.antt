@@ -1,5 +1,4 @@
--- `fox64::or` meets its contract: the halves of a word are its quotient and its remainder by 2 to the 16, and what is added to the right half leaves the
--- left one as it is.
+-- `fox64::or` meets its contract: the halves of a word are its quotient and its remainder by 2 ^ 16, and XOR with 16 bits changes the right half alone.
 -- Assumes nothing.
 use borrow.Author.Needs.{needs}
 use mathlib.Core.Path.{_≡_, sym, ap, ap₂, _∙_}
@@ -14,7 +13,7 @@ use Rattle.fox_rounds.proofs.Laws.Halves.{left-div}
 use Rattle.fox_rounds.proofs.fox64.or.Statement.{statement}
 use Rattle.fox_rounds.proofs.fox64.or.Tie as tie
 
--- a sum with the right half alone
+-- an XOR with 16 bits changes the right half alone
 to-the-right : (p q : ℕ) → p < 2 ^ 16 → q < 2 ^ 16 → (q * 2 ^ 16 + p) ⊕ q ≡ q * 2 ^ 16 + (p ⊕ q)
 to-the-right p q h l =
     ap (λ (x : ℕ). (q * 2 ^ 16 + p) ⊕ x) (sym (ap (λ (x : ℕ). x + q) (zero-mul (2 ^ 16)) ∙ zero-add q))

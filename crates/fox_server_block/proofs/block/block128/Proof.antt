@@ -1,4 +1,4 @@
--- `block::block128` meets its contract: the tables made here are those that the rounds ask to be lent.
+-- `block::block128` meets its contract: the tables built here are those that the rounds need.
 -- Assumes nothing.
 use borrow.Author.Needs.{needs}
 use mathlib.Core.Path.{ap, _∙_}

@@ -1,5 +1,5 @@
--- `block::turn` meets its contract: a refused call hands back the first refusal that applies and writes nothing; past the refusals the rounds and
--- lengths are those that the step for the cipher asks, and the round keys are those that the prepared key holds.
+-- `block::turn` meets its contract: a refused call returns the first refusal that applies and writes nothing; past the refusals rounds and lengths are as the
+-- step for the cipher needs them, and the round keys are those that the prepared key holds.
 -- Assumes nothing.
 use borrow.Author.Needs.{needs}
 use mathlib.Core.Path.{refl, sym, _∙_}

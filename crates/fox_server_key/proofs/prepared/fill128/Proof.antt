@@ -1,5 +1,5 @@
--- `prepared::fill128` meets its contract: whenever the loop's test is reached, the words hold the round keys made so far, the rest being 0, and the register
--- stands where the next one is made.
+-- `prepared::fill128` meets its contract: whenever the loop's test is reached, the words have the round keys so far, the rest are 0, and the register has the
+-- value for the next round key.
 -- Assumes nothing.
 use borrow.Author.Needs.{needs}
 use mathlib.Core.Path.{_≡_, refl, sym, ap, _∙_}

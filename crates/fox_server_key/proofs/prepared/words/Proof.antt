@@ -1,4 +1,4 @@
--- `prepared::words` meets its contract: the schedule of the key makes the round keys of the definition, in their order.
+-- `prepared::words` meets its contract: the key's schedule gives the round keys of the definition, in their order.
 -- Assumes nothing.
 use borrow.Author.Needs.{needs}
 use mathlib.Core.Path.{sym, ap, _∙_}

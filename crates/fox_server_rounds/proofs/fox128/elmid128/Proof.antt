@@ -1,5 +1,5 @@
--- `fox128::elmid128` meets its contract: over the tables that it asks to be lent, the look-ups are the round function's steps, the last of them half by half, and
--- each half goes onto its two words.
+-- `fox128::elmid128` meets its contract: in the tables that it needs, lookups are the round function's steps, the last of them half by half, and each half is
+-- XORed with its two words.
 -- Assumes nothing.
 use borrow.Author.Needs.{needs}
 use mathlib.Core.Path.{_≡_, sym, ap, ap₂, _∙_}

@@ -1,4 +1,4 @@
--- `fox128::elmid128_at` meets its contract: the round key number i is the two words at 2 i and 2 i + 1.
+-- `fox128::elmid128_at` meets its contract: round key number i is the two words at 2 i and 2 i + 1.
 -- Assumes nothing.
 use borrow.Author.Needs.{needs}
 use Rattle.fox_rounds.specs.RoundKeys.{roundKeyIn128}

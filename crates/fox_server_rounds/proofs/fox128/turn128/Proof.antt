@@ -1,5 +1,5 @@
--- `fox128::turn128` meets its contract: whenever the loop's test is reached, what the rounds to come make of the state is what all rounds make of the
--- block. After the loop one round is left.
+-- `fox128::turn128` meets its contract: whenever the loop's test is reached, the rounds that are left turn the state into what all rounds turn the block
+-- into. After the loop one round is left.
 -- Assumes nothing.
 use borrow.Author.Needs.{needs}
 use mathlib.Core.Path.{ap, _∙_}

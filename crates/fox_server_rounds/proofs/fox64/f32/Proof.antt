@@ -1,5 +1,4 @@
--- `fox64::f32` meets its contract: over the tables that it asks to be lent, a look-up of substitution with diffusion and one of substitution are the
--- definition's steps.
+-- `fox64::f32` meets its contract: in the tables that it needs, a TBSM lookup and a TBS lookup are the definition's steps.
 -- Assumes nothing.
 use borrow.Author.Needs.{needs}
 use mathlib.Core.Path.{refl, _∙_}

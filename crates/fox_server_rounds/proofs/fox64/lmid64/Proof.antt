@@ -1,4 +1,4 @@
--- `fox64::lmid64` meets its contract: as by the card's way, with the round function over lent tables.
+-- `fox64::lmid64` meets its contract: both words are XORed with the round function's value, which is computed by lookups.
 -- Assumes nothing.
 use borrow.Author.Needs.{needs}
 use Rattle.fox_layers.specs.Words.{_⊕_}

@@ -1,4 +1,4 @@
--- `lookups::pick4` meets its contract: the entries that it adds up are those that the definition names, bracketed from the left.
+-- `lookups::pick4` meets its contract: the entries that it XORs are the definition's, bracketed from the left.
 -- Assumes nothing.
 use borrow.Author.Needs.{needs}
 use Rattle.fox_layers.specs.Tables.{listed, picked}

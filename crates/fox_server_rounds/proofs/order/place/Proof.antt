@@ -1,4 +1,4 @@
--- `order::place` meets its contract: either way is the definition's.
+-- `order::place` meets its contract: both cases are the definition's.
 -- Assumes nothing.
 use borrow.Author.Needs.{needs}
 use native.Mathlib.Omega.{arith}

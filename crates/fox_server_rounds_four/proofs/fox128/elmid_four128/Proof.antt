@@ -1,4 +1,4 @@
--- `fox128::elmid_four128` meets its contract: one round over lent tables for each of the four, with the same round key.
+-- `fox128::elmid_four128` meets its contract: one round by lookups for each of the four blocks, with the same round key.
 -- Assumes nothing.
 use borrow.Author.Needs.{needs}
 use Rattle.fox_server_rounds_four.specs.Four.{elmidFour128}

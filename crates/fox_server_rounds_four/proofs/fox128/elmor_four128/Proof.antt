@@ -1,4 +1,4 @@
--- `fox128::elmor_four128` meets its contract: one round over lent tables and "or" for each of the four, with the same round key.
+-- `fox128::elmor_four128` meets its contract: one round by lookups and "or" for each of the four blocks, with the same round key.
 -- Assumes nothing.
 use borrow.Author.Needs.{needs}
 use mathlib.Core.Path.{ap, _∙_}

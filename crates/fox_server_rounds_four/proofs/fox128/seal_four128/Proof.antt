@@ -1,5 +1,5 @@
--- `fox128::seal_four128` meets its contract: whenever the loop's test is reached, what the rounds to come make of the four states is what all rounds make
--- of the four blocks. After the loop one round is left. Rounds on the four at once are the rounds on each.
+-- `fox128::seal_four128` meets its contract: whenever the loop's test is reached, the rounds that are left turn the four states into what all rounds turn the
+-- four blocks into. After the loop one round is left. Rounds on the four side by side are the rounds on each.
 -- Assumes nothing.
 use borrow.Author.Needs.{needs}
 use mathlib.Core.Path.{_∙_}

@@ -1,4 +1,4 @@
--- `fox64::lmid_four64` meets its contract: one round over lent tables for each of the four, with the same round key.
+-- `fox64::lmid_four64` meets its contract: one round by lookups for each of the four blocks, with the same round key.
 -- Assumes nothing.
 use borrow.Author.Needs.{needs}
 use Rattle.fox_server_rounds_four.specs.Four.{lmidFour64}

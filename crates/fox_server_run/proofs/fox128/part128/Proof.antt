@@ -1,4 +1,4 @@
--- `fox128::part128` meets its contract: four blocks where byte n begins one, or a step.
+-- `fox128::part128` meets its contract: four whole blocks where byte n begins a block, or else one block.
 -- Assumes nothing.
 use borrow.Author.Needs.{needs}
 use native.Mathlib.Omega.{arith}

@@ -1,4 +1,4 @@
--- `fox128::run128` meets its contract: the tables made here are those that the rounds ask to be lent, and the first counter block is read as it stands.
+-- `fox128::run128` meets its contract: the tables built here are those that the rounds need, and the first counter block is read as a state.
 -- Assumes nothing.
 use mathlib.Core.Path.{ap, _∙_}
 use Rattle.fox_rounds.specs.Skeleton.{numbered}

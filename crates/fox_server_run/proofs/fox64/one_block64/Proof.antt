@@ -1,4 +1,4 @@
--- `fox64::one_block64` meets its contract: the pad is the sealed counter block that the byte is in.
+-- `fox64::one_block64` meets its contract: the block of key stream is the sealed counter block that byte n is in.
 -- Assumes nothing.
 use mathlib.Core.Bool.{true}
 use mathlib.Core.Path.{ap, _∙_}

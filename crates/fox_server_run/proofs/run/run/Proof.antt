@@ -1,5 +1,5 @@
--- `run::run` meets its contract: a refused call hands back the first refusal that applies and writes nothing; past the refusals the rounds and lengths are
--- those that the stretch for the cipher asks, and the round keys are those that the prepared key holds.
+-- `run::run` meets its contract: a refused call returns the first refusal that applies and writes nothing; past the refusals rounds and lengths are as the
+-- stretch of the cipher needs them, and the round keys are those that the prepared key holds.
 -- Assumes nothing.
 use mathlib.Core.Path.{refl, sym, _∙_}
 use Rattle.fox_refusals.proofs.Laws.Refusals.{stretched}

@@ -1,5 +1,5 @@
--- `run::run_from_key` meets its contract: refusals are those of the key bytes; past them the prepared key is that of the key, and holds the round keys of the
--- definition.
+-- `run::run_from_key` meets its contract: the refusals are those of the key bytes; past them the prepared key is that of the key, and holds the round keys of
+-- the definition.
 -- Assumes nothing.
 use mathlib.Core.Path.{refl, sym, _∙_}
 use Rattle.fox_refusals.proofs.Laws.Refusals.{stretched}

@@ -1,4 +1,4 @@
--- `fox128::xor_four128` meets its contract: two blocks and the next two, laid one after the other.
+-- `fox128::xor_four128` meets its contract: two blocks and the next two, XORed one after the other.
 -- Assumes nothing.
 use Prim.Native.Nat.{_≤_}
 use lib.ListN.{length}

@@ -1,4 +1,4 @@
--- `fox128::xor_two128` meets its contract: two blocks laid one after the other are their bytes joined.
+-- `fox128::xor_two128` meets its contract: two blocks XORed one after the other are one XOR with their bytes joined.
 -- Assumes nothing.
 use Prim.Native.Nat.{_≤_}
 use lib.ListN.{length}

@@ -1,4 +1,4 @@
--- `fox64::four_blocks64` meets its contract: the four sealed blocks are those of the stream from the one on that byte n begins.
+-- `fox64::four_blocks64` meets its contract: the four sealed counter blocks are the stream's, from the block that byte n begins.
 -- Assumes nothing.
 use mathlib.Core.Path.{_≡_, sym, ap, _∙_}
 use mathlib.Core.Bool.{true}

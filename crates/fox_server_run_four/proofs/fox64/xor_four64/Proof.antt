@@ -1,4 +1,4 @@
--- `fox64::xor_four64` meets its contract: two blocks and the next two, laid one after the other.
+-- `fox64::xor_four64` meets its contract: two blocks and the next two, XORed one after the other.
 -- Assumes nothing.
 use Prim.Native.Nat.{_≤_}
 use lib.ListN.{length}

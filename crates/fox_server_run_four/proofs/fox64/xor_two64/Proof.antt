@@ -1,4 +1,4 @@
--- `fox64::xor_two64` meets its contract: two blocks laid one after the other are their bytes joined.
+-- `fox64::xor_two64` meets its contract: two blocks XORed one after the other are one XOR with their bytes joined.
 -- Assumes nothing.
 use Prim.Native.Nat.{_≤_}
 use lib.ListN.{length}

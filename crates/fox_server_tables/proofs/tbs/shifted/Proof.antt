@@ -1,4 +1,4 @@
--- `tbs::shifted` meets its contract, number by number.
+-- `tbs::shifted` meets its contract, for each byte number j.
 -- Assumes nothing.
 use mathlib.Core.Path.{_≡_}
 use native.Mathlib.Omega.{arith}

@@ -1,4 +1,4 @@
--- `tbsm4::tbsm` meets its contract: the tables are laid one by one.
+-- `tbsm4::tbsm` meets its contract: the tables are written one by one.
 -- Assumes nothing.
 use mathlib.Core.Path.{refl, sym}
 use borrow.Author.Needs.{needs}

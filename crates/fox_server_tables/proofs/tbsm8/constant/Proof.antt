@@ -1,4 +1,4 @@
--- `tbsm8::constant` meets its contract: each constant is the list that its rule gives, which antt computes.
+-- `tbsm8::constant` meets its contract: each constant is the list that its rule gives, which the prover computes.
 -- Assumes nothing.
 use mathlib.Core.Path.{_≡_, refl}
 use Prim.Native.Nat.{ℕ, suc, _≤_, _<_}

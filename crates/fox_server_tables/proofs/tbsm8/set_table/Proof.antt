@@ -1,4 +1,4 @@
--- `tbsm8::set_table` meets its contract: whenever the loop's test is reached, the tables before number j and the first x entries of that one stand in the array.
+-- `tbsm8::set_table` meets its contract: whenever the loop's test is reached, the tables before number j and the first x entries of table j are in the array.
 -- Assumes nothing.
 use mathlib.Core.Path.{_≡_, _∙_}
 use Prim.Native.Nat.{_+_, _-_, _*_, _≤_}

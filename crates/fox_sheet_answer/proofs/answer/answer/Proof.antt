@@ -1,4 +1,4 @@
--- `answer::answer` meets its contract: the sheet's first broken line is that of its settings, or else that of its task, and where both are right the
+-- `answer::answer` meets its contract: the sheet's first malformed line is that of its settings, or else that of its task, and where both are well-formed the
 -- block is answered.
 -- Assumes nothing.
 use mathlib.Core.Path.{_≡_, sym, ap, _∙_}
@@ -9,7 +9,7 @@ use borrow.Author.Needs.{needs}
 use Rattle.fox_sheet_answer.proofs.answer.answer.Statement.{statement}
 use Rattle.fox_sheet_answer.proofs.answer.answer.Tie as tie
 
--- where the sheet has been read: the text that follows the settings, and the first broken line
+-- once the sheet is read: the text that follows the settings, and the first malformed line
 module _ (c : tie.After-first-broken) where
   fourth :
       c .before .before .before .before .after-line3 .result .now

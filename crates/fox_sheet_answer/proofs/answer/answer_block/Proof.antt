@@ -1,4 +1,4 @@
--- `answer::answer_block` meets its contract: the room that it lends is as long as the block.
+-- `answer::answer_block` meets its contract: the room that it passes is as long as the block.
 -- Assumes nothing.
 use mathlib.Core.Path.{sym}
 use lib.Seq.{length-take-le}

@@ -1,4 +1,4 @@
--- `answer::write_answer` meets its contract: the block is served or refused, and the lines for either are written.
+-- `answer::write_answer` meets its contract: the block is served or refused, and the lines for that case are written.
 -- Assumes nothing.
 use mathlib.Core.Path.{_≡_, sym, _∙_}
 use native.Mathlib.Omega.{arith}
@@ -11,7 +11,7 @@ use borrow.Author.Needs.{needs}
 use Rattle.fox_sheet_answer.proofs.answer.write_answer.Statement.{statement}
 use Rattle.fox_sheet_answer.proofs.answer.write_answer.Tie as tie
 
--- after the call: what was asked, and that its refusal is the one for an output as long as the block
+-- after the call: the values, and that its refusal is the one for an output as long as the block
 module _ (c : tie.After-turn) where
   values : Values
   values =

@@ -1,4 +1,4 @@
--- `lines::first_line` meets its contract, by where the line ends.
+-- `lines::first_line` meets its contract: it is the text up to where the line ends.
 -- Assumes nothing.
 use borrow.Author.Needs.{needs}
 use Rattle.fox_text_lines.proofs.lines.first_line.Statement.{statement}

@@ -1,4 +1,4 @@
--- `lines::has_line` meets its contract, by where the line ends.
+-- `lines::has_line` meets its contract: a line is ended exactly where its end is before the text's.
 -- Assumes nothing.
 use borrow.Author.Needs.{needs}
 use Rattle.fox_text_lines.proofs.lines.has_line.Statement.{statement}

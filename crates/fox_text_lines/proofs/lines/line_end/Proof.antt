@@ -1,4 +1,4 @@
--- `lines::line_end` meets its contract: whenever the loop's test is reached, the line's end found from i on is the one found from the start on.
+-- `lines::line_end` meets its contract: whenever the loop's test is reached, the line's end counted from i on is the one counted from the start.
 -- Assumes nothing.
 use mathlib.Core.Path.{_≡_, refl}
 use Prim.Native.Nat.{_+_, _-_, _≤_}

@@ -1,4 +1,4 @@
--- `lines::rest` meets its contract: a place is within the text, or nothing is left.
+-- `lines::rest` meets its contract: the place is within the text, or nothing is left.
 -- Assumes nothing.
 use mathlib.Core.Path.{sym}
 use Prim.Native.Nat.{_-_, _≤_}

@@ -1,4 +1,4 @@
--- `lines::same` meets its contract: texts of one length are the same where one begins with the other.
+-- `lines::same` meets its contract: texts of one length are equal exactly where one begins with the other.
 -- Assumes nothing.
 use borrow.Author.Needs.{needs}
 use Rattle.fox_text_lines.proofs.lines.same.Statement.{statement}

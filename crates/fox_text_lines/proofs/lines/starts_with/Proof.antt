@@ -1,4 +1,5 @@
--- `lines::starts_with` meets its contract: whenever the loop's test is reached, the name begins the text exactly where the rest of it begins the rest.
+-- `lines::starts_with` meets its contract: whenever the loop's test is reached, the text begins with the name exactly where the rest of it begins with the
+-- rest of the name.
 -- Assumes nothing.
 use mathlib.Core.Path.{_≡_, refl, sym, _∙_}
 use Prim.Native.Nat.{_-_, _≤_}

@@ -1,4 +1,5 @@
--- `decimal::digits` meets its contract: whenever the loop's test is reached, the digits before i were digits, and the number so far goes on to the whole one.
+-- `decimal::digits` meets its contract: whenever the loop's test is reached, the bytes before i are digits, and the rest of them appended to v have the value
+-- of all.
 -- Assumes nothing.
 use mathlib.Core.Path.{_≡_, refl, sym, _∙_}
 use Prim.Native.Nat.{_+_, _-_, _*_, _≤_}

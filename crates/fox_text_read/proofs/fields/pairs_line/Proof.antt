@@ -1,4 +1,4 @@
--- `fields::pairs_line` meets its contract: the line's value is pairs or not, and only where it is are they written.
+-- `fields::pairs_line` meets its contract: the bytes are written exactly where the line's value is pairs.
 -- Assumes nothing.
 use Rattle.fox_text.proofs.Laws.Pairs.{joinable}
 use Rattle.fox_text.proofs.Laws.Fields.{right-pairs, wrong-pairs}

@@ -1,5 +1,5 @@
--- `hex::join_pairs` meets its contract: whenever the loop's test is reached, storing the pairs from number i on gives what storing all of them into
--- the output as it was gives.
+-- `hex::join_pairs` meets its contract: whenever the loop's test is reached, storing the pairs from number i on gives what storing all of them into the first
+-- output gives.
 -- Assumes nothing.
 use mathlib.Core.Path.{_≡_, refl, sym, _∙_}
 use mathlib.Core.Bool.{true}
@@ -24,7 +24,7 @@ abbrev μ-loop : tie.MeasureT-loop
 loop-holds : tie.Need-loop-holds Inv-loop μ-loop
 loop-holds c = (search needs, omega arith, omega arith, refl, refl)
 
--- in a turn: both digits of the pair are hex digits, and stand for less than 16
+-- in a turn of the loop: both digits of the pair are hex digits, with values below 16
 module _ (c : tie.In-loop Inv-loop μ-loop) where
   high : isHex (getD (c .before .before .before .before .args .ds .now) (c .before .loop .i * 2) 0) ≡ true
   high = hex-at _ _ (c .before .before .before .before .pre .hex) (search needs)

@@ -1,4 +1,4 @@
--- `hex::nibble` meets its contract: a hex digit below 65 is a decimal one.
+-- `hex::nibble` meets its contract: a hex digit below 65 is a decimal digit.
 -- Assumes nothing.
 use borrow.Author.Tests.{lt-ltb, le-ltb}
 use native.Mathlib.Omega.{arith}

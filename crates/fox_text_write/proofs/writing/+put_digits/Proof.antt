@@ -1,5 +1,5 @@
--- `writing::put_digits` meets its contract: a number below ten is its digit, and any other the digits of its tenth and then its last. The measure is the
--- number of places.
+-- `writing::put_digits` meets its contract: a number below ten is its digit, and any other is the digits of its tenth and then its last digit. The measure is
+-- the number of places.
 -- Assumes nothing.
 use mathlib.Core.Path.{_≡_, _∙_}
 use mathlib.Core.List.{[], _∷_, _++_}
@@ -22,7 +22,7 @@ abbrev μ : Measures 1 kinds.ps ℕ
 μ κs a = a .1 .1 .1 .0
 
 module _ (t : ℕ) where
-  -- what the function is given at the measure t, and what a call of it asks below t
+  -- what the function has at the measure t, and what its own call needs below t
   abbrev at : In 1 kinds.ps
   at = and 1 kinds.ps (is 1 kinds.ps μ t) put-digits.Pre
 

@@ -1,5 +1,5 @@
--- `writing::put` meets its contract: whenever the loop's test is reached, storing the bytes from number i on gives what storing all of them into the
--- buffer as it was gives.
+-- `writing::put` meets its contract: whenever the loop's test is reached, storing the bytes from number i on gives what storing all of them into the first
+-- buffer gives.
 -- Assumes nothing.
 use mathlib.Core.Path.{_≡_, refl, sym, _∙_}
 use native.Mathlib.Omega.{arith}

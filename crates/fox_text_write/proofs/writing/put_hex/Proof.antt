@@ -1,5 +1,5 @@
--- `writing::put_hex` meets its contract: whenever the loop's test is reached, storing the digits of the bytes from number i on gives what storing all of
--- them gives.
+-- `writing::put_hex` meets its contract: whenever the loop's test is reached, storing the digits of the bytes from number i on gives what storing all of them
+-- into the first buffer gives.
 -- Assumes nothing.
 use mathlib.Core.Path.{_≡_, refl, sym, _∙_}
 use Prim.Native.Nat.{_+_, _-_, _*_, _≤_}

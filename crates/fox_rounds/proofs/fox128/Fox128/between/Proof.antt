@@ -1,4 +1,4 @@
--- `fox128::Fox128::between` meets its contract: either way is the definition's.
+-- `fox128::Fox128::between` meets its contract: both cases are the definition's.
 -- Assumes nothing.
 use mathlib.Core.Path.{ap, sym, _∙_}
 use mathlib.Core.Bool.{Bool}

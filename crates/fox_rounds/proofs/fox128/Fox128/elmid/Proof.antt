@@ -1,4 +1,4 @@
--- `fox128::Fox128::elmid` meets its contract: the round function is given the two sums, and what it gives is added as the definition adds it.
+-- `fox128::Fox128::elmid` meets its contract: the round function's input is the two XORs, and its value is XORed into the state as the definition has it.
 -- Assumes nothing.
 use borrow.Author.Needs.{needs}
 use mathlib.Core.Path.{ap, _∙_}

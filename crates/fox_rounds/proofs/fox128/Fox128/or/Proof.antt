@@ -1,4 +1,4 @@
--- `fox128::Fox128::or` meets its contract: the words that "or" and "io" act on are the definition's, and the others stay.
+-- `fox128::Fox128::or` meets its contract: the words that "or" acts on are the definition's, and the others stay.
 -- Assumes nothing.
 use borrow.Author.Needs.{needs}
 use Rattle.fox_rounds.specs.Rounds.{or128}

@@ -1,4 +1,4 @@
--- `fox128::Fox128::xored` meets its contract: the halves of a number of 64 bits are its quotient and its remainder by 2 to the 32.
+-- `fox128::Fox128::xored` meets its contract: the halves of a number of 64 bits are its quotient and its remainder by 2 ^ 32.
 -- Assumes nothing.
 use borrow.Author.Needs.{needs}
 use mathlib.Core.Path.{sym}

@@ -1,4 +1,4 @@
--- `fox64::Fox64::io` meets its contract: the words that "or" and "io" act on are the definition's, and the others stay.
+-- `fox64::Fox64::io` meets its contract: the word that "io" acts on is the definition's, and the other stays.
 -- Assumes nothing.
 use borrow.Author.Needs.{needs}
 use Rattle.fox_rounds.specs.Rounds.{io64}

@@ -1,4 +1,4 @@
--- `fox64::Fox64::lmid` meets its contract: what the round function gives is added to both words.
+-- `fox64::Fox64::lmid` meets its contract: both words are XORed with the round function's value.
 -- Assumes nothing.
 use borrow.Author.Needs.{needs}
 use Rattle.fox_layers.specs.Words.{_⊕_}

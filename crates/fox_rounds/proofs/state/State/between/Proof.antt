@@ -1,4 +1,4 @@
--- `state::State::between` meets its contract: for either cipher it is that cipher's step.
+-- `state::State::between` meets its contract: for either cipher it is that cipher's step between rounds.
 -- Assumes nothing.
 use mathlib.Core.Path.{ap, sym, _∙_}
 use borrow.Author.Needs.{needs}

@@ -1,4 +1,4 @@
--- `state::State::round` meets its contract: for either cipher it is that cipher's round. FOX64's looks at the lowest 64 bits of a round key alone.
+-- `state::State::round` meets its contract: for either cipher it is that cipher's round. A round of FOX64 depends on the lowest 64 bits of a round key alone.
 -- Assumes nothing.
 use mathlib.Core.Path.{_≡_, ap, sym, _∙_}
 use Prim.Native.Nat.{ℕ, _+_, _*_, _^_}

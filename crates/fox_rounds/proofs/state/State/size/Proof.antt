@@ -1,4 +1,4 @@
--- `state::State::size` meets its contract: the block size of either cipher.
+-- `state::State::size` meets its contract: it is the block size of either cipher.
 -- Assumes nothing.
 use borrow.Author.Needs.{needs}
 use mathlib.Core.Path.{sym, ap}

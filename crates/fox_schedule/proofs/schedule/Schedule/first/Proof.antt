@@ -1,4 +1,4 @@
--- `schedule::Schedule::first` meets its contract: the seed, or as many steps on as the last round key takes.
+-- `schedule::Schedule::first` meets its contract: it is the seed, or the seed stepped on to the last round key.
 -- Assumes nothing.
 use borrow.Author.Needs.{needs}
 use mathlib.Core.Path.{sym, subst}

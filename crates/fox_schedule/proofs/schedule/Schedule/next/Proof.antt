@@ -1,4 +1,4 @@
--- `schedule::Schedule::next` meets its contract: the schedule's steps, forward or back.
+-- `schedule::Schedule::next` meets its contract: it takes the schedule's steps, forward or back.
 -- Assumes nothing.
 use borrow.Author.Needs.{needs}
 use mathlib.Core.Path.{sym, ap, ap₂, _∙_}

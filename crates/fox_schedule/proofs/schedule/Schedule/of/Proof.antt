@@ -1,4 +1,4 @@
--- `schedule::Schedule::of` meets its contract: cipher and key length decide between the schedules as Fig. 8 does, and the length is compared with that schedule's ek.
+-- `schedule::Schedule::of` meets its contract: cipher and key length choose the schedule as Fig. 8 does, and the length is compared with that schedule's ek.
 -- Assumes nothing.
 use borrow.Author.Needs.{needs}
 use mathlib.Core.Path.{refl}

@@ -1,4 +1,4 @@
--- `schedule::Schedule::round_key` meets its contract: in each case the non-linear part of that schedule is given the diversified key.
+-- `schedule::Schedule::round_key` meets its contract: in each case that schedule's non-linear part is applied to the diversified key.
 -- Assumes nothing.
 use borrow.Author.Needs.{needs}
 use mathlib.Core.Path.{refl, sym, ap, _∙_}

@@ -1,4 +1,4 @@
--- `schedule::Schedule::steps` meets its contract: the number of groups of each schedule.
+-- `schedule::Schedule::steps` meets its contract: it is each schedule's number of groups.
 -- Assumes nothing.
 use borrow.Author.Needs.{needs}
 use mathlib.Core.Path.{sym, ap}
