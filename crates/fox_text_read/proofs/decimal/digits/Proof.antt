@@ -1,5 +1,5 @@
--- `decimal::digits` meets its contract: whenever the loop's test is reached, the bytes before i are digits, and the rest of them appended to v have the value
--- of all.
+-- `decimal::digits` meets its contract: whenever the loop's test is reached, all bytes are digits exactly where those from i on are, and these appended to v
+-- have the value of all.
 -- Assumes nothing.
 use mathlib.Core.Path.{_≡_, refl, sym, _∙_}
 use Prim.Native.Nat.{_+_, _-_, _*_, _≤_}
