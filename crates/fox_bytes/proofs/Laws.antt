@@ -1,2 +1,2 @@
--- Laws beside definitions: what a proof cites in place of a definition's text.
+-- Laws on the definitions, which proofs cite in place of a definition's text.
 pub mod Blocks

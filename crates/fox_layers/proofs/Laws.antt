@@ -1,4 +1,4 @@
--- Laws beside definitions: what a proof cites in place of a definition's text.
+-- Laws on the definitions, which proofs cite in place of a definition's text.
 pub mod Xor
 pub mod Words
 pub mod Bytewise

@@ -82,20 +82,20 @@ forStretch cipher counterLen offset inputLen outLen =
 unfoldable pub forRun : ℕ → ℕ → ℕ → ℕ → ℕ → ℕ → ℕ → List Refusal
 forRun cipher rounds keyLen counterLen offset inputLen outLen = forKey cipher rounds keyLen ++ forStretch cipher counterLen offset inputLen outLen
 
--- what a call that prepares a key has where no refusal applies
+-- what holds where a call that prepares a key meets no refusal
 pub record Keyed (c r k : ℕ) : Type 0 where
   pub cipher : (c ≡ 64) ⊎ (c ≡ 128)
   pub low : 12 ≤ r
   pub high : r ≤ 255
   pub key : k ≤ 32
 
--- what a call on one block has where no refusal applies
+-- what holds where a call on one block meets no refusal
 pub record Blocked (c r k b o : ℕ) : Type 0 where
   pub keyed : Keyed c r k
   pub block : b ≡ blockSize c
   pub output : o ≡ b
 
--- what a call on a stretch of a run has where no refusal applies
+-- what holds where a call on a stretch of a run meets no refusal
 pub record Stretched (c r k b n d o : ℕ) : Type 0 where
   pub keyed : Keyed c r k
   pub counter : b ≡ blockSize c

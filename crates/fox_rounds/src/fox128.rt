@@ -1,4 +1,4 @@
-// FOX128: its constants, its state of four words, and its round, computed without tables (001 §2.2.2, §2.2.5). A round key is two words of 64 bits.
+// FOX128: its constants, its state of four words, and its round, computed without large tables (001 §2.2.2, §2.2.5). A round key is two words of 64 bits.
 ghost use mathlib.Core.Path.{_≡_};
 ghost use Prim.Native.Nat.{_+_, _*_, _^_};
 ghost use Rattle.fox_layers.specs.Words.{_⊕_};

@@ -1,4 +1,4 @@
-// FOX64: its constants, its state of two words, and its round, computed without tables (001 §2.2.1, §2.2.3, §2.2.4).
+// FOX64: its constants, its state of two words, and its round, computed without large tables (001 §2.2.1, §2.2.3, §2.2.4).
 ghost use mathlib.Core.Path.{_≡_};
 ghost use Rattle.fox_rounds.specs.Rounds.{or, io, f32, lmid64, or64, io64};
 ghost use Rattle.fox_rounds.specs.Skeleton.{between};

@@ -1,4 +1,4 @@
-// A block of either cipher as the words that its rounds work on, and its round, computed without tables.
+// A block of either cipher as the words that its rounds work on, and its round, computed without large tables.
 ghost use mathlib.Core.Path.{_≡_};
 ghost use Prim.Native.Nat.{_+_, _*_, _^_};
 ghost use Rattle.fox_rounds.specs.Skeleton.{size, round, between};

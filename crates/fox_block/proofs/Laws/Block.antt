@@ -1,4 +1,4 @@
--- A block by cases of the cipher, and what a served call has of its lengths.
+-- A block by cases of the cipher: its size, its state, and what sealing or opening it gives.
 -- Assumes nothing.
 use mathlib.Core.Path.{_≡_, refl, sym, ap, _∙_}
 use mathlib.Core.List.{List}
@@ -34,7 +34,7 @@ pub size-128 : (c : ℕ) → (c ≡ 64 → ⊥) → blockSize c ≡ 16
 unfolding blockSize
 size-128 c n = simp (ne-eqb c 64 n)
 
--- the rounds of a served call fit a byte
+-- the rounds of a call that meets no refusal fit a byte
 pub rounds-whole : {c r k : ℕ} → Keyed c r k → r % 256 ≡ r
 rounds-whole s = omega arith
 

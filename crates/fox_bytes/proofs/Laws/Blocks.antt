@@ -76,7 +76,7 @@ put-end k l p =
     let none : drop (length l - k) (drop k l) ≡ [] = drop-of-length-le (drop k l) {i = length l - k} (rw (length-drop k l) (omega arith)) in
     ap (λ (xs : List ℕ). take k l ++ (p ++ xs)) none ∙ ap (λ (xs : List ℕ). take k l ++ xs) (append-nil p)
 
--- the part from k to the end has at most n elements, where n are left
+-- the part from k to the end of a list of k + n elements has no more than n
 pub end-spent : (k n : ℕ) (l : List ℕ) → length l ≡ k + n → drop n (midOf k (length l - k) l) ≡ []
 end-spent k n l e =
     drop-of-length-le (midOf k (length l - k) l) {i = n} (simp (length-take, length-drop) (omega arith))

@@ -33,7 +33,7 @@ module _ {S : Type 0} (round : ℕ → S → S) (between : S → S) (k : ℕ →
       let none : n - n ≡ zero = omega arith in
       ap (λ (m : ℕ). through round between (numbered k (suc m) n) x) none
 
-  -- the state of a loop: of x's n rounds with "or" or "io" after them, i are done, with the result y; these and one last round are left
+  -- the state of a loop over the n rounds before the last: i of them are done, and the rounds that are left turn y into what all n + 1 rounds turn x into
   abbrev pub RoundsLeft : ℕ → S → ℕ → S → Type 0
   RoundsLeft n x i y = through round between (numbered k (suc (n - i)) i) y ≡ through round between (numbered k (suc n) 0) x
 
@@ -122,7 +122,7 @@ unfolding inOrder place
 inOrder-numbered true k m some = refl
 inOrder-numbered false k m some = reversed k m some
 
--- the state of a loop that seals or opens x in m rounds: i rounds are done, with the result y
+-- the same for a block sealed or opened in m rounds: i of them are done, and the rounds that are left turn y into what all turn x into
 module _ (d : Bool) (k : ℕ → ℕ) (m : ℕ) where
   abbrev pub TurnLeft : State → ℕ → State → Type 0
   TurnLeft x i y = RoundsLeft round (between d) (λ (j : ℕ). k (place d m j)) (m - 1) x i y
@@ -174,7 +174,7 @@ unfolding through
 through-snoc round between l [] k x = refl
 through-snoc round between l (m ∷ ms) k x = through-snoc round between m ms k (between (round l x))
 
--- the state of a loop that seals or opens x in m rounds with no round after the loop: y is x after the rounds with the first i round keys
+-- the state of a loop over all m rounds of a block sealed or opened: y is x after the rounds with the first i round keys of that direction
 module _ (d : Bool) (k : ℕ → ℕ) (m : ℕ) where
   abbrev pub TurnDone : State → ℕ → State → Type 0
   TurnDone x i y = y ≡ through round (between d) (numbered (λ (j : ℕ). k (place d m j)) i 0) x

@@ -1,4 +1,4 @@
--- What a served call on one block has is what the server engine's steps need.
+-- Where a call on one block meets no refusal, the server engine's steps have what they need.
 -- Assumes nothing.
 use mathlib.Core.Path.{_≡_, _∙_}
 use mathlib.Core.List.{List}

@@ -22,7 +22,7 @@ abbrev μ : Measures 1 kinds.ps ℕ
 μ κs a = a .1 .1 .1 .0
 
 module _ (t : ℕ) where
-  -- what the function has at the measure t, and what its own call needs below t
+  -- what the function requires at the measure t, and what its call of itself requires below t
   abbrev at : In 1 kinds.ps
   at = and 1 kinds.ps (is 1 kinds.ps μ t) put-digits.Pre
 
