@@ -20,7 +20,7 @@ struct Call {
     refusal: u32,
 }
 
-// Prints the engines that differ from what the row says, and answers whether none does.
+// Prints the engines that differ from what the row says, and returns whether none does.
 pub(crate) fn agree(
     cipher: u32,
     rounds: u32,

@@ -43,7 +43,7 @@ fn left_after(t: &[u8]) -> usize
     after_line(after_line(after_line(fourth))).len()
 }
 
-// Prints the line of the text's first row, and answers 1 where it differs or is no row.
+// Prints the line of the text's first row, and returns 1 where it differs or is no row.
 fn run_row(t: &[u8]) -> usize
     ensures { λ r. ⌜ r ≤ 1 ⌝ }
 {

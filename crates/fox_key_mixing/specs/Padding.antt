@@ -25,7 +25,7 @@ unfoldable pub mixed : ℕ → ℕ → List ℕ → List ℕ
 mixed x y [] = []
 mixed x y (p ∷ ps) = (p ⊕ (y + x) % 256) ∷ mixed y (p ⊕ (y + x) % 256) ps
 
--- §2.3.2 to §2.3.4: mkey; a key of ek bytes is neither padded nor mixed
+-- §2.3.2 to §2.3.4: mkey, the padded and mixed key; a key of ek bytes is neither padded nor mixed
 unfoldable pub mkey : ℕ → List ℕ → List ℕ
 mkey ek key =
     let short = mixed 0x6A 0x76 (padded ek key) in

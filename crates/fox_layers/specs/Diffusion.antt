@@ -21,7 +21,7 @@ abbrev pub α : ℕ
 abbrev pub z : ℕ
 z = 0xFD
 
--- §2.2.7
+-- §2.2.7: the matrix of mu4, by its rows
 unfoldable pub mu4Rows : List (List ℕ)
 mu4Rows =
     (1 ∷ 1 ∷ 1 ∷ α ∷ [])
@@ -49,7 +49,7 @@ e = 0xFC
 abbrev pub f : ℕ
 f = 0x7E
 
--- §2.2.8
+-- §2.2.8: the matrix of mu8, by its rows
 unfoldable pub mu8Rows : List (List ℕ)
 mu8Rows =
     (1 ∷ 1 ∷ 1 ∷ 1 ∷ 1 ∷ 1 ∷ 1 ∷ a ∷ [])

@@ -68,14 +68,14 @@ number64 x = x .l * 2 ^ 32 + x .r
 unfoldable pub number128 : Fox128 → ℕ
 number128 x = (x .ll * 2 ^ 32 + x .lr) * 2 ^ 64 + (x .rl * 2 ^ 32 + x .rr)
 
--- §2.3.10, Algorithm 7
+-- §2.3.10, Algorithm 7: the round key of FOX64 for keys of at most 16 bytes
 unfoldable pub NL64 : Bool → List ℕ → ℕ
 NL64 flip dkey =
     let t = layers 4 4 mu4 mix64 flip (words 4 4 dkey) in
     let hashed : Fox64 = record { l = getD t 0 0 ⊕ getD t 2 0; r = getD t 1 0 ⊕ getD t 3 0 } in
     number64 (seal64 (words 8 2 dkey) hashed)
 
--- §2.3.11, Algorithm 8
+-- §2.3.11, Algorithm 8: the round key of FOX64 for keys of more than 16 bytes
 unfoldable pub NL64h : Bool → List ℕ → ℕ
 NL64h flip dkey =
     let t = layers 4 8 mu4 mix64h flip (words 4 8 dkey) in

@@ -24,7 +24,7 @@ pub struct Key128 {
     pub right: u64,
 }
 
-// Up to the hashing layer.
+// The layers up to the hashing layer.
 fn layers128(d: Key32, flip: bool) -> Longs4
     ensures { λ r. ⌜ r .w0 ∷ r .w1 ∷ r .w2 ∷ r .w3 ∷ [] ≡ layers 8 4 mu8 mix128 flip (words 8 4 (bytes32 d)) ⌝ }
 {

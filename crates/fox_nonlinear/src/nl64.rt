@@ -18,7 +18,7 @@ struct Words4 {
     w3: u32,
 }
 
-// Up to the hashing layer.
+// The layers up to the hashing layer.
 fn layers64(d: Key16, flip: bool) -> Words4
     ensures { λ r. ⌜ r .w0 ∷ r .w1 ∷ r .w2 ∷ r .w3 ∷ [] ≡ layers 4 4 mu4 mix64 flip (words 4 4 (bytes16 d)) ⌝ }
 {

@@ -21,7 +21,7 @@ struct Words8 {
     w7: u32,
 }
 
-// Up to the hashing layer.
+// The layers up to the hashing layer.
 fn layers64h(d: Key32, flip: bool) -> Words8
     ensures { λ r. ⌜ r .w0 ∷ r .w1 ∷ r .w2 ∷ r .w3 ∷ r .w4 ∷ r .w5 ∷ r .w6 ∷ r .w7 ∷ []
         ≡ layers 4 8 mu4 mix64h flip (words 4 8 (bytes32 d)) ⌝ }

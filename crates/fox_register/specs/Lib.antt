@@ -1,2 +1,2 @@
--- The register of the key schedules.
+-- The register of the key schedules: its seed, and its steps forward and back.
 pub mod Register

@@ -15,30 +15,30 @@ left n w = w / 2 ^ n % 2 ^ n
 unfoldable pub right : ℕ → ℕ → ℕ
 right n w = w % 2 ^ n
 
--- §2.2.3: (p, q) becomes (q, p ⊕ q)
+-- §2.2.3: "or": (p, q) becomes (q, p ⊕ q)
 unfoldable pub or : ℕ → ℕ
 or w = right 16 w * 2 ^ 16 + (left 16 w ⊕ right 16 w)
 
--- §2.2.3, the inverse: (p, q) becomes (p ⊕ q, p)
+-- §2.2.3: "io", the inverse of "or": (p, q) becomes (p ⊕ q, p)
 unfoldable pub io : ℕ → ℕ
 io w = (left 16 w ⊕ right 16 w) * 2 ^ 16 + left 16 w
 
--- §2.2.4 and §2.2.5 at n bytes, with the diffusion mu of that width
+-- §2.2.4 and §2.2.5 at n bytes: the round function, with the diffusion mu of that width
 unfoldable pub f : ℕ → (ℕ → ℕ) → ℕ → ℕ → ℕ
 f n mu x rk =
     let rk₀ = left (8 * n) rk in
     let rk₁ = right (8 * n) rk in
     sigma n (mu (sigma n (x ⊕ rk₀)) ⊕ rk₁) ⊕ rk₀
 
--- §2.2.4
+-- §2.2.4: the round function of FOX64
 unfoldable pub f32 : ℕ → ℕ → ℕ
 f32 x rk = f 4 mu4 x rk
 
--- §2.2.5
+-- §2.2.5: the round function of FOX128
 unfoldable pub f64 : ℕ → ℕ → ℕ
 f64 x rk = f 8 mu8 x rk
 
--- §2.2.1
+-- §2.2.1: a round of FOX64 without "or" or "io"
 unfoldable pub lmid64 : ℕ → Fox64 → Fox64
 lmid64 rk x = let t = f32 (x .l ⊕ x .r) rk in record { l = x .l ⊕ t; r = x .r ⊕ t }
 
@@ -56,7 +56,7 @@ xor128 t x =
     let tᵣ = right 32 t in
     record { ll = x .ll ⊕ tₗ; lr = x .lr ⊕ tₗ; rl = x .rl ⊕ tᵣ; rr = x .rr ⊕ tᵣ }
 
--- §2.2.2
+-- §2.2.2: a round of FOX128 without "or" or "io"
 unfoldable pub elmid128 : ℕ → Fox128 → Fox128
 elmid128 rk x = xor128 (f64 ((x .ll ⊕ x .lr) * 2 ^ 32 + (x .rl ⊕ x .rr)) rk) x
 

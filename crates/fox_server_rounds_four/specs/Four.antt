@@ -7,7 +7,7 @@ use Rattle.fox_rounds.specs.Skeleton.{seal64, seal128}
 use Rattle.fox_server_rounds_four.specs.declared.fox64.Four64.{Four64}
 use Rattle.fox_server_rounds_four.specs.declared.fox128.Four128.{Four128}
 
--- §2.1.1, four times
+-- §2.1.1, four times: four blocks of FOX64 sealed
 unfoldable pub sealFour64 : List ℕ → Four64 → Four64
 sealFour64 rks x =
     record {
@@ -17,7 +17,7 @@ sealFour64 rks x =
       fourth = seal64 rks (x .fourth);
     }
 
--- §2.1.2, four times
+-- §2.1.2, four times: four blocks of FOX128 sealed
 unfoldable pub sealFour128 : List ℕ → Four128 → Four128
 sealFour128 rks x =
     record {

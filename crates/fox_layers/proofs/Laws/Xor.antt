@@ -9,7 +9,7 @@ use lib.Bits.{xor-shr, xor-mod, xor-zero-l, xor-zero-r, xor-self}
 use Rattle.fox_layers.specs.Words.{_⊕_, xorAll, xorOver}
 pub use lib.Bits.{xor-comm, xor-zero-l as zero-xor, xor-zero-r as xor-zero, xor-self as xor-same, xor-lt}
 
--- a number below two is 0 or 1, so the law of one digit has eight cases, which compute
+-- a number below two is 0 or 1, so the law of one digit has eight cases, which are computed
 digit-assoc : (x y z : ℕ) → x < 2 → y < 2 → z < 2 → (x ⊕ y) ⊕ z ≡ x ⊕ y ⊕ z
 digit-assoc zero y z hx hy hz = refl
 digit-assoc (suc zero) zero z hx hy hz = refl

@@ -1,4 +1,4 @@
--- `key_stream::shorter` meets its contract, by its test.
+-- `key_stream::shorter` meets its contract: its test picks the smaller of the two.
 -- Assumes nothing.
 use mathlib.Core.Path.{refl}
 use mathlib.Core.Logic.{inl, inr}

@@ -1,4 +1,4 @@
--- `key_stream::xor_part` meets its contract: for either cipher it is that cipher's step.
+-- `key_stream::xor_part` meets its contract: for either cipher it is that cipher's function.
 -- Assumes nothing.
 use borrow.Author.Needs.{needs}
 use mathlib.Core.Path.{sym, ap, subst}
