@@ -83,6 +83,22 @@ readme() {
         $0 == end { skip = 0 }' README.md >"$room/readme" && cat "$room/readme" >README.md
 }
 
+# What these documents name and crates/ does not have: functions as `fox_x::m::f`, files as (`fox_x`, `F`), on one line or two.
+named() {
+    cat docs/STATEMENTS.md docs/EXCEPTIONS.md | tr '\n' ' ' | grep -oE '`fox_[a-z0-9_]+::[a-z0-9_]+(::[A-Za-z0-9_]+)*`' | sort -u |
+        tr -d '`' | sed 's/::/ /g' | while read -r crate module rest; do
+            file=crates/$crate/src/$module.rt name=${rest##* }
+            [ "$crate" != fox_x ] || continue
+            { [ -f "$file" ] && { [ -z "$name" ] || grep -qE "(fn|struct|enum|const) $name\\b" "$file"; }; } ||
+                echo "$crate::$module $rest"
+        done
+    cat docs/STATEMENTS.md docs/EXCEPTIONS.md | tr '\n' ' ' | grep -oE '`fox_[a-z0-9_]+`, +`[A-Z][A-Za-z/]*`' | sort -u |
+        tr -d '`,' | while read -r crate file; do
+            [ "$crate" != fox_x ] || continue
+            [ -f "crates/$crate/specs/$file.antt" ] || [ -f "crates/$crate/proofs/$file.antt" ] || echo "$crate, $file"
+        done
+}
+
 passed=0 failed=0
 hold() { # WHAT FILE: the file lists what is wrong
     if [ -s "$2" ]; then
@@ -114,9 +130,13 @@ check() {
         at[$1] == "promises" && at[$2] !~ /^(cipher|promises)$/ || at[$1] == "engines" && at[$2] == "products"' \
         "$room/listed" "$room/said" >"$room/wrong"
     hold "no crate stands on a higher floor" "$room/wrong"
-    awk '$1 == "fox_card_block" || $1 == "fox_card_run" || $1 == "fox_station_card" { if ($2 ~ /^fox_server/) print }
-        $1 ~ /^fox_server/ && $2 ~ /^fox_card/' "$room/said" >"$room/wrong"
-    hold "neither engine stands on the other" "$room/wrong"
+    awk 'function engine(name) { split(name, part, "_"); return part[2] == "station" ? part[3] : part[2] }
+        FNR == NR { if ($1 == "floor") floor = $2; else at[$2] = floor; next }
+        at[$2] == "engines" && engine($2) != "engine" && engine($1) != engine($2) && (at[$1] == "engines" || $1 ~ /^fox_station_/)' \
+        "$room/listed" "$room/said" >"$room/wrong"
+    hold "no engine, and no export of one, stands on another" "$room/wrong"
+    named >"$room/wrong"
+    hold "every file and function that docs/STATEMENTS.md and docs/EXCEPTIONS.md name is there" "$room/wrong"
     block >"$room/block"
     awk -v begin="$begin" -v end="$end" '$0 == begin { on = 1 } on { print } $0 == end { on = 0 }' README.md |
         diff "$room/block" - >"$room/wrong"

@@ -85,7 +85,7 @@ fn stretch128(
     }
 }
 
-pub fn run128(
+pub(crate) fn run128(
     keys: &[u64; 510],
     rounds: usize,
     counter: &[u8],

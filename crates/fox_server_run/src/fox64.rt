@@ -85,7 +85,7 @@ fn stretch64(
     }
 }
 
-pub fn run64(
+pub(crate) fn run64(
     keys: &[u64; 510],
     rounds: usize,
     counter: &[u8],
