@@ -1,5 +1,5 @@
-/* Opens a stretch of a sealed file to standard output by calls of libfox, however large the file is. Sealing and opening a
- * run are the same sum, so it seals a plain file as well. `stretch --help` says how it is called. */
+/* Opens a stretch of a sealed file of any size to standard output, by calls of libfox on pieces of it. Sealing and opening
+ * a run both XOR it with the key stream, so it seals a plain file as well. `stretch --help` says how it is called. */
 #define _POSIX_C_SOURCE 200809L
 #define _FILE_OFFSET_BITS 64
 #include <errno.h>
@@ -47,7 +47,7 @@ struct job {
     const char *path;
 };
 
-/* The line on a terminal that says how far long work is. */
+/* The progress line that long work shows on a terminal. */
 struct progress {
     int wanted, width;
     double began, next;
@@ -65,7 +65,7 @@ static int complain(int status, const char *format, ...)
     return status;
 }
 
-/* The words of the command. */
+/* The words of the command line. */
 
 static int read_number(const char *name, const char *word, uint64_t most, uint64_t *value)
 {
@@ -100,7 +100,7 @@ static int hex_digit(char c)
     return -1;
 }
 
-/* Writes the bytes over their digits, so that a key of any length has room and the library itself can refuse it. */
+/* Writes the bytes over their digits, so that a key of any length fits and the library itself can refuse it. */
 static int read_hex(const char *name, char *word, const uint8_t **bytes, size_t *count)
 {
     uint8_t *to = (uint8_t *)word;
@@ -163,7 +163,7 @@ static int refused(uint32_t number)
     return complain(TROUBLE, "refusal %" PRIu32 ": %s", number, fox_refusal_text(number));
 }
 
-/* A call on no bytes where the stretch ends is refused exactly as some call on its pieces would be, and writes nothing. */
+/* A call on 0 bytes where the stretch ends is refused exactly as some call on its pieces would be, and writes nothing. */
 static int check_refusals(const struct job *job)
 {
     uint8_t none = 0, nowhere;
@@ -191,7 +191,7 @@ static int check_file(const struct job *job, int file)
     return DONE;
 }
 
-/* A pipe would keep an open waiting for its other end, so no open waits. */
+/* Opening a pipe would wait for its other end, so the file is opened without waiting. */
 static int open_file(const struct job *job, int *file)
 {
     *file = open(job->path, O_RDONLY | O_NONBLOCK | O_NOCTTY | O_CLOEXEC);
@@ -207,7 +207,7 @@ static double seconds(void)
     return (double)now.tv_sec + (double)now.tv_nsec / 1e9;
 }
 
-/* Where the opened bytes go to the terminal as well, a line among them would be in the way. */
+/* Where the opened bytes go to the terminal too, a progress line would stand among them. */
 static struct progress begin_progress(void)
 {
     double now = seconds();
@@ -291,7 +291,7 @@ static int open_piece(const struct job *job, int file, uint64_t at, size_t len, 
     return DONE;
 }
 
-/* Pieces end at multiples of FOX_MOST_DATA of the file, where its own pieces end too. */
+/* Pieces end at multiples of FOX_MOST_DATA in the file, whatever the first byte is. */
 static int open_pieces(const struct job *job, int file)
 {
     struct progress progress = begin_progress();
@@ -313,7 +313,7 @@ int main(int count, char **words)
     int file;
     if (count == 2 && strcmp(words[1], "--help") == 0)
         return fputs(usage, stdout) >= 0 && fflush(stdout) == 0 ? DONE : TROUBLE;
-    /* A reader that goes away shows as an error of write, which has a message. */
+    /* A reader that goes away shows as an error of write, which has a message, and not as a signal. */
     signal(SIGPIPE, SIG_IGN);
     int status = read_words(count - 1, words + 1, &job);
     if (status == DONE)

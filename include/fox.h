@@ -1,14 +1,29 @@
-/* FOX64 and FOX128 for the station's C programs: one block sealed and opened, and any stretch of a run in counter mode.
- * Link with libfox.a or libfox.so. libfox_card.a has fox_refusal_text and the calls named fox_card_ alone, in a ninth of
- * the code. C99 and C++.
+/* FOX64 and FOX128 for the station's C programs: one block sealed or opened, and any stretch of a run in
+ * CTR mode. Link with libfox.a or libfox.so. libfox_card.a has fox_refusal_text and the calls named
+ * fox_card_ alone, in about a seventh of the code. C99 and C++.
  *
- * There are two ways to do the same work, the card's (fox_card_...) and the server's (fox_server_...). Both give the same
- * answer and the same bytes for the same parameters, so what one seals the other opens. The card's way keeps no list of
- * round keys and no large table, and is slow. The server's way prepares the key and its tables once a call, and is fast on
- * many blocks; for one block the preparing is most of the work.
+ * The users' words, and what the field says:
  *
- * Every call answers FOX_SERVED, which is 0, or the number of the first refusal below that applies. A served call has
- * written all of `out`; a refused one has written nothing. fox_refusal_text has a sentence for each number.
+ *   seal, open     encrypt, decrypt
+ *   block          as many bytes as the cipher takes at once: 8 for FOX64, 16 for FOX128
+ *   run            data in CTR mode, its bytes counted from 0
+ *   stretch        consecutive bytes of a run, from any offset on
+ *   counter block  CTR's initial counter block; the run's later blocks take the counter blocks after it
+ *   key stream     the encrypted counter blocks, one after the other, with which the run is XORed
+ *   engine         an implementation: card, with little memory, and server, with much
+ *   prepared key   the expanded key, which is all round keys; the server engine makes it in each call
+ *   refusal        an error number from 1 on; 0 is success
+ *   count          the number of bytes written: out_len for a call that answers 0, and 0 for any other
+ *
+ * The card engine (fox_card_...) and the server engine (fox_server_...) do the same work: they give the
+ * same answer and the same bytes for the same parameters, so what one seals the other opens. The card
+ * engine keeps no list of round keys and no large table, and is slow. The server engine expands the key and
+ * makes its tables once in a call, and is fast on many blocks; for one block these preparations are most of
+ * the work.
+ *
+ * Every call answers FOX_SERVED, which is 0, or the number of the first refusal below that applies. A
+ * served call has written all of `out`; a refused one has written nothing. fox_refusal_text has a sentence
+ * for each number.
  *
  *   1  FOX_REFUSED_CIPHER  cipher is neither 64 nor 128
  *   2  FOX_REFUSED_ROUNDS  rounds is below 12 or above 255
@@ -16,24 +31,28 @@
  *   4  FOX_REFUSED_BLOCK   block_len, or counter_len, is not the cipher's block: 8 for FOX64, 16 for FOX128
  *   5  FOX_REFUSED_DATA    data_len is above 65,536 (runs only)
  *   6  FOX_REFUSED_OUTPUT  out_len is not block_len, or not data_len
- *   7  FOX_REFUSED_END     offset + data_len, as a true sum that does not wrap, is above 1,073,741,824 (runs only)
+ *   7  FOX_REFUSED_END     offset + data_len, as a sum that does not wrap, is above 1,073,741,824 (runs only)
  *   8  FOX_REFUSED_SHEET   the bench program's sheet is malformed; no call here answers it
  *
- * What a caller owes, and nothing checks:
+ * What a caller has to see to, since nothing checks it:
  *
- * - Each pointer has as many bytes behind it as its length says, aligned in any way; for a call that is refused, too.
- * - No pointer is NULL, not even with a length of 0: what is proved is proved of references, and those are never NULL.
- *   With a length of 0 nothing is read or written there, so any address does, as that of any variable.
- * - `out` overlaps none of key, block, counter and data, so nothing is sealed in place. Those may overlap one another,
- *   since they are only read.
- * - While a call runs, nobody else writes to what it was lent, or reads `out`.
+ * - Each pointer has as many bytes behind it as its length says, with any alignment. This holds for refused
+ *   calls too.
+ * - No pointer is NULL, not even with a length of 0: the proofs are about references, and those are never
+ *   NULL. With a length of 0 nothing is read or written there, so any other address will do, such as that
+ *   of any variable.
+ * - `out` overlaps none of key, block, counter and data, so nothing is sealed in place. Those four are only
+ *   read, and may overlap one another.
+ * - While a call runs, no other thread writes to its key, block, counter or data, and none reads or writes
+ *   `out`.
  *
- * The calls keep no state, allocate nothing and ask nothing of the operating system, so several threads may call at once.
- * Of the C library they use memcpy and memset alone. A call by the card's way takes less than 1 KiB of stack. A call by
- * the server's way makes its tables and round keys there, and takes less than 40 KiB.
+ * The calls keep no state, allocate nothing and make no system calls, so several threads may call at once.
+ * Of the C library they use memcpy and memset alone. A call by the card engine takes less than 1 KiB of
+ * stack. A call by the server engine has its tables and round keys there, and takes less than 40 KiB.
  *
- * Left out: protection against timing measurement. Both ways branch or look up by secret bytes. Nor does anything tell
- * that a key was wrong or that sealed bytes were changed; what is opened is then other bytes. */
+ * Left out: protection against timing measurement. Both engines branch on secret bytes or use them as table
+ * indices. Nor does anything detect a wrong key or sealed bytes that were changed: opening then gives other
+ * bytes. */
 #ifndef FOX_H
 #define FOX_H
 
@@ -68,11 +87,11 @@ enum {
     FOX_REFUSED_SHEET = 8
 };
 
-/* One block, sealed or opened. Opening undoes sealing under the same cipher, rounds and key.
+/* One block, sealed or opened. With the same cipher, rounds and key either undoes the other.
  *
  * cipher            FOX64 or FOX128
  * rounds            12 to 255
- * key, key_len      0 to 32 bytes; a key of 0 bytes is a key like others
+ * key, key_len      0 to 32 bytes; a key of 0 bytes is a key like any other
  * block, block_len  8 bytes for FOX64, 16 for FOX128
  * out, out_len      as long as the block */
 uint32_t fox_card_seal_block(uint32_t cipher, uint32_t rounds, const uint8_t *key, size_t key_len,
@@ -84,17 +103,19 @@ uint32_t fox_server_seal_block(uint32_t cipher, uint32_t rounds, const uint8_t *
 uint32_t fox_server_open_block(uint32_t cipher, uint32_t rounds, const uint8_t *key, size_t key_len,
                                const uint8_t *block, size_t block_len, uint8_t *out, size_t out_len);
 
-/* A stretch of a run. Sealing and opening a run are the same sum, so the same call does both. A run may be cut into calls
- * anywhere, and any stretch of it can be opened alone: what came before does not matter, the offset does.
+/* A stretch of a run. Sealing and opening both XOR the data with the key stream, so the same call does
+ * both. A run may be cut into calls anywhere, and any stretch of it can be opened alone: only the offset
+ * matters, not what was done before.
  *
  * cipher, rounds, key, key_len  as for a block
- * counter, counter_len          the counter block that the whole run begins with, whatever the offset: 8 bytes for FOX64,
- *                               16 for FOX128. Its last four bytes count the blocks, big-endian, and wrap; the others stay.
- *                               No counter block may come in two runs under one key, or who has both sealed runs has the
- *                               sum of what they hold
- * offset                        which byte of the run, counted from 0, the data begins with
- * data, data_len                0 to 65,536 bytes; offset + data_len is at most 1,073,741,824, and a length of 0 is served
- *                               up to that very offset
+ * counter, counter_len          the counter block that the whole run begins with, whatever the offset: 8
+ *                               bytes for FOX64, 16 for FOX128. Its last four bytes, big-endian, count up by
+ *                               one with each block of the run, and wrap; the other bytes stay. No counter
+ *                               block may occur in two runs under one key, or anyone with both sealed runs
+ *                               can XOR them and gets the XOR of the two plain texts
+ * offset                        the place in the run of the first byte of the data, counted from 0
+ * data, data_len                0 to 65,536 bytes; offset + data_len is at most 1,073,741,824, and a length
+ *                               of 0 is served at that very offset too
  * out, out_len                  as long as the data */
 uint32_t fox_card_run(uint32_t cipher, uint32_t rounds, const uint8_t *key, size_t key_len,
                       const uint8_t *counter, size_t counter_len, uint64_t offset,
@@ -103,8 +124,9 @@ uint32_t fox_server_run(uint32_t cipher, uint32_t rounds, const uint8_t *key, si
                         const uint8_t *counter, size_t counter_len, uint64_t offset,
                         const uint8_t *data, size_t data_len, uint8_t *out, size_t out_len);
 
-/* One sentence in English for a number from 0 to 8: what it means, and what would be right. Any other number gets one
- * that says that it means nothing. Never NULL; the text is constant and stays as long as the program runs. */
+/* One sentence in English for a number from 0 to 8: what it means, and what would be right. For any other
+ * number the sentence says that it means nothing. Never NULL; the text is constant and stays valid while
+ * the program runs. */
 const char *fox_refusal_text(uint32_t number);
 
 #ifdef __cplusplus

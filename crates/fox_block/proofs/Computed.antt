@@ -42,5 +42,6 @@ pub known : (product 0x38 0x0B ∷ product 0x02 0xFC ∷ or 0x0001_0002 ∷ io (
     ∷ 0x47
     ∷ 0x05
     ∷ []
-unfolding joined split xorOver polynomial rest product dot times mu4Rows mu8Rows diffused mu4 mu8 left right or io pad padded mixed mkey seed clocked iterate LFSR mix64
+unfolding joined split xorOver polynomial rest product dot times mu4Rows mu8Rows diffused mu4 mu8 left right or io pad padded mixed mkey seed clocked
+    iterate LFSR mix64
 known = refl

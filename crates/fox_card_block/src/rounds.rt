@@ -1,8 +1,8 @@
 // Sealing and opening by the card engine: each round key is computed when its round comes, from the register's value for that round.
 ghost use mathlib.Core.Path.{_≡_};
 ghost use Prim.Native.Nat.{_≤_, _<_, _^_};
-ghost use Rattle.fox_rounds.specs.Skeleton.{numbered, round, turned};
-ghost use Rattle.fox_schedule.specs.Step.{roundKeyAt, roundKeyOf};
+ghost use Rattle.fox_rounds.specs.Skeleton.{round, turned};
+ghost use Rattle.fox_schedule.specs.Step.{roundKeyAt, roundKeysOf};
 use fox_rounds::state::State;
 use fox_schedule::schedule::Schedule;
 
@@ -17,7 +17,7 @@ fn round_at(s: Schedule, reg: u32, y: State) -> State
 
 pub fn turned(sealing: bool, s: Schedule, rounds: u8, x: State) -> State
     requires { ⌜ 1 ≤ rounds ⌝ }
-    ensures { λ y. ⌜ y ≡ turned sealing (numbered (roundKeyOf s rounds) rounds 0) x ⌝ }
+    ensures { λ y. ⌜ y ≡ turned sealing (roundKeysOf s rounds) x ⌝ }
 {
     let mut reg = s.first(sealing, rounds);
     let mut y = x;

@@ -2,8 +2,7 @@
 ghost use mathlib.Core.Path.{_≡_};
 ghost use Prim.Native.Nat.{_+_, _≤_, _<_};
 ghost use lib.ListN.{length};
-ghost use Rattle.fox_rounds.specs.Skeleton.{numbered};
-ghost use Rattle.fox_schedule.specs.Step.{roundKeyOf};
+ghost use Rattle.fox_schedule.specs.Step.{roundKeysOf};
 ghost use Rattle.fox_run.specs.Run.{xorFrom};
 ghost use Rattle.fox_run.specs.States.{stream};
 ghost use Rattle.fox_run.specs.Parts.{Part};
@@ -16,7 +15,7 @@ use fox_schedule::schedule::Schedule;
 // Seals the block that the run's byte n is in, from that byte on; returns the bytes done.
 fn one_block(s: Schedule, rounds: u8, x: State, n: usize, input: &[u8], out: &mut [u8]) -> usize
     requires { ⌜ (1 ≤ rounds) × (n < 1073741824) × (length (now out) ≡ length (now input)) ⌝ }
-    ensures { λ r. ⌜ Part (stream (numbered (roundKeyOf s rounds) rounds 0) x) n (now (input .entry)) (now (out .entry)) (now (out .exit)) r ⌝ }
+    ensures { λ r. ⌜ Part (stream (roundKeysOf s rounds) x) n (now (input .entry)) (now (out .entry)) (now (out .exit)) r ⌝ }
 {
     let size = x.size();
     let sealed = turned(true, s, rounds, counted(x, (n / size) as u32));
@@ -25,7 +24,7 @@ fn one_block(s: Schedule, rounds: u8, x: State, n: usize, input: &[u8], out: &mu
 
 pub(crate) fn stretch(s: Schedule, rounds: u8, x: State, n: usize, input: &[u8], out: &mut [u8])
     requires { ⌜ (1 ≤ rounds) × (n + length (now input) ≤ 1073741824) × (length (now out) ≡ length (now input)) ⌝ }
-    ensures { λ _. ⌜ now (out .exit) ≡ xorFrom (stream (numbered (roundKeyOf s rounds) rounds 0) x) n (now (input .entry)) ⌝ }
+    ensures { λ _. ⌜ now (out .exit) ≡ xorFrom (stream (roundKeysOf s rounds) x) n (now (input .entry)) ⌝ }
 {
     let mut at = 0;
     while at < input.len() {

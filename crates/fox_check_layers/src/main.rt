@@ -3,6 +3,7 @@
 ghost use Prim.Native.Nat.{_≤_};
 use fox_layers::diffusion;
 use fox_layers::substitution;
+use fox_server_rounds::lookups;
 use fox_server_tables::tbs;
 use fox_server_tables::tbsm4;
 use fox_server_tables::tbsm8;
@@ -48,10 +49,10 @@ fn same4(s: &[u32; 1024], t: &[u32; 1024], w: u32) -> u32
     ensures { λ r. ⌜ r ≤ 1 ⌝ }
 {
     let x = substitution::sigma4(w);
-    if x != fox_server_rounds::lookups::pick4(s, w) {
+    if x != lookups::pick4(s, w) {
         return 0;
     }
-    if diffusion::mu4(x) != fox_server_rounds::lookups::pick4(t, w) {
+    if diffusion::mu4(x) != lookups::pick4(t, w) {
         return 0;
     }
     1
@@ -74,12 +75,12 @@ fn same8(s: &[u32; 1024], t: &[u64; 2048], w: u64) -> u32
     ensures { λ r. ⌜ r ≤ 1 ⌝ }
 {
     let x = substitution::sigma8(w);
-    let l = fox_server_rounds::lookups::pick4(s, (w / 0x1_0000_0000) as u32);
-    let r = fox_server_rounds::lookups::pick4(s, (w % 0x1_0000_0000) as u32);
+    let l = lookups::pick4(s, (w / 0x1_0000_0000) as u32);
+    let r = lookups::pick4(s, (w % 0x1_0000_0000) as u32);
     if x != (l as u64) * 0x1_0000_0000 + r as u64 {
         return 0;
     }
-    if diffusion::mu8(x) != fox_server_rounds::lookups::pick8(t, w) {
+    if diffusion::mu8(x) != lookups::pick8(t, w) {
         return 0;
     }
     1

@@ -2,8 +2,8 @@
 // No product uses this crate.
 ghost use mathlib.Core.Path.{_≡_};
 ghost use Rattle.fox_layers.specs.Tables.{picked};
-ghost use Rattle.fox_rounds.specs.Skeleton.{numbered, seal64, seal128};
-ghost use Rattle.fox_rounds.specs.RoundKeys.{roundKeyIn64, roundKeyIn128};
+ghost use Rattle.fox_rounds.specs.Skeleton.{seal64, seal128};
+ghost use Rattle.fox_rounds.specs.RoundKeys.{roundKeysIn64, roundKeysIn128};
 ghost use Rattle.fox_register.specs.Register.{iterate};
 ghost use Rattle.fox_sheet.specs.Answer.{Answers};
 use fox_rounds::fox64::Fox64;
@@ -32,7 +32,7 @@ pub extern "C" fn fox_probe_pick8(t: &[u64; 2048], w: u64) -> u64
 // One block sealed `blocks` times with the first 16 of the round keys passed by reference: its left word.
 #[no_mangle]
 pub extern "C" fn fox_probe_again64(keys: &[u64; 510], blocks: u32, l: u32, r: u32) -> u32
-    ensures { λ w. ⌜ w ≡ iterate blocks (seal64 (numbered (roundKeyIn64 (now (keys .entry))) 16 0)) (record { l = l; r = r }) .l ⌝ }
+    ensures { λ w. ⌜ w ≡ iterate blocks (seal64 (roundKeysIn64 (now (keys .entry)) 16)) (record { l = l; r = r }) .l ⌝ }
 {
     let s = tbs::tbs();
     let t = tbsm4::tbsm();
@@ -52,7 +52,7 @@ pub extern "C" fn fox_probe_again128(
     c: u32,
     d: u32,
 ) -> u32
-    ensures { λ w. ⌜ w ≡ iterate blocks (seal128 (numbered (roundKeyIn128 (now (keys .entry))) 16 0)) (record { ll = a; lr = b; rl = c; rr = d }) .ll ⌝ }
+    ensures { λ w. ⌜ w ≡ iterate blocks (seal128 (roundKeysIn128 (now (keys .entry)) 16)) (record { ll = a; lr = b; rl = c; rr = d }) .ll ⌝ }
 {
     let s = tbs::tbs();
     let t = tbsm8::tbsm();

@@ -28,8 +28,10 @@ use Rattle.fox_check_sheet.specs.Examples.{served}
 
 pub served-printed : Printed served
 unfolding served joined split xorEach xorOver polynomial rest product S₁ S₂ S₃ halves whole or4 lmid4 lmor4 sbox sigma dot times mu4Rows diffused
-    mu4 left right or io f f32 lmid64 or64 io64 numbered through round between inOrder turnedState seal64 pad padded mixed mkey seed clocked iterate LFSR stream groups
-    dkey words mix64 flipped layers number64 NL64 ek64 roundKeyAt64 roundKey64 refusalOf blockSize wrongCipher wrongRounds longKey wrongBlockLength wrongOutputLength
+    mu4 left right or io f f32 lmid64 or64 io64 numbered through round between inOrder turnedState seal64 pad padded mixed mkey seed clocked iterate
+    LFSR stream groups
+    dkey words mix64 flipped layers number64 NL64 ek64 roundKeyAt64 roundKey64 refusalOf blockSize wrongCipher wrongRounds longKey wrongBlockLength
+    wrongOutputLength
     forKey forBlock state64 bytes64 state bytes turnWith roundKey roundKeys codes ascii startsWith lineEnd afterLine lines
     isLine brokenFrom allDigits onward begins inRange isDecimal digitsText allHex nibble pairsOf digit hexText isDecimalLine isPairsLine
     decimalIn pairsIn decimalLineText pairsLineText cipherName roundsName keyName sealWay openWay blockName isWayLine settingTests taskTests

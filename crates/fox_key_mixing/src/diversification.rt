@@ -48,7 +48,8 @@ struct Sixteen {
 
 fn front(reg: u32) -> Sixteen
     requires { ⌜ reg < 2 ^ 24 ⌝ }
-    ensures { λ r. ⌜ ((split 8 (r .a) ++ split 8 (r .b)) ++ drop 1 (split 3 (r .last)) ≡ stream 6 reg) × (r .last ≡ iterate 5 clocked reg) × (r .last < 2 ^ 24) ⌝ }
+    ensures { λ r. ⌜ ((split 8 (r .a) ++ split 8 (r .b)) ++ drop 1 (split 3 (r .last)) ≡ stream 6 reg)
+        × (r .last ≡ iterate 5 clocked reg) × (r .last < 2 ^ 24) ⌝ }
 {
     let r1 = clocked(reg);
     let r2 = clocked(r1);

@@ -4,7 +4,8 @@
 use mathlib.Core.Path.{_≡_, refl}
 use mathlib.Core.Bool.{true, false}
 use mathlib.Core.List.{[], _∷_, _++_}
-use Rattle.fox_refusals.specs.Refusals.{refusalOf, blockSize, wrongCipher, wrongRounds, longKey, wrongBlockLength, longData, wrongOutputLength, pastEnd, forKey, forBlock, forStretch, forRun}
+use Rattle.fox_refusals.specs.Refusals.{refusalOf, blockSize, wrongCipher, wrongRounds, longKey, wrongBlockLength, longData, wrongOutputLength}
+use Rattle.fox_refusals.specs.Refusals.{pastEnd, forKey, forBlock, forStretch, forRun}
 
 pub known :
     -- a key: 1 before 2 before 3; cipher 64 and 128 alone, rounds 12 to 255, keys of 0 to 32 bytes
@@ -13,11 +14,16 @@ pub known :
     ++ (refusalOf (forKey 64 11 32) ∷ refusalOf (forKey 128 256 0) ∷ refusalOf (forKey 128 12 33) ∷ [])
     ++ (refusalOf (forKey 64 12 0) ∷ refusalOf (forKey 64 255 32) ∷ refusalOf (forKey 128 12 16) ∷ refusalOf (forKey 128 255 32) ∷ [])
     -- a block, sealed and opened: 1 before 2 before 3 before 4 before 6; 8 bytes for FOX64 and 16 for FOX128
-    ++ (refusalOf (forBlock true 65 11 32 8 8) ∷ refusalOf (forBlock true 64 256 33 8 8) ∷ refusalOf (forBlock true 64 12 33 7 7) ∷ refusalOf (forBlock true 64 12 32 7 8) ∷ [])
-    ++ (refusalOf (forBlock true 64 12 32 8 7) ∷ refusalOf (forBlock true 64 12 32 8 9) ∷ refusalOf (forBlock true 64 12 32 9 9) ∷ refusalOf (forBlock true 128 12 32 8 8) ∷ [])
-    ++ (refusalOf (forBlock false 65 11 32 8 8) ∷ refusalOf (forBlock false 64 256 33 8 8) ∷ refusalOf (forBlock false 64 12 33 7 7) ∷ refusalOf (forBlock false 64 12 32 7 8) ∷ [])
-    ++ (refusalOf (forBlock false 64 12 32 8 7) ∷ refusalOf (forBlock false 64 12 32 8 9) ∷ refusalOf (forBlock false 64 12 32 9 9) ∷ refusalOf (forBlock false 128 12 32 8 8) ∷ [])
-    ++ (refusalOf (forBlock true 64 12 0 8 8) ∷ refusalOf (forBlock true 128 12 32 16 16) ∷ refusalOf (forBlock false 64 12 0 8 8) ∷ refusalOf (forBlock false 128 12 32 16 16) ∷ [])
+    ++ (refusalOf (forBlock true 65 11 32 8 8) ∷ refusalOf (forBlock true 64 256 33 8 8) ∷ refusalOf (forBlock true 64 12 33 7 7)
+    ∷ refusalOf (forBlock true 64 12 32 7 8) ∷ [])
+    ++ (refusalOf (forBlock true 64 12 32 8 7) ∷ refusalOf (forBlock true 64 12 32 8 9) ∷ refusalOf (forBlock true 64 12 32 9 9)
+    ∷ refusalOf (forBlock true 128 12 32 8 8) ∷ [])
+    ++ (refusalOf (forBlock false 65 11 32 8 8) ∷ refusalOf (forBlock false 64 256 33 8 8) ∷ refusalOf (forBlock false 64 12 33 7 7)
+    ∷ refusalOf (forBlock false 64 12 32 7 8) ∷ [])
+    ++ (refusalOf (forBlock false 64 12 32 8 7) ∷ refusalOf (forBlock false 64 12 32 8 9) ∷ refusalOf (forBlock false 64 12 32 9 9)
+    ∷ refusalOf (forBlock false 128 12 32 8 8) ∷ [])
+    ++ (refusalOf (forBlock true 64 12 0 8 8) ∷ refusalOf (forBlock true 128 12 32 16 16) ∷ refusalOf (forBlock false 64 12 0 8 8)
+    ∷ refusalOf (forBlock false 128 12 32 16 16) ∷ [])
     -- a stretch: 1 before 2 before 3 before 4 before 5 before 6 before 7; 65,536 bytes in a call, and a run of 1,073,741,824
     ++ (refusalOf (forRun 65 11 32 8 0 0 0) ∷ refusalOf (forRun 64 256 33 8 0 0 0) ∷ [])
     ++ (refusalOf (forRun 64 12 33 7 0 0 0) ∷ refusalOf (forRun 64 12 32 7 0 65537 65537) ∷ refusalOf (forRun 64 12 32 8 0 65537 65536) ∷ [])

@@ -29,7 +29,8 @@ module _ (c rounds k : ℕ) (rks counter : List ℕ) (offset : ℕ) (ds : List �
       let sealed = call-did c rounds k rks counter offset ds seal e .output in
       let long : length after ≡ length ds = ap length sealed ∙ length-runWith c rks counter offset ds in
       let opened =
-      call-served c rounds k rks counter offset after «open» (record { keyed = known .keyed; counter = known .counter; short = omega arith; output = size; end = omega arith }) in
+      call-served c rounds k rks counter offset after «open»
+      (record { keyed = known .keyed; counter = known .counter; short = omega arith; output = size; end = omega arith }) in
       record {
         refusal = opened .refusal;
         count = opened .count ∙ long;

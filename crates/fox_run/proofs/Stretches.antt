@@ -32,7 +32,8 @@ pub stretch-opened-alone : (c rounds keyLen : ℕ) (rks counter whole : List ℕ
     → RunsWith c rounds keyLen rks counter k (take m (drop k whole)) before after r → Served m (take m (drop k (runWith c rks counter 0 whole))) after r
 stretch-opened-alone c rounds keyLen rks counter whole k m keyed size long fits short room call =
     let l : length (take m (drop k whole)) ≡ m = length-take-le m (drop k whole) (rw (length-drop k whole) (omega arith)) in
-    let s = call-served c rounds keyLen rks counter k (take m (drop k whole)) call (record { keyed = keyed; counter = size; short = omega arith; output = room ∙ sym l; end = omega arith }) in
+    let s = call-served c rounds keyLen rks counter k (take m (drop k whole)) call
+    (record { keyed = keyed; counter = size; short = omega arith; output = room ∙ sym l; end = omega arith }) in
     record { refusal = s .refusal; count = s .count ∙ l; output = s .output ∙ stretch-of-run c rks counter whole k m }
 
 -- a run cut in two
@@ -70,7 +71,8 @@ module _ (c rounds keyLen : ℕ) (rks counter : List ℕ) (call : Call)
     cuts-served fits none = none
     cuts-served {n} fits (next ds {inputs = inputs} short room made rest) =
         let l : n + (length ds + length inputs) ≤ 1073741824 = rw (length-append ds inputs) at fits in
-        let s = call-served c rounds keyLen rks counter n ds (runs n ds _ _ _ made) (record { keyed = h; counter = size; short = short; output = room; end = omega arith }) in
+        let s = call-served c rounds keyLen rks counter n ds (runs n ds _ _ _ made)
+        (record { keyed = h; counter = size; short = short; output = room; end = omega arith }) in
         next ds made (s .refusal) (cuts-served (omega arith) rest)
 
     -- so their outputs joined are the run
@@ -79,7 +81,8 @@ module _ (c rounds keyLen : ℕ) (rks counter : List ℕ) (call : Call)
     cuts-opened fits cut = (cuts-served fits cut, cuts-joined (cuts-served fits cut))
 
     -- any m bytes of a run that was opened in cuts, opened alone by one more call, are that part of what the cuts gave
-    pub stretch-of-cuts : (whole : List ℕ) {outputs : List ℕ} (k m : ℕ) {before after : List ℕ} {r : Answer} → length whole ≤ 1073741824 → CutOf call 0 whole outputs
+    pub stretch-of-cuts : (whole : List ℕ) {outputs : List ℕ} (k m : ℕ) {before after : List ℕ} {r : Answer} → length whole ≤ 1073741824
+        → CutOf call 0 whole outputs
         → k + m ≤ length whole → m ≤ 65536 → length before ≡ m → call k (take m (drop k whole)) before after r → Served m (take m (drop k outputs)) after r
     stretch-of-cuts whole k m long cut fits short room made =
         let end : 0 + length whole ≤ 1073741824 = omega arith in

@@ -6,7 +6,7 @@ use mathlib.Core.Bool.{Bool, true, false}
 use mathlib.Core.List.{List}
 use lib.Dec.{eqb}
 use lib.ListN.{length}
-use Rattle.fox_rounds.specs.Skeleton.{place}
+use Rattle.fox_rounds.specs.Skeleton.{numbered, place}
 use Rattle.fox_key_mixing.specs.Padding.{mkey}
 use Rattle.fox_register.specs.Register.{LFSR, clocked, clockedBack, iterate}
 use Rattle.fox_key_mixing.specs.Diversification.{dkey}
@@ -47,6 +47,10 @@ Scheduled cipher key (Ks128 m flip) = (cipher ≡ 64 → ⊥) × (bytes32 m ≡ 
 -- round key number i of a schedule for r rounds, counted from 0: the register has gone i times its steps
 unfoldable pub roundKeyOf : Schedule → ℕ → ℕ → ℕ
 roundKeyOf s r i = roundKeyAt s (LFSR (i * steps s) r)
+
+-- all r of them
+abbrev pub roundKeysOf : Schedule → ℕ → List ℕ
+roundKeysOf s r = numbered (roundKeyOf s r) r 0
 
 -- reg is the register's value for round number i of r, counted from 0, in sealing or in opening
 pub record RegisterAt (s : Schedule) (sealing : Bool) (r i reg : ℕ) : Type 0 where

@@ -1,9 +1,9 @@
 // One block by the server engine: from a prepared key, and from key bytes. Each call builds the tables once, in its own frame, and passes them and the round
 // keys to the rounds by reference.
 ghost use mathlib.Core.Path.{_≡_};
-ghost use Rattle.fox_rounds.specs.Skeleton.{numbered, turned};
+ghost use Rattle.fox_rounds.specs.Skeleton.{turned};
 ghost use Rattle.fox_rounds.specs.declared.state.State.the-variants.{Of64, Of128};
-ghost use Rattle.fox_rounds.specs.RoundKeys.{roundKeyIn64, roundKeyIn128};
+ghost use Rattle.fox_rounds.specs.RoundKeys.{roundKeysIn64, roundKeysIn128};
 ghost use Rattle.fox_block.specs.Block.{state64, state128, bytes};
 ghost use Rattle.fox_block.specs.Promise.{Turns, TurnsWith};
 ghost use Rattle.fox_server_block.specs.Ready.{Ready};
@@ -24,7 +24,7 @@ use fox_server_tables::tbsm8;
 
 fn block64(sealing: bool, keys: &[u64; 510], rounds: usize, block: &[u8], out: &mut [u8])
     requires { ⌜ Ready 8 rounds (now block) (now out) ⌝ }
-    ensures { λ _. ⌜ now (out .exit) ≡ bytes (turned sealing (numbered (roundKeyIn64 (now (keys .entry))) rounds 0) (Of64 (state64 (now (block .entry))))) ⌝ }
+    ensures { λ _. ⌜ now (out .exit) ≡ bytes (turned sealing (roundKeysIn64 (now (keys .entry)) rounds) (Of64 (state64 (now (block .entry))))) ⌝ }
 {
     let x = read64(block);
     let y = turn64(sealing, &tbs::tbs(), &tbsm4::tbsm(), keys, rounds, x);
@@ -33,7 +33,7 @@ fn block64(sealing: bool, keys: &[u64; 510], rounds: usize, block: &[u8], out: &
 
 fn block128(sealing: bool, keys: &[u64; 510], rounds: usize, block: &[u8], out: &mut [u8])
     requires { ⌜ Ready 16 rounds (now block) (now out) ⌝ }
-    ensures { λ _. ⌜ now (out .exit) ≡ bytes (turned sealing (numbered (roundKeyIn128 (now (keys .entry))) rounds 0) (Of128 (state128 (now (block .entry))))) ⌝ }
+    ensures { λ _. ⌜ now (out .exit) ≡ bytes (turned sealing (roundKeysIn128 (now (keys .entry)) rounds) (Of128 (state128 (now (block .entry))))) ⌝ }
 {
     let x = read128(block);
     let y = turn128(sealing, &tbs::tbs(), &tbsm8::tbsm(), keys, rounds, x);

@@ -8,8 +8,7 @@ use mathlib.Core.Bool.{cond}
 use lib.Dec.{eqb}
 use lib.ListN.{length, getD, replicate}
 use Rattle.fox_rounds.specs.Rounds.{left, right}
-use Rattle.fox_rounds.specs.Skeleton.{numbered}
-use Rattle.fox_rounds.specs.RoundKeys.{roundKeyIn64, roundKeyIn128}
+use Rattle.fox_rounds.specs.RoundKeys.{roundKeysIn64, roundKeysIn128}
 use Rattle.fox_schedule.specs.Schedule.{roundKeys}
 use Rattle.fox_refusals.specs.Refusals.{refusalOf, blockSize, forKey}
 use Rattle.fox_server_key.specs.declared.prepared.Prepared.{Prepared}
@@ -62,5 +61,5 @@ pub record Empty (r : Preparation) : Type 0 where
 -- the round keys that a prepared key holds, whoever filled it
 unfoldable pub roundKeysIn : Prepared → List ℕ
 roundKeysIn p =
-    let other = numbered (roundKeyIn128 (p .keys)) (p .rounds) 0 in
-    cond (eqb (p .cipher) 64) (numbered (roundKeyIn64 (p .keys)) (p .rounds) 0) other
+    let other = roundKeysIn128 (p .keys) (p .rounds) in
+    cond (eqb (p .cipher) 64) (roundKeysIn64 (p .keys) (p .rounds)) other

@@ -4,8 +4,7 @@ ghost use mathlib.Core.Bool.{true};
 ghost use mathlib.Core.Path.{_≡_};
 ghost use Prim.Native.Nat.{_+_, _*_, _≤_};
 ghost use lib.ListN.{length};
-ghost use Rattle.fox_rounds.specs.Skeleton.{numbered};
-ghost use Rattle.fox_schedule.specs.Step.{narrow, roundKeyOf};
+ghost use Rattle.fox_schedule.specs.Step.{narrow, roundKeysOf};
 ghost use Rattle.fox_server_key.specs.Prepared.{inHalves, filled, preparedWords, noKey, Prepares};
 use fox_refusals::answer::Answer;
 use fox_refusals::refusals::block_size;
@@ -27,7 +26,7 @@ pub struct Preparation {
 
 fn fill64(s: Schedule, rounds: u8) -> [u64; 510]
     requires { ⌜ (narrow s ≡ true) × (1 ≤ rounds) ⌝ }
-    ensures { λ r. ⌜ r ≡ filled (numbered (roundKeyOf s rounds) rounds 0) ⌝ }
+    ensures { λ r. ⌜ r ≡ filled (roundKeysOf s rounds) ⌝ }
 {
     let mut keys = [0u64; 510];
     let mut reg = s.first(true, rounds);
@@ -41,7 +40,7 @@ fn fill64(s: Schedule, rounds: u8) -> [u64; 510]
 
 fn fill128(s: Schedule, rounds: u8) -> [u64; 510]
     requires { ⌜ 1 ≤ rounds ⌝ }
-    ensures { λ r. ⌜ r ≡ filled (inHalves (numbered (roundKeyOf s rounds) rounds 0)) ⌝ }
+    ensures { λ r. ⌜ r ≡ filled (inHalves (roundKeysOf s rounds)) ⌝ }
 {
     let mut keys = [0u64; 510];
     let mut reg = s.first(true, rounds);

@@ -3,9 +3,9 @@ ghost use mathlib.Core.Path.{_≡_};
 ghost use Prim.Native.Nat.{_+_, _*_, _^_, _≤_, _<_};
 ghost use Rattle.fox_layers.specs.Diffusion.{mu8Rows};
 ghost use Rattle.fox_rounds.specs.Rounds.{elmid128};
-ghost use Rattle.fox_rounds.specs.Skeleton.{numbered, turned};
+ghost use Rattle.fox_rounds.specs.Skeleton.{turned};
 ghost use Rattle.fox_rounds.specs.declared.state.State.the-variants.{Of128};
-ghost use Rattle.fox_rounds.specs.RoundKeys.{roundKeyIn128};
+ghost use Rattle.fox_rounds.specs.RoundKeys.{roundKeyIn128, roundKeysIn128};
 ghost use Rattle.fox_server_rounds.specs.Tables.{TablesOf};
 use crate::lookups::pick4;
 use crate::lookups::pick8;
@@ -54,7 +54,7 @@ pub fn turn128(
 ) -> Fox128
     requires { ⌜ TablesOf mu8Rows (now s) (now t) ⌝ }
     requires { ⌜ (1 ≤ rounds) × (rounds ≤ 255) ⌝ }
-    ensures { λ r. ⌜ Of128 r ≡ turned sealing (numbered (roundKeyIn128 (now (keys .entry))) rounds 0) (Of128 x) ⌝ }
+    ensures { λ r. ⌜ Of128 r ≡ turned sealing (roundKeysIn128 (now (keys .entry)) rounds) (Of128 x) ⌝ }
 {
     let last = rounds - 1;
     let mut y = x;

@@ -3,9 +3,9 @@ ghost use mathlib.Core.Path.{_≡_};
 ghost use Prim.Native.Nat.{_≤_};
 ghost use Rattle.fox_layers.specs.Diffusion.{mu4Rows};
 ghost use Rattle.fox_rounds.specs.Rounds.{f32, lmid64};
-ghost use Rattle.fox_rounds.specs.Skeleton.{numbered, turned};
+ghost use Rattle.fox_rounds.specs.Skeleton.{turned};
 ghost use Rattle.fox_rounds.specs.declared.state.State.the-variants.{Of64};
-ghost use Rattle.fox_rounds.specs.RoundKeys.{roundKeyIn64};
+ghost use Rattle.fox_rounds.specs.RoundKeys.{roundKeysIn64};
 ghost use Rattle.fox_server_rounds.specs.Tables.{TablesOf};
 use crate::lookups::pick4;
 use crate::order::place;
@@ -42,7 +42,7 @@ pub fn turn64(
 ) -> Fox64
     requires { ⌜ TablesOf mu4Rows (now s) (now t) ⌝ }
     requires { ⌜ (1 ≤ rounds) × (rounds ≤ 255) ⌝ }
-    ensures { λ r. ⌜ Of64 r ≡ turned sealing (numbered (roundKeyIn64 (now (keys .entry))) rounds 0) (Of64 x) ⌝ }
+    ensures { λ r. ⌜ Of64 r ≡ turned sealing (roundKeysIn64 (now (keys .entry)) rounds) (Of64 x) ⌝ }
 {
     let last = rounds - 1;
     let mut y = x;

@@ -3,8 +3,7 @@
 ghost use mathlib.Core.Path.{_≡_};
 ghost use Prim.Native.Nat.{_+_, _*_, _^_, _≤_};
 ghost use Rattle.fox_layers.specs.Diffusion.{mu8Rows};
-ghost use Rattle.fox_rounds.specs.Skeleton.{numbered};
-ghost use Rattle.fox_rounds.specs.RoundKeys.{roundKeyIn128};
+ghost use Rattle.fox_rounds.specs.RoundKeys.{roundKeysIn128};
 ghost use Rattle.fox_server_rounds.specs.Tables.{TablesOf};
 ghost use Rattle.fox_server_rounds_four.specs.Four.{elmidFour128, orFour128, sealFour128};
 use fox_rounds::fox128::Fox128;
@@ -61,7 +60,7 @@ pub fn seal_four128(
     requires { ⌜ TablesOf mu8Rows (now s) (now t) ⌝ }
     requires { ⌜ 1 ≤ rounds ⌝ }
     requires { ⌜ rounds ≤ 255 ⌝ }
-    ensures { λ r. ⌜ r ≡ sealFour128 (numbered (roundKeyIn128 (now (keys .entry))) rounds 0) x ⌝ }
+    ensures { λ r. ⌜ r ≡ sealFour128 (roundKeysIn128 (now (keys .entry)) rounds) x ⌝ }
 {
     let last = rounds - 1;
     let mut y = x;

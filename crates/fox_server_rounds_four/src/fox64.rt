@@ -3,8 +3,7 @@
 ghost use mathlib.Core.Path.{_≡_};
 ghost use Prim.Native.Nat.{_≤_};
 ghost use Rattle.fox_layers.specs.Diffusion.{mu4Rows};
-ghost use Rattle.fox_rounds.specs.Skeleton.{numbered};
-ghost use Rattle.fox_rounds.specs.RoundKeys.{roundKeyIn64};
+ghost use Rattle.fox_rounds.specs.RoundKeys.{roundKeysIn64};
 ghost use Rattle.fox_server_rounds.specs.Tables.{TablesOf};
 ghost use Rattle.fox_server_rounds_four.specs.Four.{lmidFour64, orFour64, sealFour64};
 use fox_rounds::fox64::Fox64;
@@ -61,7 +60,7 @@ pub fn seal_four64(
     requires { ⌜ TablesOf mu4Rows (now s) (now t) ⌝ }
     requires { ⌜ 1 ≤ rounds ⌝ }
     requires { ⌜ rounds ≤ 510 ⌝ }
-    ensures { λ r. ⌜ r ≡ sealFour64 (numbered (roundKeyIn64 (now (keys .entry))) rounds 0) x ⌝ }
+    ensures { λ r. ⌜ r ≡ sealFour64 (roundKeysIn64 (now (keys .entry)) rounds) x ⌝ }
 {
     let last = rounds - 1;
     let mut y = x;

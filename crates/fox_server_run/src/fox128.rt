@@ -3,9 +3,8 @@ ghost use mathlib.Core.Path.{_≡_};
 ghost use Prim.Native.Nat.{_+_, _≤_};
 ghost use lib.ListN.{length};
 ghost use Rattle.fox_layers.specs.Diffusion.{mu8Rows};
-ghost use Rattle.fox_rounds.specs.Skeleton.{numbered};
 ghost use Rattle.fox_rounds.specs.declared.state.State.the-variants.{Of128};
-ghost use Rattle.fox_rounds.specs.RoundKeys.{roundKeyIn128};
+ghost use Rattle.fox_rounds.specs.RoundKeys.{roundKeysIn128};
 ghost use Rattle.fox_server_rounds.specs.Tables.{TablesOf};
 ghost use Rattle.fox_block.specs.Block.{state128};
 ghost use Rattle.fox_run.specs.Run.{xorFrom};
@@ -33,7 +32,7 @@ fn one_block128(
 ) -> usize
     requires { ⌜ TablesOf mu8Rows (now s) (now t) ⌝ }
     requires { ⌜ (1 ≤ rounds) × (rounds ≤ 255) × (n ≤ 1073741824) × (length (now out) ≡ length (now input)) ⌝ }
-    ensures { λ r. ⌜ Part (stream (numbered (roundKeyIn128 (now (keys .entry))) rounds 0) (Of128 x)) n (now (input .entry)) (now (out .entry)) (now (out .exit)) r ⌝ }
+    ensures { λ r. ⌜ Part (stream (roundKeysIn128 (now (keys .entry)) rounds) (Of128 x)) n (now (input .entry)) (now (out .entry)) (now (out .exit)) r ⌝ }
 {
     let block = counted128(x, (n / 16) as u32);
     let sealed = turn128(true, s, t, keys, rounds, block);
@@ -53,7 +52,7 @@ fn part128(
 ) -> usize
     requires { ⌜ TablesOf mu8Rows (now s) (now t) ⌝ }
     requires { ⌜ (1 ≤ rounds) × (rounds ≤ 255) × (n + length (now input) ≤ 1073741824) × (length (now out) ≡ length (now input)) ⌝ }
-    ensures { λ r. ⌜ Part (stream (numbered (roundKeyIn128 (now (keys .entry))) rounds 0) (Of128 x)) n (now (input .entry)) (now (out .entry)) (now (out .exit)) r ⌝ }
+    ensures { λ r. ⌜ Part (stream (roundKeysIn128 (now (keys .entry)) rounds) (Of128 x)) n (now (input .entry)) (now (out .entry)) (now (out .exit)) r ⌝ }
 {
     if input.len() >= 64 {
         if n % 16 == 0 {
@@ -77,7 +76,7 @@ fn stretch128(
 )
     requires { ⌜ TablesOf mu8Rows (now s) (now t) ⌝ }
     requires { ⌜ (1 ≤ rounds) × (rounds ≤ 255) × (n + length (now input) ≤ 1073741824) × (length (now out) ≡ length (now input)) ⌝ }
-    ensures { λ _. ⌜ now (out .exit) ≡ xorFrom (stream (numbered (roundKeyIn128 (now (keys .entry))) rounds 0) (Of128 x)) n (now (input .entry)) ⌝ }
+    ensures { λ _. ⌜ now (out .exit) ≡ xorFrom (stream (roundKeysIn128 (now (keys .entry)) rounds) (Of128 x)) n (now (input .entry)) ⌝ }
 {
     let mut at = 0;
     while at < input.len() {
@@ -86,7 +85,7 @@ fn stretch128(
     }
 }
 
-pub fn run128(
+pub(crate) fn run128(
     keys: &[u64; 510],
     rounds: usize,
     counter: &[u8],
@@ -95,7 +94,8 @@ pub fn run128(
     out: &mut [u8],
 )
     requires { ⌜ Ready 16 rounds (now counter) n (now input) (now out) ⌝ }
-    ensures { λ _. ⌜ now (out .exit) ≡ xorFrom (stream (numbered (roundKeyIn128 (now (keys .entry))) rounds 0) (Of128 (state128 (now (counter .entry))))) n (now (input .entry)) ⌝ }
+    ensures { λ _. ⌜ now (out .exit)
+        ≡ xorFrom (stream (roundKeysIn128 (now (keys .entry)) rounds) (Of128 (state128 (now (counter .entry))))) n (now (input .entry)) ⌝ }
 {
     let x = read128(counter);
     stretch128(&tbs::tbs(), &tbsm8::tbsm(), keys, rounds, x, n, input, out);

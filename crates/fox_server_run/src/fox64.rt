@@ -3,9 +3,8 @@ ghost use mathlib.Core.Path.{_≡_};
 ghost use Prim.Native.Nat.{_+_, _≤_};
 ghost use lib.ListN.{length};
 ghost use Rattle.fox_layers.specs.Diffusion.{mu4Rows};
-ghost use Rattle.fox_rounds.specs.Skeleton.{numbered};
 ghost use Rattle.fox_rounds.specs.declared.state.State.the-variants.{Of64};
-ghost use Rattle.fox_rounds.specs.RoundKeys.{roundKeyIn64};
+ghost use Rattle.fox_rounds.specs.RoundKeys.{roundKeysIn64};
 ghost use Rattle.fox_server_rounds.specs.Tables.{TablesOf};
 ghost use Rattle.fox_block.specs.Block.{state64};
 ghost use Rattle.fox_run.specs.Run.{xorFrom};
@@ -33,7 +32,7 @@ fn one_block64(
 ) -> usize
     requires { ⌜ TablesOf mu4Rows (now s) (now t) ⌝ }
     requires { ⌜ (1 ≤ rounds) × (rounds ≤ 255) × (n ≤ 1073741824) × (length (now out) ≡ length (now input)) ⌝ }
-    ensures { λ r. ⌜ Part (stream (numbered (roundKeyIn64 (now (keys .entry))) rounds 0) (Of64 x)) n (now (input .entry)) (now (out .entry)) (now (out .exit)) r ⌝ }
+    ensures { λ r. ⌜ Part (stream (roundKeysIn64 (now (keys .entry)) rounds) (Of64 x)) n (now (input .entry)) (now (out .entry)) (now (out .exit)) r ⌝ }
 {
     let block = counted64(x, (n / 8) as u32);
     let sealed = turn64(true, s, t, keys, rounds, block);
@@ -53,7 +52,7 @@ fn part64(
 ) -> usize
     requires { ⌜ TablesOf mu4Rows (now s) (now t) ⌝ }
     requires { ⌜ (1 ≤ rounds) × (rounds ≤ 255) × (n + length (now input) ≤ 1073741824) × (length (now out) ≡ length (now input)) ⌝ }
-    ensures { λ r. ⌜ Part (stream (numbered (roundKeyIn64 (now (keys .entry))) rounds 0) (Of64 x)) n (now (input .entry)) (now (out .entry)) (now (out .exit)) r ⌝ }
+    ensures { λ r. ⌜ Part (stream (roundKeysIn64 (now (keys .entry)) rounds) (Of64 x)) n (now (input .entry)) (now (out .entry)) (now (out .exit)) r ⌝ }
 {
     if input.len() >= 32 {
         if n % 8 == 0 {
@@ -77,7 +76,7 @@ fn stretch64(
 )
     requires { ⌜ TablesOf mu4Rows (now s) (now t) ⌝ }
     requires { ⌜ (1 ≤ rounds) × (rounds ≤ 255) × (n + length (now input) ≤ 1073741824) × (length (now out) ≡ length (now input)) ⌝ }
-    ensures { λ _. ⌜ now (out .exit) ≡ xorFrom (stream (numbered (roundKeyIn64 (now (keys .entry))) rounds 0) (Of64 x)) n (now (input .entry)) ⌝ }
+    ensures { λ _. ⌜ now (out .exit) ≡ xorFrom (stream (roundKeysIn64 (now (keys .entry)) rounds) (Of64 x)) n (now (input .entry)) ⌝ }
 {
     let mut at = 0;
     while at < input.len() {
@@ -86,7 +85,7 @@ fn stretch64(
     }
 }
 
-pub fn run64(
+pub(crate) fn run64(
     keys: &[u64; 510],
     rounds: usize,
     counter: &[u8],
@@ -95,7 +94,8 @@ pub fn run64(
     out: &mut [u8],
 )
     requires { ⌜ Ready 8 rounds (now counter) n (now input) (now out) ⌝ }
-    ensures { λ _. ⌜ now (out .exit) ≡ xorFrom (stream (numbered (roundKeyIn64 (now (keys .entry))) rounds 0) (Of64 (state64 (now (counter .entry))))) n (now (input .entry)) ⌝ }
+    ensures { λ _. ⌜ now (out .exit)
+        ≡ xorFrom (stream (roundKeysIn64 (now (keys .entry)) rounds) (Of64 (state64 (now (counter .entry))))) n (now (input .entry)) ⌝ }
 {
     let x = read64(counter);
     stretch64(&tbs::tbs(), &tbsm4::tbsm(), keys, rounds, x, n, input, out);

@@ -10,7 +10,8 @@ use fox_server_key::prepared::prepare;
 
 // From a prepared key: the answer is that of the round keys it holds, also where the caller filled it.
 pub fn run(p: Prepared, counter: &[u8], offset: u64, input: &[u8], out: &mut [u8]) -> Answer
-    ensures { λ r. ⌜ RunsWith (p .cipher) (p .rounds) (p .«key_len») (roundKeysIn p) (now (counter .entry)) offset (now (input .entry)) (now (out .entry)) (now (out .exit)) r ⌝ }
+    ensures { λ r. ⌜ RunsWith (p .cipher) (p .rounds) (p .«key_len») (roundKeysIn p) (now (counter .entry)) offset (now (input .entry))
+        (now (out .entry)) (now (out .exit)) r ⌝ }
 {
     let refusal = for_run(
         p.cipher,

@@ -5,9 +5,8 @@ ghost use Prim.Native.Nat.{_+_, _%_, _≤_};
 ghost use lib.ListN.{length, drop};
 ghost use Rattle.fox_layers.specs.Words.{xorEach};
 ghost use Rattle.fox_layers.specs.Diffusion.{mu8Rows};
-ghost use Rattle.fox_rounds.specs.Skeleton.{numbered};
 ghost use Rattle.fox_rounds.specs.declared.state.State.the-variants.{Of128};
-ghost use Rattle.fox_rounds.specs.RoundKeys.{roundKeyIn128};
+ghost use Rattle.fox_rounds.specs.RoundKeys.{roundKeysIn128};
 ghost use Rattle.fox_server_rounds.specs.Tables.{TablesOf};
 ghost use Rattle.fox_block.specs.Block.{bytes128};
 ghost use Rattle.fox_run.specs.States.{counted128, stream};
@@ -28,7 +27,9 @@ fn xor_two128(x: Fox128, y: Fox128, input: &[u8], out: &mut [u8])
 
 fn xor_four128(x: Four128, input: &[u8], out: &mut [u8])
     requires { ⌜ (64 ≤ length (now input)) × (64 ≤ length (now out)) ⌝ }
-    ensures { λ _. ⌜ now (out .exit) ≡ xorEach ((bytes128 (x .first) ++ bytes128 (x .second)) ++ (bytes128 (x .third) ++ bytes128 (x .fourth))) (now (input .entry)) ++ drop 64 (now (out .entry)) ⌝ }
+    ensures { λ _. ⌜ now (out .exit)
+        ≡ xorEach ((bytes128 (x .first) ++ bytes128 (x .second)) ++ (bytes128 (x .third) ++ bytes128 (x .fourth))) (now (input .entry))
+        ++ drop 64 (now (out .entry)) ⌝ }
 {
     let p = x.first;
     let q = x.second;
@@ -40,7 +41,8 @@ fn xor_four128(x: Four128, input: &[u8], out: &mut [u8])
 
 fn counted_four128(x: Fox128, i: u32) -> Four128
     requires { ⌜ i + 3 ≤ 4294967295 ⌝ }
-    ensures { λ r. ⌜ (r .first ≡ counted128 x i) × (r .second ≡ counted128 x (i + 1)) × (r .third ≡ counted128 x (i + 2)) × (r .fourth ≡ counted128 x (i + 3)) ⌝ }
+    ensures { λ r. ⌜ (r .first ≡ counted128 x i) × (r .second ≡ counted128 x (i + 1))
+        × (r .third ≡ counted128 x (i + 2)) × (r .fourth ≡ counted128 x (i + 3)) ⌝ }
 {
     Four128 {
         first: counted128(x, i),
@@ -63,7 +65,7 @@ pub fn four_blocks128(
 )
     requires { ⌜ TablesOf mu8Rows (now s) (now t) ⌝ }
     requires { ⌜ (1 ≤ rounds) × (rounds ≤ 255) × (n % 16 ≡ 0) × (n + 64 ≤ 1073741824) × (64 ≤ length (now input)) × (64 ≤ length (now out)) ⌝ }
-    ensures { λ _. ⌜ XoredTo (stream (numbered (roundKeyIn128 (now (keys .entry))) rounds 0) (Of128 x)) n (now (input .entry)) (now (out .entry)) 64 (now (out .exit)) ⌝ }
+    ensures { λ _. ⌜ XoredTo (stream (roundKeysIn128 (now (keys .entry)) rounds) (Of128 x)) n (now (input .entry)) (now (out .entry)) 64 (now (out .exit)) ⌝ }
 {
     let blocks = counted_four128(x, (n / 16) as u32);
     let sealed = seal_four128(s, t, keys, rounds, blocks);

@@ -5,9 +5,8 @@ ghost use Prim.Native.Nat.{_+_, _%_, _≤_};
 ghost use lib.ListN.{length, drop};
 ghost use Rattle.fox_layers.specs.Words.{xorEach};
 ghost use Rattle.fox_layers.specs.Diffusion.{mu4Rows};
-ghost use Rattle.fox_rounds.specs.Skeleton.{numbered};
 ghost use Rattle.fox_rounds.specs.declared.state.State.the-variants.{Of64};
-ghost use Rattle.fox_rounds.specs.RoundKeys.{roundKeyIn64};
+ghost use Rattle.fox_rounds.specs.RoundKeys.{roundKeysIn64};
 ghost use Rattle.fox_server_rounds.specs.Tables.{TablesOf};
 ghost use Rattle.fox_block.specs.Block.{bytes64};
 ghost use Rattle.fox_run.specs.States.{counted64, stream};
@@ -28,7 +27,9 @@ fn xor_two64(x: Fox64, y: Fox64, input: &[u8], out: &mut [u8])
 
 fn xor_four64(x: Four64, input: &[u8], out: &mut [u8])
     requires { ⌜ (32 ≤ length (now input)) × (32 ≤ length (now out)) ⌝ }
-    ensures { λ _. ⌜ now (out .exit) ≡ xorEach ((bytes64 (x .first) ++ bytes64 (x .second)) ++ (bytes64 (x .third) ++ bytes64 (x .fourth))) (now (input .entry)) ++ drop 32 (now (out .entry)) ⌝ }
+    ensures { λ _. ⌜ now (out .exit)
+        ≡ xorEach ((bytes64 (x .first) ++ bytes64 (x .second)) ++ (bytes64 (x .third) ++ bytes64 (x .fourth))) (now (input .entry))
+        ++ drop 32 (now (out .entry)) ⌝ }
 {
     let p = x.first;
     let q = x.second;
@@ -40,7 +41,8 @@ fn xor_four64(x: Four64, input: &[u8], out: &mut [u8])
 
 fn counted_four64(x: Fox64, i: u32) -> Four64
     requires { ⌜ i + 3 ≤ 4294967295 ⌝ }
-    ensures { λ r. ⌜ (r .first ≡ counted64 x i) × (r .second ≡ counted64 x (i + 1)) × (r .third ≡ counted64 x (i + 2)) × (r .fourth ≡ counted64 x (i + 3)) ⌝ }
+    ensures { λ r. ⌜ (r .first ≡ counted64 x i) × (r .second ≡ counted64 x (i + 1))
+        × (r .third ≡ counted64 x (i + 2)) × (r .fourth ≡ counted64 x (i + 3)) ⌝ }
 {
     Four64 {
         first: counted64(x, i),
@@ -63,7 +65,7 @@ pub fn four_blocks64(
 )
     requires { ⌜ TablesOf mu4Rows (now s) (now t) ⌝ }
     requires { ⌜ (1 ≤ rounds) × (rounds ≤ 255) × (n % 8 ≡ 0) × (n + 32 ≤ 1073741824) × (32 ≤ length (now input)) × (32 ≤ length (now out)) ⌝ }
-    ensures { λ _. ⌜ XoredTo (stream (numbered (roundKeyIn64 (now (keys .entry))) rounds 0) (Of64 x)) n (now (input .entry)) (now (out .entry)) 32 (now (out .exit)) ⌝ }
+    ensures { λ _. ⌜ XoredTo (stream (roundKeysIn64 (now (keys .entry)) rounds) (Of64 x)) n (now (input .entry)) (now (out .entry)) 32 (now (out .exit)) ⌝ }
 {
     let blocks = counted_four64(x, (n / 8) as u32);
     let sealed = seal_four64(s, t, keys, rounds, blocks);

@@ -10,12 +10,14 @@ use Rattle.fox_text.specs.Rules.{isLine, brokenFrom}
 use Rattle.fox_text.specs.Decimal.{allDigits, onward, begins, inRange, isDecimal, digitsText}
 use Rattle.fox_text.specs.Hex.{allHex, nibble, pairsOf}
 use Rattle.fox_text.specs.Fields.{isDecimalLine, isPairsLine, decimalIn, pairsIn, decimalLineText}
-use Rattle.fox_sheet.specs.Sheet.{cipherName, roundsName, keyName, sealWay, openWay, blockName, isWayLine, settingTests, taskTests, brokenLine, said, valuesOf}
+use Rattle.fox_sheet.specs.Sheet.{cipherName, roundsName, keyName, sealWay, openWay, blockName, isWayLine, settingTests, taskTests, brokenLine}
+use Rattle.fox_sheet.specs.Sheet.{said, valuesOf}
 use Rattle.fox_sheet.specs.Answer.{refusalName, lineName, brokenText, refusal, blockText, answerOf}
 use Rattle.fox_sheet.specs.Examples.{Printed, zeros, broken, refused}
 
 pub printed : Printed (broken ++ refused)
-unfolding broken refused zeros refusalOf blockSize wrongCipher wrongRounds longKey wrongBlockLength wrongOutputLength forKey forBlock codes ascii startsWith lineEnd
+unfolding broken refused zeros refusalOf blockSize wrongCipher wrongRounds longKey wrongBlockLength wrongOutputLength forKey forBlock codes ascii
+    startsWith lineEnd
     afterLine lines isLine brokenFrom allDigits onward begins inRange isDecimal digitsText allHex nibble pairsOf isDecimalLine isPairsLine
     decimalIn pairsIn decimalLineText cipherName roundsName keyName sealWay openWay blockName isWayLine settingTests taskTests brokenLine
     said valuesOf refusalName lineName brokenText refusal blockText answerOf

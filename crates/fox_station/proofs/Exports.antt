@@ -52,8 +52,10 @@ run-exports-agree c rounds key counter offset ds l a b =
     runs-same c rounds (length key) (roundKeys c rounds key) counter offset ds l (handed-reply a) (handed-reply b)
 
 -- a block of the cipher's size is served, and sealed or opened
-pub block-export-served : (d : Bool) (c rounds : ℕ) (key block : List ℕ) → Keyed c rounds (length key) → length block ≡ blockSize c → {before after : List ℕ} {n : ℕ}
-    → length before ≡ blockSize c → TurnHanded d c rounds key block before after n → Served (blockSize c) (turnBlock d c rounds key block) after (answer n (length before))
+pub block-export-served : (d : Bool) (c rounds : ℕ) (key block : List ℕ) → Keyed c rounds (length key) → length block ≡ blockSize c
+    → {before after : List ℕ} {n : ℕ}
+    → length before ≡ blockSize c → TurnHanded d c rounds key block before after n → Served (blockSize c) (turnBlock d c rounds key block) after
+    (answer n (length before))
 block-export-served d c rounds key block k size room call =
     block-served d c rounds (length key) (roundKeys c rounds key) block k size room (handed-reply call)
 
@@ -103,7 +105,8 @@ module _ (c rounds : ℕ) (key counter : List ℕ) where
   export-byte offset ds call i within = call-byte c (roundKeys c rounds key) counter offset ds i within rounds (length key) (handed-reply call) refl
 
   -- a run cut anywhere, each stretch by some export: the outputs joined are the run
-  pub exports-joined : {n : ℕ} {inputs outputs : List ℕ} → CallsOf (RunExport c rounds key counter) n inputs outputs → outputs ≡ run c rounds key counter n inputs
+  pub exports-joined : {n : ℕ} {inputs outputs : List ℕ} → CallsOf (RunExport c rounds key counter) n inputs outputs → outputs
+      ≡ run c rounds key counter n inputs
   exports-joined = cuts-joined c rounds (length key) (roundKeys c rounds key) counter (RunExport c rounds key counter) export-runs
 
   -- the outputs joined are the same, whatever the cuts and the exports

@@ -56,7 +56,9 @@ words-8 bs h l =
     ∙ front-word 4 bs h (omega arith))
 
 -- sixteen bytes, as the bytes of their four words
-pub words-16 : (bs : List ℕ) → Bytes bs → length bs ≡ 16 → bs ≡ split 4 (joined (take 4 bs)) ++ split 4 (joined (take 4 (drop 4 bs))) ++ split 4 (joined (take 4 (drop 8 bs))) ++ split 4 (joined (take 4 (drop 12 bs)))
+pub words-16 : (bs : List ℕ) → Bytes bs → length bs ≡ 16
+    → bs ≡ split 4 (joined (take 4 bs)) ++ split 4 (joined (take 4 (drop 4 bs)))
+    ++ split 4 (joined (take 4 (drop 8 bs))) ++ split 4 (joined (take 4 (drop 12 bs)))
 unfolding split
 words-16 bs h l =
     let w : List ℕ → List ℕ = λ xs. split 4 (joined (take 4 xs)) in

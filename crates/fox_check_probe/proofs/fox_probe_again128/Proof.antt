@@ -4,16 +4,16 @@ use borrow.Author.Needs.{needs}
 use mathlib.Core.Path.{_≡_, refl, sym, ap, _∙_}
 use Prim.Native.Nat.{_-_, _≤_}
 use native.Mathlib.Omega.{arith}
-use Rattle.fox_rounds.specs.Skeleton.{numbered, seal128}
+use Rattle.fox_rounds.specs.Skeleton.{seal128}
 use Rattle.fox_rounds.proofs.Laws.Skeleton.{sealed-128}
-use Rattle.fox_rounds.specs.RoundKeys.{roundKeyIn128}
+use Rattle.fox_rounds.specs.RoundKeys.{roundKeysIn128}
 use Rattle.fox_register.specs.Register.{iterate}
 use Rattle.fox_register.proofs.Laws.Register.{iterate-suc}
 use Rattle.fox_check_probe.proofs.fox_probe_again128.Statement.{statement}
 use Rattle.fox_check_probe.proofs.fox_probe_again128.Tie as tie
 
 abbrev Inv-loop : tie.InvT-loop
-Inv-loop keys blocks a b c d s t y₀ i₀ y i = (i ≤ blocks) × (y ≡ iterate i (seal128 (numbered (roundKeyIn128 keys) 16 0)) y₀)
+Inv-loop keys blocks a b c d s t y₀ i₀ y i = (i ≤ blocks) × (y ≡ iterate i (seal128 (roundKeysIn128 keys 16)) y₀)
 
 abbrev μ-loop : tie.MeasureT-loop
 μ-loop keys blocks a b c d s t y₀ i₀ y i = blocks - i
@@ -32,7 +32,7 @@ loop-again c =
     let turn = c .before .before .before in
     let at = turn .before in
     let start = at .before .before .before .before in
-    let ks = numbered (roundKeyIn128 (start .args .keys .now)) 16 0 in
+    let ks = roundKeysIn128 (start .args .keys .now) 16 in
     let one = seal128 ks in
     let is : c .turn128 .result ≡ one (at .loop .y) = cc (c .turn128 .ensures ∙ sealed-128 ks (at .loop .y)) in
     let one-more = iterate-suc (at .loop .i) one (at .before .new .result) in

@@ -4,16 +4,16 @@ use borrow.Author.Needs.{needs}
 use mathlib.Core.Path.{_≡_, refl, sym, ap, _∙_}
 use Prim.Native.Nat.{_-_, _≤_}
 use native.Mathlib.Omega.{arith}
-use Rattle.fox_rounds.specs.Skeleton.{numbered, seal64}
+use Rattle.fox_rounds.specs.Skeleton.{seal64}
 use Rattle.fox_rounds.proofs.Laws.Skeleton.{sealed-64}
-use Rattle.fox_rounds.specs.RoundKeys.{roundKeyIn64}
+use Rattle.fox_rounds.specs.RoundKeys.{roundKeysIn64}
 use Rattle.fox_register.specs.Register.{iterate}
 use Rattle.fox_register.proofs.Laws.Register.{iterate-suc}
 use Rattle.fox_check_probe.proofs.fox_probe_again64.Statement.{statement}
 use Rattle.fox_check_probe.proofs.fox_probe_again64.Tie as tie
 
 abbrev Inv-loop : tie.InvT-loop
-Inv-loop keys blocks l r s t y₀ i₀ y i = (i ≤ blocks) × (y ≡ iterate i (seal64 (numbered (roundKeyIn64 keys) 16 0)) y₀)
+Inv-loop keys blocks l r s t y₀ i₀ y i = (i ≤ blocks) × (y ≡ iterate i (seal64 (roundKeysIn64 keys 16)) y₀)
 
 abbrev μ-loop : tie.MeasureT-loop
 μ-loop keys blocks l r s t y₀ i₀ y i = blocks - i
@@ -32,7 +32,7 @@ loop-again c =
     let turn = c .before .before .before in
     let at = turn .before in
     let start = at .before .before .before .before in
-    let ks = numbered (roundKeyIn64 (start .args .keys .now)) 16 0 in
+    let ks = roundKeysIn64 (start .args .keys .now) 16 in
     let one = seal64 ks in
     let is : c .turn64 .result ≡ one (at .loop .y) = cc (c .turn64 .ensures ∙ sealed-64 ks (at .loop .y)) in
     let one-more = iterate-suc (at .loop .i) one (at .before .new .result) in

@@ -8,7 +8,9 @@ use mathlib.Core.List.{List, [], _∷_, _++_}
 use Prim.Native.Nat.{ℕ, _+_, _≤_}
 use lib.Dec.{ltb, eqb}
 use borrow.Author.Tests.{ltb-false, eqb-true, eqb-false, le-ltb, eq-eqb, ne-eqb, not-false}
-use Rattle.fox_refusals.specs.Refusals.{Refusal, refusalOf, First, here, later, orElse, differs, blockSize, wrongCipher, wrongRounds, longKey, wrongBlockLength, longData, wrongOutputLength, pastEnd, forKey, forBlock, forStretch, forRun, Keyed, Blocked, Stretched}
+use Rattle.fox_refusals.specs.Refusals.{Refusal, refusalOf, First, here, later, orElse, differs, blockSize, wrongCipher, wrongRounds, longKey}
+use Rattle.fox_refusals.specs.Refusals.{wrongBlockLength, longData, wrongOutputLength, pastEnd, forKey, forBlock, forStretch, forRun, Keyed}
+use Rattle.fox_refusals.specs.Refusals.{Blocked, Stretched}
 
 -- no test of the list applies
 unfoldable pub Passed : List Refusal → Type 0
@@ -174,8 +176,19 @@ pub stretched-served : {c r k b n d o : ℕ} → Stretched c r k b n d o → ref
 unfolding Passed forKey forStretch forRun wrongBlockLength longData wrongOutputLength pastEnd
 stretched-served {c} {r} {k} {b} {n} {d} {o} h =
     let p = keyed-passed (h .keyed) in
-    passed-served (forRun c r k b n d o)
-    (p .0, (p .1 .0, (p .1 .1 .0, (differs-passed b (blockSize c) (h .counter), (le-ltb 65536 d (h .short), (differs-passed o d (h .output), (le-ltb 1073741824 (n + d) (h .end), tt)))))))
+    passed-served (forRun c r k b n d o) (
+      p .0,
+      (
+        p .1 .0,
+        (
+          p .1 .1 .0,
+          (
+            differs-passed b (blockSize c) (h .counter),
+            (le-ltb 65536 d (h .short), (differs-passed o d (h .output), (le-ltb 1073741824 (n + d) (h .end), tt))),
+          ),
+        ),
+      ),
+    )
 
 pub stretched : (c r k b n d o : ℕ) → refusalOf (forRun c r k b n d o) ≡ 0 → Stretched c r k b n d o
 unfolding Passed numbered forKey forStretch forRun wrongCipher wrongRounds longKey wrongBlockLength longData wrongOutputLength pastEnd

@@ -20,7 +20,8 @@ chosen n a b e = simp (eq-eqb n 0 e)
 pub passed-over : {A : Type 0} (n : ℕ) (a b : A) → (n ≡ 0 → ⊥) → b ≡ cond (eqb n 0) a b
 passed-over n a b e = simp (ne-eqb n 0 e)
 
-pub served-reply : (rs : List Refusal) (value before after : List ℕ) (r : Answer) → refusalOf rs ≡ 0 → r .refusal ≡ 0 → r .count ≡ length before → after ≡ value → Reply rs value before after r
+pub served-reply : (rs : List Refusal) (value before after : List ℕ) (r : Answer) → refusalOf rs ≡ 0 → r .refusal ≡ 0 → r .count ≡ length before
+    → after ≡ value → Reply rs value before after r
 served-reply rs value before after r served refusal count output =
     record {
       refusal = refusal ∙ sym served;
@@ -28,7 +29,8 @@ served-reply rs value before after r served refusal count output =
       output = output ∙ chosen (refusalOf rs) value before served;
     }
 
-pub refused-reply : (rs : List Refusal) (value before after : List ℕ) (r : Answer) → r .refusal ≡ refusalOf rs → (refusalOf rs ≡ 0 → ⊥) → r .count ≡ 0 → after ≡ before → Reply rs value before after r
+pub refused-reply : (rs : List Refusal) (value before after : List ℕ) (r : Answer) → r .refusal ≡ refusalOf rs → (refusalOf rs ≡ 0 → ⊥) → r .count ≡ 0
+    → after ≡ before → Reply rs value before after r
 refused-reply rs value before after r refusal refused count output =
     record {
       refusal = refusal;

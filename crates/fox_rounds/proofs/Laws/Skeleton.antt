@@ -200,7 +200,8 @@ module _ (d : Bool) (k : ℕ → ℕ) (m : ℕ) where
       e
       ∙ ap (λ (w : State). round (keys (suc i)) (between d w)) t
       ∙ sym (through-snoc round (between d) (keys 0) (numbered keys i 1) (keys (suc i)) x)
-      ∙ ap (λ (ks : List ℕ). through round (between d) ks x) (sym (numbered-snoc keys (suc i) 0 ∙ ap (λ (j : ℕ). numbered keys (suc i) 0 ++ (keys j ∷ [])) (zero-add (suc i))))
+      ∙ ap (λ (ks : List ℕ). through round (between d) ks x)
+      (sym (numbered-snoc keys (suc i) 0 ∙ ap (λ (j : ℕ). numbered keys (suc i) 0 ++ (keys j ∷ [])) (zero-add (suc i))))
       ∙ ap (λ (j : ℕ). through round (between d) (numbered keys j 0) x) next
 
   pub turnDone-all : (x y : State) {i : ℕ} → 1 ≤ m → i ≡ m → TurnDone x i y → y ≡ turned d (numbered k m 0) x

@@ -10,7 +10,8 @@ use Rattle.fox_rounds.specs.declared.fox128.Fox128.{Fox128}
 use Rattle.fox_rounds.specs.declared.state.State.{State}
 use Rattle.fox_rounds.specs.declared.state.State.the-variants.{Of64, Of128}
 use Rattle.fox_rounds.proofs.Laws.Skeleton.{through-snoc, sealed-128}
-use Rattle.fox_rounds.proofs.Laws.Rounds.{Words64, Words128, lmid64-words, lmid64-twice, or64-words, io64-words, io64-or64, or64-io64, elmid128-words, elmid128-twice, or128-words, io128-words, io128-or128, or128-io128}
+use Rattle.fox_rounds.proofs.Laws.Rounds.{Words64, Words128, lmid64-words, lmid64-twice, or64-words, io64-words, io64-or64, or64-io64}
+use Rattle.fox_rounds.proofs.Laws.Rounds.{elmid128-words, elmid128-twice, or128-words, io128-words, io128-or128, or128-io128}
 
 -- a round, a step between rounds and the step that undoes it, on the states that have the right width
 pub record Undone {S : Type 0} (Wide : S → Type 0) (round : ℕ → S → S) (there back : S → S) : Type 0 where

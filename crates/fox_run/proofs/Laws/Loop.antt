@@ -41,7 +41,8 @@ module _ (f : ℕ → ℕ) (n : ℕ) (ds os : List ℕ) where
 
   -- the same in the form of an obligation on parts from `at` to the end, one passed for reading and one for writing
   pub xoredTo-next : (at m : ℕ) (now part : List ℕ) → at + m ≤ length ds → length os ≡ length ds → XoredTo f n ds os at now
-      → XoredTo f (n + at) (midOf at (length ds - at) ds) (midOf at (length now - at) now) m part → XoredTo f n ds os (at + m) (putMid at (length now - at) now part)
+      → XoredTo f (n + at) (midOf at (length ds - at) ds) (midOf at (length now - at) now) m part
+      → XoredTo f n ds os (at + m) (putMid at (length now - at) now part)
   xoredTo-next at m now part h same laid ep =
       xoredTo-on at m h same laid
       (ep ∙ ap₂ (λ (xs ys : List ℕ). xorFrom f (n + at) (take m xs) ++ drop m ys) (part-end at ds) (part-end at now)) (put-end at now part)

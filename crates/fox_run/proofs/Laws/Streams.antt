@@ -162,7 +162,8 @@ unfolding state blockSize counted
 counted-state c counter i e = there (eqb c 64) e
   where
     there : (t : Bool) → length counter ≡ cond t 8 16
-        → cond t (Of64 (state64 (counterBlock counter i))) (Of128 (state128 (counterBlock counter i))) ≡ counted (cond t (Of64 (state64 counter)) (Of128 (state128 counter))) i
+        → cond t (Of64 (state64 (counterBlock counter i))) (Of128 (state128 (counterBlock counter i)))
+        ≡ counted (cond t (Of64 (state64 counter)) (Of128 (state128 counter))) i
     there true n = ap Of64 (counted-64 counter i n)
     there false n = ap Of128 (counted-128 counter i n)
 

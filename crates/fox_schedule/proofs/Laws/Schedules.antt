@@ -9,7 +9,6 @@ use native.Mathlib.Omega.{arith}
 use lib.Dec.{eqb}
 use lib.ListN.{length}
 use borrow.Author.Tests.{le-leb, lt-leb, eq-eqb, ne-eqb}
-use Rattle.fox_rounds.specs.Skeleton.{numbered}
 use Rattle.fox_rounds.proofs.Laws.Skeleton.{numbered-same}
 use Rattle.fox_key_mixing.specs.Padding.{mkey}
 use Rattle.fox_register.specs.Register.{LFSR}
@@ -18,7 +17,7 @@ use Rattle.fox_nonlinear.specs.Nonlinear.{NL64, NL64h, NL128}
 use Rattle.fox_nonlinear.proofs.Laws.Width.{NL128-lt}
 use Rattle.fox_nonlinear.specs.declared.nl128.Key128.{Key128}
 use Rattle.fox_schedule.specs.Schedule.{ek64, ek128, roundKeyAt64, roundKeyAt128, roundKey64, roundKey128, roundKey, roundKeys}
-use Rattle.fox_schedule.specs.Step.{roundKeyAt, steps, Scheduled, roundKeyOf, narrow, RoundKeyAt}
+use Rattle.fox_schedule.specs.Step.{roundKeyAt, steps, Scheduled, roundKeyOf, narrow, RoundKeyAt, roundKeysOf}
 use Rattle.fox_schedule.specs.declared.schedule.Schedule.{Schedule}
 use Rattle.fox_schedule.specs.declared.schedule.Schedule.the-variants.{Ks64, Ks64h, Ks128}
 
@@ -73,7 +72,7 @@ scheduled-key c r key (Ks128 m flip) is i =
     ∙ ap₂ (λ (f : Bool) (ms : List ℕ). NL128 f (dkey ms (LFSR (i * 11) r))) (sym (is .2)) (sym (is .1))
 
 -- all round keys of a key, in their order
-pub roundKeys-scheduled : (c r : ℕ) (key : List ℕ) (s : Schedule) → Scheduled c key s → roundKeys c r key ≡ numbered (roundKeyOf s r) r 0
+pub roundKeys-scheduled : (c r : ℕ) (key : List ℕ) (s : Schedule) → Scheduled c key s → roundKeys c r key ≡ roundKeysOf s r
 unfolding roundKeys
 roundKeys-scheduled c r key s is =
     numbered-same (roundKey c r key) (roundKeyOf s r) r 0 (λ i h. scheduled-key c r key s is i)

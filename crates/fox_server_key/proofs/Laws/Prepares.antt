@@ -23,7 +23,8 @@ module _ (c n : ℕ) (key : List ℕ) (r : Preparation) where
   served-key e refusal count made =
       record { refusal = refusal ∙ sym e; count = count ∙ chosen _ _ _ e; key = made ∙ chosen _ _ _ e }
 
-  pub refused-key : (refusalOf (forKey c n (length key)) ≡ 0 → ⊥) → r .answer .refusal ≡ refusalOf (forKey c n (length key)) → r .answer .count ≡ 0 → r .key ≡ noKey
+  pub refused-key : (refusalOf (forKey c n (length key)) ≡ 0 → ⊥) → r .answer .refusal ≡ refusalOf (forKey c n (length key)) → r .answer .count ≡ 0
+      → r .key ≡ noKey
       → Prepares c n key r
   refused-key e refusal count none =
       record { refusal = refusal; count = count ∙ passed-over _ _ _ e; key = none ∙ passed-over _ _ _ e }

@@ -13,7 +13,7 @@ use Rattle.fox_rounds.specs.Rounds.{left, right}
 use Rattle.fox_rounds.specs.Skeleton.{numbered, turned}
 use Rattle.fox_rounds.specs.declared.state.State.{State}
 use Rattle.fox_rounds.specs.declared.state.State.the-variants.{Of64, Of128}
-use Rattle.fox_rounds.specs.RoundKeys.{roundKeyIn64, roundKeyIn128}
+use Rattle.fox_rounds.specs.RoundKeys.{roundKeyIn64, roundKeyIn128, roundKeysIn64, roundKeysIn128}
 use Rattle.fox_rounds.proofs.Laws.Halves.{pair}
 use Rattle.fox_rounds.proofs.Laws.Skeleton.{length-numbered, numbered-next, numbered-same, numbered-at}
 use Rattle.fox_schedule.specs.Schedule.{roundKey, roundKeys}
@@ -48,7 +48,7 @@ pub filled-at : (ws : List ℕ) (i : ℕ) → i < length ws → getD (filled ws)
 unfolding filled
 filled-at ws i h = List·getD-append ws (replicate (510 - length ws) 0) 0 i h
 
-pub roundKeyIn64-filled : (ks : List ℕ) (n : ℕ) → length ks ≡ n → numbered (roundKeyIn64 (filled ks)) n 0 ≡ ks
+pub roundKeyIn64-filled : (ks : List ℕ) (n : ℕ) → length ks ≡ n → roundKeysIn64 (filled ks) n ≡ ks
 unfolding roundKeyIn64
 roundKeyIn64-filled ks n e =
     ap (λ (m : ℕ). numbered (λ (i : ℕ). getD (filled ks) i 0) m 0) (sym e)
@@ -73,11 +73,11 @@ right-at (k ∷ ks) (suc i) h =
     ap (λ (j : ℕ). getD (left 64 k ∷ right 64 k ∷ inHalves ks) j 0) next ∙ right-at ks i (le-of-suc-le-suc h)
 
 pub roundKeyIn128-filled : (ks : List ℕ) (n : ℕ) → ((i : ℕ) → i < n → getD ks i 0 < 2 ^ 128) → length ks ≡ n
-    → numbered (roundKeyIn128 (filled (inHalves ks))) n 0 ≡ ks
+    → roundKeysIn128 (filled (inHalves ks)) n ≡ ks
 unfolding roundKeyIn128
 roundKeyIn128-filled ks n wide e =
     let long = length-inHalves ks in
-    ap (λ (m : ℕ). numbered (roundKeyIn128 (filled (inHalves ks))) m 0) (sym e)
+    ap (λ (m : ℕ). roundKeysIn128 (filled (inHalves ks)) m) (sym e)
     ∙ numbered-same (roundKeyIn128 (filled (inHalves ks))) (λ (i : ℕ). getD ks i 0) (length ks) 0
     (λ i h.
     let here : i < length ks = omega arith in
@@ -94,11 +94,11 @@ pub preparedWords-128 : (c r : ℕ) (key : List ℕ) → (c ≡ 64 → ⊥) → 
 unfolding preparedWords
 preparedWords-128 c r key n = simp (ne-eqb c 64 n)
 
-pub roundKeysIn-64 : (p : Prepared) → p .cipher ≡ 64 → roundKeysIn p ≡ numbered (roundKeyIn64 (p .keys)) (p .rounds) 0
+pub roundKeysIn-64 : (p : Prepared) → p .cipher ≡ 64 → roundKeysIn p ≡ roundKeysIn64 (p .keys) (p .rounds)
 unfolding roundKeysIn
 roundKeysIn-64 p e = simp (eq-eqb (p .cipher) 64 e)
 
-pub roundKeysIn-128 : (p : Prepared) → (p .cipher ≡ 64 → ⊥) → roundKeysIn p ≡ numbered (roundKeyIn128 (p .keys)) (p .rounds) 0
+pub roundKeysIn-128 : (p : Prepared) → (p .cipher ≡ 64 → ⊥) → roundKeysIn p ≡ roundKeysIn128 (p .keys) (p .rounds)
 unfolding roundKeysIn
 roundKeysIn-128 p n = simp (ne-eqb (p .cipher) 64 n)
 
@@ -117,23 +117,23 @@ roundKeysIn-prepared p key e =
     by-cipher c
     (λ is.
     roundKeysIn-64 p is
-    ∙ ap (λ (ws : List ℕ). numbered (roundKeyIn64 ws) r 0) (e ∙ preparedWords-64 c r key is)
+    ∙ ap (λ (ws : List ℕ). roundKeysIn64 ws r) (e ∙ preparedWords-64 c r key is)
     ∙ roundKeyIn64-filled (numbered k r 0) r (length-numbered k r 0))
     (λ isnt.
     roundKeysIn-128 p isnt
-    ∙ ap (λ (ws : List ℕ). numbered (roundKeyIn128 ws) r 0) (e ∙ preparedWords-128 c r key isnt)
+    ∙ ap (λ (ws : List ℕ). roundKeysIn128 ws r) (e ∙ preparedWords-128 c r key isnt)
     ∙ roundKeyIn128-filled (numbered k r 0) r (λ i h. rw (numbered-at k r 0 i 0 h) (wide c r key (0 + i) isnt)) (length-numbered k r 0))
 
 -- a block sealed or opened with the round keys that a prepared key holds, by cases of the cipher
 module _ (d : Bool) (p : Prepared) (bs : List ℕ) where
   pub turned-in-64 : p .cipher ≡ 64
-      → bytes (turned d (numbered (roundKeyIn64 (p .keys)) (p .rounds) 0) (Of64 (state64 bs))) ≡ turnWith d (p .cipher) (roundKeysIn p) bs
+      → bytes (turned d (roundKeysIn64 (p .keys) (p .rounds)) (Of64 (state64 bs))) ≡ turnWith d (p .cipher) (roundKeysIn p) bs
   unfolding turnWith
   turned-in-64 is =
       ap₂ (λ (ks : List ℕ) (x : State). bytes (turned d ks x)) (sym (roundKeysIn-64 p is)) (sym (state-64 (p .cipher) bs is))
 
   pub turned-in-128 : (p .cipher ≡ 64 → ⊥)
-      → bytes (turned d (numbered (roundKeyIn128 (p .keys)) (p .rounds) 0) (Of128 (state128 bs))) ≡ turnWith d (p .cipher) (roundKeysIn p) bs
+      → bytes (turned d (roundKeysIn128 (p .keys) (p .rounds)) (Of128 (state128 bs))) ≡ turnWith d (p .cipher) (roundKeysIn p) bs
   unfolding turnWith
   turned-in-128 isnt =
       ap₂ (λ (ks : List ℕ) (x : State). bytes (turned d ks x)) (sym (roundKeysIn-128 p isnt)) (sym (state-128 (p .cipher) bs isnt))

@@ -6,10 +6,9 @@ use mathlib.Core.List.{List}
 use Prim.Native.Nat.{ℕ}
 use native.Mathlib.Omega.{arith}
 use lib.ListN.{length}
-use Rattle.fox_rounds.specs.Skeleton.{numbered}
 use Rattle.fox_rounds.specs.declared.state.State.{State}
 use Rattle.fox_rounds.specs.declared.state.State.the-variants.{Of64, Of128}
-use Rattle.fox_rounds.specs.RoundKeys.{roundKeyIn64, roundKeyIn128}
+use Rattle.fox_rounds.specs.RoundKeys.{roundKeysIn64, roundKeysIn128}
 use Rattle.fox_refusals.specs.Refusals.{blockSize, Stretched}
 use Rattle.fox_block.specs.Block.{state64, state128}
 use Rattle.fox_block.proofs.Laws.Block.{size-64, size-128, state-64, state-128}
@@ -28,13 +27,13 @@ ready counter input out s size =
 
 module _ (p : Prepared) (counter : List ℕ) (n : ℕ) (ds : List ℕ) (e : length counter ≡ blockSize (p .cipher)) where
   pub run-in-64 : p .cipher ≡ 64
-      → xorFrom (stream (numbered (roundKeyIn64 (p .keys)) (p .rounds) 0) (Of64 (state64 counter))) n ds ≡ runWith (p .cipher) (roundKeysIn p) counter n ds
+      → xorFrom (stream (roundKeysIn64 (p .keys) (p .rounds)) (Of64 (state64 counter))) n ds ≡ runWith (p .cipher) (roundKeysIn p) counter n ds
   run-in-64 is =
       ap₂ (λ (ks : List ℕ) (x : State). xorFrom (stream ks x) n ds) (sym (roundKeysIn-64 p is)) (sym (state-64 (p .cipher) counter is))
       ∙ run-streamed (p .cipher) (roundKeysIn p) counter n ds e
 
   pub run-in-128 : (p .cipher ≡ 64 → ⊥)
-      → xorFrom (stream (numbered (roundKeyIn128 (p .keys)) (p .rounds) 0) (Of128 (state128 counter))) n ds ≡ runWith (p .cipher) (roundKeysIn p) counter n ds
+      → xorFrom (stream (roundKeysIn128 (p .keys) (p .rounds)) (Of128 (state128 counter))) n ds ≡ runWith (p .cipher) (roundKeysIn p) counter n ds
   run-in-128 isnt =
       ap₂ (λ (ks : List ℕ) (x : State). xorFrom (stream ks x) n ds) (sym (roundKeysIn-128 p isnt)) (sym (state-128 (p .cipher) counter isnt))
       ∙ run-streamed (p .cipher) (roundKeysIn p) counter n ds e

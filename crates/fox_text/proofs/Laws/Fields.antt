@@ -31,7 +31,8 @@ few-pairs most name l e =
     let p = even-pairs most v (both (startsWith name l) (isPairs most v) e .1) in
     omega (arith, p .few, length-pairs v)
 
-module _ (most : ℕ) (name t before : List ℕ) {l v : List ℕ} {starts pairs : Bool} (room : most ≤ length before) (is-line : l ≡ line t) (is-value : v ≡ valueText name l)
+module _ (most : ℕ) (name t before : List ℕ) {l v : List ℕ} {starts pairs : Bool} (room : most ≤ length before) (is-line : l ≡ line t)
+    (is-value : v ≡ valueText name l)
     (is-start : starts ≡ startsWith name l) (is-pairs : pairs ≡ isPairs most v) where
   tested : (starts && pairs) ≡ isPairsLine most name (line t)
   unfolding isPairsLine

@@ -23,7 +23,8 @@ record Comes (d : Bool) (s : Schedule) (m : ℕ) (x : State) (i reg : ℕ) (y : 
   more : (z : State) → z ≡ round (roundKeyAt s reg) y → TurnDone d (roundKeyOf s m) m x (i + 1) z
 
 module _ (d : Bool) (s : Schedule) (m : ℕ) (x : State) (i : ℕ) where
-  comes : {reg : ℕ} {y : State} → RegisterAt s d m i reg → ((z : State) → z ≡ round (roundKeyOf s m (place d m i)) y → TurnDone d (roundKeyOf s m) m x (i + 1) z) → Comes d s m x i reg y
+  comes : {reg : ℕ} {y : State} → RegisterAt s d m i reg
+      → ((z : State) → z ≡ round (roundKeyOf s m (place d m i)) y → TurnDone d (roundKeyOf s m) m x (i + 1) z) → Comes d s m x i reg y
   comes {reg} {y} at more =
       let same : i ≡ i + 1 - 1 = omega arith in
       record {
@@ -39,7 +40,8 @@ module _ (d : Bool) (s : Schedule) (m : ℕ) (x : State) (i : ℕ) where
       let stands = subst (λ (j : ℕ). RegisterAt s d m j reg₁) here (registerAt-next s m d (i - 1) small (omega arith) at moved) in
       rw er (comes stands (λ z f. turnDone-more d (roundKeyOf s m) m x y z i some t (f ∙ ap (round (roundKeyOf s m (place d m i))) (e ∙ ey))))
 
-  comes-first : {reg reg₂ : ℕ} {y y₂ : State} → i ≡ 0 → RegisterAt s d m (i - 1) reg → TurnDone d (roundKeyOf s m) m x i y → reg₂ ≡ reg → y₂ ≡ y → Comes d s m x i reg₂ y₂
+  comes-first : {reg reg₂ : ℕ} {y y₂ : State} → i ≡ 0 → RegisterAt s d m (i - 1) reg → TurnDone d (roundKeyOf s m) m x i y → reg₂ ≡ reg → y₂ ≡ y
+      → Comes d s m x i reg₂ y₂
   comes-first {reg} {y = y} none at t er e =
       let here : i - 1 ≡ i = omega arith in
       rw er (comes (subst (λ (j : ℕ). RegisterAt s d m j reg) here at)

@@ -5,8 +5,8 @@ use mathlib.Core.Path.{sym, ap, _∙_, subst}
 use Prim.Native.Nat.{ℕ, _<_}
 use native.Mathlib.Nat.{mod-lt, div-le-self}
 use native.Mathlib.Omega.{arith}
-use Rattle.fox_rounds.specs.Skeleton.{numbered, size, turned}
-use Rattle.fox_schedule.specs.Step.{roundKeyOf}
+use Rattle.fox_rounds.specs.Skeleton.{size, turned}
+use Rattle.fox_schedule.specs.Step.{roundKeysOf}
 use Rattle.fox_block.specs.Block.{bytes}
 use Rattle.fox_block.proofs.Laws.Block.{turned-size}
 use Rattle.fox_run.specs.Run.{streamed}
@@ -45,7 +45,7 @@ returns c =
     let sized = counting .before in
     let a = sized .before .before .before .args in
     let B = sized .size .result in
-    let rks = numbered (roundKeyOf (a .s) (a .rounds)) (a .rounds) 0 in
+    let rks = roundKeysOf (a .s) (a .rounds) in
     let is = sized .size .ensures in
     let pos : 0 < B = omega (arith, is, size-pos (a .x)) in
     subst (λ (b : ℕ). Part (streamed b (sealed rks (a .x))) (a .n) (a .input .now) (a .out .now) (call .xor-part .last .1 .1 .1 .0) (call .xor-part .result)) is

@@ -6,8 +6,7 @@ use Prim.Native.Nat.{_-_, _≤_, _<_}
 use native.Mathlib.Omega.{arith}
 use lib.ListN.{length}
 use borrow.Author.Needs.{needs}
-use Rattle.fox_rounds.specs.Skeleton.{numbered}
-use Rattle.fox_schedule.specs.Step.{roundKeyOf}
+use Rattle.fox_schedule.specs.Step.{roundKeysOf}
 use Rattle.fox_run.specs.States.{stream}
 use Rattle.fox_run.specs.Parts.{XoredTo}
 use Rattle.fox_run.proofs.Laws.Loop.{xoredTo-first, xoredTo-last}
@@ -17,7 +16,7 @@ use Rattle.fox_card_run.proofs.stretch.stretch.Tie as tie
 
 abbrev Inv-loop : tie.InvT-loop
 Inv-loop s rounds x n input out₀ at₀ out at =
-    (at ≤ length input) × (length out ≡ length input) × XoredTo (stream (numbered (roundKeyOf s rounds) rounds 0) x) n input out₀ at out
+    (at ≤ length input) × (length out ≡ length input) × XoredTo (stream (roundKeysOf s rounds) x) n input out₀ at out
 
 abbrev μ-loop : tie.MeasureT-loop
 μ-loop s rounds x n input out₀ at₀ out at = length input - at
@@ -47,7 +46,8 @@ loop-again c =
 returns : tie.Need-returns Inv-loop μ-loop
 returns c =
     let a = c .before .before .before .before .args in
-    xoredTo-last _ (a .n) (a .input .now) (a .out .now) (c .before .loop .at) (c .before .before .before .before .pre .2) (search needs) (c .before .loop .inv .2)
+    xoredTo-last _ (a .n) (a .input .now) (a .out .now) (c .before .loop .at) (c .before .before .before .before .pre .2) (search needs)
+    (c .before .loop .inv .2)
 
 pub stretch-spec : {M : Type 1} → statement M
 stretch-spec =

@@ -57,7 +57,8 @@ returns c =
       count = n;
       output = inv .5
           ∙ ap (λ (i : ℕ). take i s ++ drop i (a .out .now)) done
-          ∙ ap (λ (xs : List ℕ). xs ++ drop (c .before .before .shorter .result) (a .out .now)) (take-all (c .before .before .shorter .result) s (search needs));
+          ∙ ap (λ (xs : List ℕ). xs ++ drop (c .before .before .shorter .result) (a .out .now))
+          (take-all (c .before .before .shorter .result) s (search needs));
     }
 
 pub xor-bytes-spec : {M : Type 1} → statement M

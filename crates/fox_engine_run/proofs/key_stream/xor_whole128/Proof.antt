@@ -29,8 +29,11 @@ returns c =
     let eight : length two ≡ 8 = simp (length-append, length-split) in
     xoredTo-after 8 8 (xorEach two ds) (xorEach more (drop 8 ds)) (a .out .now) l (second .xor-words2 .last .1 .1 .1 .0)
     (omega (arith, length-xorEach-min two ds)) (first .xor-words .ensures)
-    (second .xor-words2 .ensures ∙ ap (λ (xs : List ℕ). xorEach more xs ++ drop 8 (midOf 8 (length l - 8) l)) (take-all (length ds - 8) (drop 8 ds) (rw (length-drop 8 ds) (omega arith))))
-    ∙ ap (λ (xs : List ℕ). xs ++ drop 16 (a .out .now)) (sym (xorEach-append two more ds 8 eight (omega arith)) ∙ ap (λ (xs : List ℕ). xorEach xs ds) (sym (append-assoc two (split 4 (a .x .rl)) (split 4 (a .x .rr)))))
+    (second .xor-words2 .ensures ∙ ap (λ (xs : List ℕ). xorEach more xs ++ drop 8 (midOf 8 (length l - 8) l))
+    (take-all (length ds - 8) (drop 8 ds) (rw (length-drop 8 ds) (omega arith))))
+    ∙ ap (λ (xs : List ℕ). xs ++ drop 16 (a .out .now))
+    (sym (xorEach-append two more ds 8 eight (omega arith))
+    ∙ ap (λ (xs : List ℕ). xorEach xs ds) (sym (append-assoc two (split 4 (a .x .rl)) (split 4 (a .x .rr)))))
 
 pub xor-whole128-spec : {M : Type 1} → statement M
 xor-whole128-spec =

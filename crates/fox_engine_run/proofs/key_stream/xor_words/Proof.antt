@@ -23,10 +23,12 @@ returns c =
     let l = first .store4 .last .0 in
     let bytes : Bytes ds = λ i. omega (arith, first .before .before .before .before .shared-slice-known .given i) in
     let wide : 8 ≤ length ds = search needs in
-    let one = first .store4 .ensures ∙ ap (λ (xs : List ℕ). xs ++ drop 4 (a .out .now)) (word-xored (a .a) _ 0 ds bytes (omega arith) (first .before .load4 .ensures)) in
+    let one = first .store4 .ensures ∙ ap (λ (xs : List ℕ). xs ++ drop 4 (a .out .now))
+    (word-xored (a .a) _ 0 ds bytes (omega arith) (first .before .load4 .ensures)) in
     xoredTo-after 4 4 (xorEach (split 4 (a .a)) ds) (xorEach (split 4 (a .b)) (drop 4 ds)) (a .out .now) l (second .store42 .last .0)
     (omega (arith, length-xorEach-min (split 4 (a .a)) ds, length-split 4 (a .a))) one
-    (second .store42 .ensures ∙ ap (λ (xs : List ℕ). xs ++ drop 4 (midOf 4 (length l - 4) l)) (word-xored (a .b) _ 4 ds bytes (omega arith) (second .before .load42 .ensures)))
+    (second .store42 .ensures ∙ ap (λ (xs : List ℕ). xs ++ drop 4 (midOf 4 (length l - 4) l))
+    (word-xored (a .b) _ 4 ds bytes (omega arith) (second .before .load42 .ensures)))
     ∙ ap (λ (xs : List ℕ). xs ++ drop 8 (a .out .now)) (sym (xorEach-append (split 4 (a .a)) (split 4 (a .b)) ds 4 (length-split 4 (a .a)) (omega arith)))
 
 pub xor-words-spec : {M : Type 1} → statement M

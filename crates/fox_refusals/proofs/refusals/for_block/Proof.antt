@@ -19,7 +19,8 @@ returns c =
     c .or-else2 .ensures
     ∙ ap (λ (r : ℕ). orElse r (differs (a .out-len) (a .block-len)) 6)
     (of-block .or-else .ensures ∙ ap₂ (λ (r b : ℕ). orElse r (differs (a .block-len) b) 4) (key .for-key .ensures) (size .block-size .ensures))
-    ∙ chained (forKey (a .cipher) (a .rounds) (a .key-len)) (wrongBlockLength (a .cipher) (a .block-len) ∷ wrongOutputLength (a .block-len) (a .out-len) ∷ []) refl
+    ∙ chained (forKey (a .cipher) (a .rounds) (a .key-len))
+    (wrongBlockLength (a .cipher) (a .block-len) ∷ wrongOutputLength (a .block-len) (a .out-len) ∷ []) refl
 
 pub for-block-spec : {M : Type 1} → statement M
 for-block-spec = tie.close (tie.spec (λ c κs. search needs) (λ c κs. search needs) (λ c κs. search needs) (λ c κs. search needs) returns)

@@ -3,7 +3,8 @@
 use mathlib.Core.Path.{refl, ap, ap₂, _∙_}
 use mathlib.Core.Bool.{Bool}
 use Prim.Native.Nat.{ℕ}
-use Rattle.fox_refusals.specs.Refusals.{orElse, above, differs, forKey, forStretch, forRun, wrongCipher, wrongRounds, longKey, wrongBlockLength, longData, wrongOutputLength, pastEnd}
+use Rattle.fox_refusals.specs.Refusals.{orElse, above, differs, forKey, forStretch, forRun, wrongCipher, wrongRounds, longKey, wrongBlockLength}
+use Rattle.fox_refusals.specs.Refusals.{longData, wrongOutputLength, pastEnd}
 use Rattle.fox_refusals.proofs.Laws.Refusals.{numbered, chain, chained}
 use borrow.Author.Needs.{needs}
 use Rattle.fox_refusals.proofs.stretch.for_run.Statement.{statement}

@@ -2,10 +2,10 @@
 -- Assumes nothing.
 use borrow.Author.Needs.{needs}
 use mathlib.Core.Path.{ap, _∙_}
-use Rattle.fox_rounds.specs.Skeleton.{numbered, turned}
+use Rattle.fox_rounds.specs.Skeleton.{turned}
 use Rattle.fox_rounds.specs.declared.fox128.Fox128.{Fox128}
 use Rattle.fox_rounds.specs.declared.state.State.the-variants.{Of128}
-use Rattle.fox_rounds.specs.RoundKeys.{roundKeyIn128}
+use Rattle.fox_rounds.specs.RoundKeys.{roundKeysIn128}
 use Rattle.fox_block.specs.Block.{bytes}
 use Rattle.fox_server_block.proofs.block.block128.Statement.{statement}
 use Rattle.fox_server_block.proofs.block.block128.Tie as tie
@@ -18,7 +18,8 @@ returns c =
     let r = s .before .before .before .before .before in
     let a = r .before .before .before .args in
     w .write128 .ensures
-    ∙ ap bytes (s .turn128 .ensures ∙ ap (λ (x : Fox128). turned (a .sealing) (numbered (roundKeyIn128 (a .keys .now)) (a .rounds) 0) (Of128 x)) (r .read128 .ensures))
+    ∙ ap bytes (s .turn128 .ensures ∙ ap (λ (x : Fox128). turned (a .sealing) (roundKeysIn128 (a .keys .now) (a .rounds)) (Of128 x))
+    (r .read128 .ensures))
 
 pub block128-spec : {M : Type 1} → statement M
 block128-spec =

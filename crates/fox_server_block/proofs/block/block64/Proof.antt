@@ -2,10 +2,10 @@
 -- Assumes nothing.
 use borrow.Author.Needs.{needs}
 use mathlib.Core.Path.{ap, _∙_}
-use Rattle.fox_rounds.specs.Skeleton.{numbered, turned}
+use Rattle.fox_rounds.specs.Skeleton.{turned}
 use Rattle.fox_rounds.specs.declared.fox64.Fox64.{Fox64}
 use Rattle.fox_rounds.specs.declared.state.State.the-variants.{Of64}
-use Rattle.fox_rounds.specs.RoundKeys.{roundKeyIn64}
+use Rattle.fox_rounds.specs.RoundKeys.{roundKeysIn64}
 use Rattle.fox_block.specs.Block.{bytes}
 use Rattle.fox_server_block.proofs.block.block64.Statement.{statement}
 use Rattle.fox_server_block.proofs.block.block64.Tie as tie
@@ -18,7 +18,8 @@ returns c =
     let r = s .before .before .before .before .before in
     let a = r .before .before .before .args in
     w .write64 .ensures
-    ∙ ap bytes (s .turn64 .ensures ∙ ap (λ (x : Fox64). turned (a .sealing) (numbered (roundKeyIn64 (a .keys .now)) (a .rounds) 0) (Of64 x)) (r .read64 .ensures))
+    ∙ ap bytes (s .turn64 .ensures ∙ ap (λ (x : Fox64). turned (a .sealing) (roundKeysIn64 (a .keys .now) (a .rounds)) (Of64 x))
+    (r .read64 .ensures))
 
 pub block64-spec : {M : Type 1} → statement M
 block64-spec =

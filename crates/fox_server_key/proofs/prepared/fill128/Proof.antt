@@ -36,7 +36,8 @@ loop-again c =
       search needs,
       registerAt-on (a .s) (a .rounds) (at .loop .i) (at .loop .inv .1) (c .next .ensures),
       filled-128 (roundKeyOf (a .s) (a .rounds)) (at .loop .i) l r (at .loop .keys) (search needs)
-          (sym (left-pair 64 l r (search needs) (search needs)) ∙ ap (left 64) made) (sym (right-pair 64 l r (search needs)) ∙ ap (right 64) made) (at .loop .inv .2),
+          (sym (left-pair 64 l r (search needs) (search needs)) ∙ ap (left 64) made) (sym (right-pair 64 l r (search needs)) ∙ ap (right 64) made)
+          (at .loop .inv .2),
     )
 
 returns : tie.Need-returns Inv-loop μ-loop

@@ -36,9 +36,11 @@ loop-again c =
     let at = c .before .before .before .before in
     let a = at .before .args in (
       search needs,
-      turnLeft-on (a .sealing) (roundKeyIn128 (a .keys .now)) (a .rounds) (at .loop .i) (Of128 (a .x)) (Of128 (at .loop .y)) (Of128 (c .between .result)) (search needs)
+      turnLeft-on (a .sealing) (roundKeyIn128 (a .keys .now)) (a .rounds) (at .loop .i) (Of128 (a .x)) (Of128 (at .loop .y))
+          (Of128 (c .between .result)) (search needs)
           (at .loop .inv .1)
-          (c .between .ensures ∙ ap (λ (z : Fox128). between (a .sealing) (Of128 z)) (c .before .elmid128-at .ensures ∙ ap (λ (j : ℕ). elmid128 (roundKeyIn128 (a .keys .now) j) (at .loop .y)) (c .before .before .place .ensures .0))),
+          (c .between .ensures ∙ ap (λ (z : Fox128). between (a .sealing) (Of128 z))
+          (c .before .elmid128-at .ensures ∙ ap (λ (j : ℕ). elmid128 (roundKeyIn128 (a .keys .now) j) (at .loop .y)) (c .before .before .place .ensures .0))),
     )
 
 returns : tie.Need-returns Inv-loop μ-loop
@@ -46,8 +48,10 @@ unfolding round roundKeyIn128
 returns c =
     let at = c .before .before .before in
     let a = at .before .args in
-    turnLeft-last (a .sealing) (roundKeyIn128 (a .keys .now)) (a .rounds) (at .loop .i) (Of128 (a .x)) (Of128 (at .loop .y)) (Of128 (c .elmid128-at2 .result)) (search needs)
-    (search needs) (search needs) (at .loop .inv .1) (ap Of128 (c .elmid128-at2 .ensures ∙ ap (λ (j : ℕ). elmid128 (roundKeyIn128 (a .keys .now) j) (at .loop .y)) (c .before .place2 .ensures .0)))
+    turnLeft-last (a .sealing) (roundKeyIn128 (a .keys .now)) (a .rounds) (at .loop .i) (Of128 (a .x)) (Of128 (at .loop .y))
+    (Of128 (c .elmid128-at2 .result)) (search needs)
+    (search needs) (search needs) (at .loop .inv .1)
+    (ap Of128 (c .elmid128-at2 .ensures ∙ ap (λ (j : ℕ). elmid128 (roundKeyIn128 (a .keys .now) j) (at .loop .y)) (c .before .place2 .ensures .0)))
 
 pub turn128-spec : {M : Type 1} → statement M
 turn128-spec =

@@ -36,9 +36,11 @@ loop-again c =
     let at = c .before .before .before .before .before in
     let a = at .before .args in (
       search needs,
-      turnLeft-on (a .sealing) (roundKeyIn64 (a .keys .now)) (a .rounds) (at .loop .i) (Of64 (a .x)) (Of64 (at .loop .y)) (Of64 (c .between .result)) (search needs)
+      turnLeft-on (a .sealing) (roundKeyIn64 (a .keys .now)) (a .rounds) (at .loop .i) (Of64 (a .x)) (Of64 (at .loop .y)) (Of64 (c .between .result))
+          (search needs)
           (at .loop .inv .1)
-          (c .between .ensures ∙ ap (λ (z : Fox64). between (a .sealing) (Of64 z)) (c .before .lmid64 .ensures ∙ ap (λ (j : ℕ). lmid64 (roundKeyIn64 (a .keys .now) j) (at .loop .y)) (c .before .before .before .place .ensures .0))),
+          (c .between .ensures ∙ ap (λ (z : Fox64). between (a .sealing) (Of64 z))
+          (c .before .lmid64 .ensures ∙ ap (λ (j : ℕ). lmid64 (roundKeyIn64 (a .keys .now) j) (at .loop .y)) (c .before .before .before .place .ensures .0))),
     )
 
 returns : tie.Need-returns Inv-loop μ-loop
@@ -46,8 +48,10 @@ unfolding round roundKeyIn64
 returns c =
     let at = c .before .before .before .before in
     let a = at .before .args in
-    turnLeft-last (a .sealing) (roundKeyIn64 (a .keys .now)) (a .rounds) (at .loop .i) (Of64 (a .x)) (Of64 (at .loop .y)) (Of64 (c .lmid642 .result)) (search needs)
-    (search needs) (search needs) (at .loop .inv .1) (ap Of64 (c .lmid642 .ensures ∙ ap (λ (j : ℕ). lmid64 (roundKeyIn64 (a .keys .now) j) (at .loop .y)) (c .before .before .place2 .ensures .0)))
+    turnLeft-last (a .sealing) (roundKeyIn64 (a .keys .now)) (a .rounds) (at .loop .i) (Of64 (a .x)) (Of64 (at .loop .y)) (Of64 (c .lmid642 .result))
+    (search needs)
+    (search needs) (search needs) (at .loop .inv .1)
+    (ap Of64 (c .lmid642 .ensures ∙ ap (λ (j : ℕ). lmid64 (roundKeyIn64 (a .keys .now) j) (at .loop .y)) (c .before .before .place2 .ensures .0)))
 
 pub turn64-spec : {M : Type 1} → statement M
 turn64-spec =

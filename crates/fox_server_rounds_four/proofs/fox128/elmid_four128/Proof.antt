@@ -10,7 +10,12 @@ unfolding elmidFour128
 returns c =
     let c2 = c .before .before in
     let c3 = c2 .before in
-    λ i. record { first = c3 .elmid128 .ensures i; second = c2 .elmid1282 .ensures i; third = c .before .elmid1283 .ensures i; fourth = c .elmid1284 .ensures i }
+    λ i. record {
+      first = c3 .elmid128 .ensures i;
+      second = c2 .elmid1282 .ensures i;
+      third = c .before .elmid1283 .ensures i;
+      fourth = c .elmid1284 .ensures i;
+    }
 
 pub elmid-four128-spec : {M : Type 1} → statement M
 elmid-four128-spec = tie.close (tie.spec (λ c κs. search needs) (λ c κs. search needs) (λ c κs. search needs) (λ c κs. search needs) returns)

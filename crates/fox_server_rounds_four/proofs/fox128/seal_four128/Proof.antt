@@ -4,9 +4,8 @@
 use borrow.Author.Needs.{needs}
 use mathlib.Core.Path.{_∙_}
 use Prim.Native.Nat.{_-_, _≤_}
-use Rattle.fox_rounds.specs.Skeleton.{numbered}
 use Rattle.fox_rounds.proofs.Laws.Skeleton.{RoundsLeft, roundsLeft-first, roundsLeft-on, roundsLeft-last}
-use Rattle.fox_rounds.specs.RoundKeys.{roundKeyIn128}
+use Rattle.fox_rounds.specs.RoundKeys.{roundKeyIn128, roundKeysIn128}
 use Rattle.fox_server_rounds_four.specs.Four.{elmidFour128, orFour128}
 use Rattle.fox_server_rounds_four.proofs.Laws.Four.{through-four128}
 use Rattle.fox_server_rounds_four.proofs.fox128.seal_four128.Statement.{statement}
@@ -30,7 +29,8 @@ loop-again c =
     let at = c .before .before .before .before in
     let a = at .before .args in (
       search needs,
-      roundsLeft-on elmidFour128 orFour128 (roundKeyIn128 (a .keys .now)) (a .rounds - 1) (at .loop .i) (a .x) (at .loop .y) (c .elmor-four128 .result) (search needs)
+      roundsLeft-on elmidFour128 orFour128 (roundKeyIn128 (a .keys .now)) (a .rounds - 1) (at .loop .i) (a .x) (at .loop .y)
+          (c .elmor-four128 .result) (search needs)
           (at .loop .inv .1) (c .elmor-four128 .ensures),
     )
 
@@ -39,9 +39,10 @@ unfolding roundKeyIn128
 returns c =
     let at = c .before .before .before .before in
     let a = at .before .args in
-    roundsLeft-last elmidFour128 orFour128 (roundKeyIn128 (a .keys .now)) (a .rounds) (at .loop .i) (a .x) (at .loop .y) (c .elmid-four128 .result) (search needs)
+    roundsLeft-last elmidFour128 orFour128 (roundKeyIn128 (a .keys .now)) (a .rounds) (at .loop .i) (a .x) (at .loop .y) (c .elmid-four128 .result)
+    (search needs)
     (search needs) (search needs) (at .loop .inv .1) (c .elmid-four128 .ensures)
-    ∙ through-four128 (numbered (roundKeyIn128 (a .keys .now)) (a .rounds) 0) (a .x)
+    ∙ through-four128 (roundKeysIn128 (a .keys .now) (a .rounds)) (a .x)
 
 pub seal-four128-spec : {M : Type 1} → statement M
 seal-four128-spec =

@@ -4,9 +4,8 @@
 use borrow.Author.Needs.{needs}
 use mathlib.Core.Path.{_∙_}
 use Prim.Native.Nat.{_-_, _≤_}
-use Rattle.fox_rounds.specs.Skeleton.{numbered}
 use Rattle.fox_rounds.proofs.Laws.Skeleton.{RoundsLeft, roundsLeft-first, roundsLeft-on, roundsLeft-last}
-use Rattle.fox_rounds.specs.RoundKeys.{roundKeyIn64}
+use Rattle.fox_rounds.specs.RoundKeys.{roundKeyIn64, roundKeysIn64}
 use Rattle.fox_server_rounds_four.specs.Four.{lmidFour64, orFour64}
 use Rattle.fox_server_rounds_four.proofs.Laws.Four.{through-four64}
 use Rattle.fox_server_rounds_four.proofs.fox64.seal_four64.Statement.{statement}
@@ -40,7 +39,7 @@ returns c =
     let a = at .before .args in
     roundsLeft-last lmidFour64 orFour64 (roundKeyIn64 (a .keys .now)) (a .rounds) (at .loop .i) (a .x) (at .loop .y) (c .lmid-four64 .result) (search needs)
     (search needs) (search needs) (at .loop .inv .1) (c .lmid-four64 .ensures)
-    ∙ through-four64 (numbered (roundKeyIn64 (a .keys .now)) (a .rounds) 0) (a .x)
+    ∙ through-four64 (roundKeysIn64 (a .keys .now) (a .rounds)) (a .x)
 
 pub seal-four64-spec : {M : Type 1} → statement M
 seal-four64-spec =

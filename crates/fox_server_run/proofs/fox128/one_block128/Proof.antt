@@ -2,10 +2,10 @@
 -- Assumes nothing.
 use mathlib.Core.Bool.{true}
 use mathlib.Core.Path.{ap, _∙_}
-use Rattle.fox_rounds.specs.Skeleton.{numbered, size, turned}
+use Rattle.fox_rounds.specs.Skeleton.{size, turned}
 use Rattle.fox_rounds.specs.declared.fox128.Fox128.{Fox128}
 use Rattle.fox_rounds.specs.declared.state.State.the-variants.{Of128}
-use Rattle.fox_rounds.specs.RoundKeys.{roundKeyIn128}
+use Rattle.fox_rounds.specs.RoundKeys.{roundKeysIn128}
 use Rattle.fox_block.specs.Block.{bytes}
 use Rattle.fox_run.specs.States.{counted, sealed, stream}
 use Rattle.fox_run.proofs.Laws.Streams.{length-sealed, size-pos}
@@ -20,7 +20,7 @@ returns c =
     let call = c .before .before in
     let made = call .before .before in
     let a = made .before .before .before .before .args in
-    let rks = numbered (roundKeyIn128 (a .keys .now)) (a .rounds) 0 in
+    let rks = roundKeysIn128 (a .keys .now) (a .rounds) in
     part-made 16 (sealed rks (Of128 (a .x))) (size-pos (Of128 (a .x))) (length-sealed rks (Of128 (a .x))) (a .n)
     (ap bytes (made .turn128 .ensures ∙ ap (λ (y : Fox128). turned true rks (Of128 y)) (made .before .counted128 .ensures))) (call .xor-part128 .ensures)
 

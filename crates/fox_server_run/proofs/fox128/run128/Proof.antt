@@ -1,10 +1,9 @@
 -- `fox128::run128` meets its contract: the tables built here are those that the rounds need, and the first counter block is read as a state.
 -- Assumes nothing.
 use mathlib.Core.Path.{ap, _∙_}
-use Rattle.fox_rounds.specs.Skeleton.{numbered}
 use Rattle.fox_rounds.specs.declared.fox128.Fox128.{Fox128}
 use Rattle.fox_rounds.specs.declared.state.State.the-variants.{Of128}
-use Rattle.fox_rounds.specs.RoundKeys.{roundKeyIn128}
+use Rattle.fox_rounds.specs.RoundKeys.{roundKeysIn128}
 use Rattle.fox_run.specs.Run.{xorFrom}
 use Rattle.fox_run.specs.States.{stream}
 use borrow.Author.Needs.{needs}
@@ -17,7 +16,7 @@ returns c =
     let x = laid .before .before .before .before .before .before in
     let a = x .before .before .before .before .args in
     laid .stretch128 .ensures
-    ∙ ap (λ (y : Fox128). xorFrom (stream (numbered (roundKeyIn128 (a .keys .now)) (a .rounds) 0) (Of128 y)) (a .n) (a .input .now)) (x .read128 .ensures)
+    ∙ ap (λ (y : Fox128). xorFrom (stream (roundKeysIn128 (a .keys .now) (a .rounds)) (Of128 y)) (a .n) (a .input .now)) (x .read128 .ensures)
 
 pub run128-spec : {M : Type 1} → statement M
 run128-spec =

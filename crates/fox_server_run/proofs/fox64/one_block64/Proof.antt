@@ -2,10 +2,10 @@
 -- Assumes nothing.
 use mathlib.Core.Bool.{true}
 use mathlib.Core.Path.{ap, _∙_}
-use Rattle.fox_rounds.specs.Skeleton.{numbered, size, turned}
+use Rattle.fox_rounds.specs.Skeleton.{size, turned}
 use Rattle.fox_rounds.specs.declared.fox64.Fox64.{Fox64}
 use Rattle.fox_rounds.specs.declared.state.State.the-variants.{Of64}
-use Rattle.fox_rounds.specs.RoundKeys.{roundKeyIn64}
+use Rattle.fox_rounds.specs.RoundKeys.{roundKeysIn64}
 use Rattle.fox_block.specs.Block.{bytes}
 use Rattle.fox_run.specs.States.{counted, sealed, stream}
 use Rattle.fox_run.proofs.Laws.Streams.{length-sealed, size-pos}
@@ -20,7 +20,7 @@ returns c =
     let call = c .before .before in
     let made = call .before .before in
     let a = made .before .before .before .before .args in
-    let rks = numbered (roundKeyIn64 (a .keys .now)) (a .rounds) 0 in
+    let rks = roundKeysIn64 (a .keys .now) (a .rounds) in
     part-made 8 (sealed rks (Of64 (a .x))) (size-pos (Of64 (a .x))) (length-sealed rks (Of64 (a .x))) (a .n)
     (ap bytes (made .turn64 .ensures ∙ ap (λ (y : Fox64). turned true rks (Of64 y)) (made .before .counted64 .ensures))) (call .xor-part64 .ensures)
 

@@ -6,9 +6,8 @@ use Prim.Native.Nat.{_-_, _≤_, _<_}
 use native.Mathlib.Omega.{arith}
 use lib.ListN.{length}
 use borrow.Author.Needs.{needs}
-use Rattle.fox_rounds.specs.Skeleton.{numbered}
 use Rattle.fox_rounds.specs.declared.state.State.the-variants.{Of64}
-use Rattle.fox_rounds.specs.RoundKeys.{roundKeyIn64}
+use Rattle.fox_rounds.specs.RoundKeys.{roundKeysIn64}
 use Rattle.fox_run.specs.States.{stream}
 use Rattle.fox_run.specs.Parts.{XoredTo}
 use Rattle.fox_run.proofs.Laws.Loop.{xoredTo-first, xoredTo-last}
@@ -18,7 +17,7 @@ use Rattle.fox_server_run.proofs.fox64.stretch64.Tie as tie
 
 abbrev Inv-loop : tie.InvT-loop
 Inv-loop s t keys rounds x n input out₀ at₀ out at =
-    (at ≤ length input) × (length out ≡ length input) × XoredTo (stream (numbered (roundKeyIn64 keys) rounds 0) (Of64 x)) n input out₀ at out
+    (at ≤ length input) × (length out ≡ length input) × XoredTo (stream (roundKeysIn64 keys rounds) (Of64 x)) n input out₀ at out
 
 abbrev μ-loop : tie.MeasureT-loop
 μ-loop s t keys rounds x n input out₀ at₀ out at = length input - at
@@ -53,7 +52,8 @@ loop-again c =
 returns : tie.Need-returns Inv-loop μ-loop
 returns c =
     let a = c .before .before .before .before .args in
-    xoredTo-last _ (a .n) (a .input .now) (a .out .now) (c .before .loop .at) (c .before .before .before .before .pre .1 .3) (search needs) (c .before .loop .inv .2)
+    xoredTo-last _ (a .n) (a .input .now) (a .out .now) (c .before .loop .at) (c .before .before .before .before .pre .1 .3) (search needs)
+    (c .before .loop .inv .2)
 
 pub stretch64-spec : {M : Type 1} → statement M
 stretch64-spec =

@@ -5,13 +5,13 @@ use mathlib.Core.Bool.{true}
 use mathlib.Core.List.{List}
 use Prim.Native.Nat.{ℕ}
 use native.Mathlib.Omega.{arith}
-use Rattle.fox_rounds.specs.Skeleton.{numbered, size, turned, seal128}
+use Rattle.fox_rounds.specs.Skeleton.{size, turned, seal128}
 use Rattle.fox_rounds.specs.declared.fox128.Fox128.{Fox128}
 use Rattle.fox_rounds.specs.declared.state.State.the-variants.{Of128}
 use Rattle.fox_rounds.proofs.Laws.Skeleton.{sealed-128}
 use Rattle.fox_server_rounds_four.specs.Four.{sealFour128}
 use Rattle.fox_server_rounds_four.specs.declared.fox128.Four128.{Four128}
-use Rattle.fox_rounds.specs.RoundKeys.{roundKeyIn128}
+use Rattle.fox_rounds.specs.RoundKeys.{roundKeysIn128}
 use Rattle.fox_block.specs.Block.{bytes128, bytes}
 use Rattle.fox_run.specs.States.{counted, sealed, stream}
 use Rattle.fox_run.proofs.Laws.Streams.{length-sealed, size-pos}
@@ -27,7 +27,7 @@ returns c =
     let made = added .before .before in
     let counted = made .before in
     let a = counted .before .before .before .args in
-    let rks = numbered (roundKeyIn128 (a .keys .now)) (a .rounds) 0 in
+    let rks = roundKeysIn128 (a .keys .now) (a .rounds) in
     let four = made .seal-four128 .result in
     let whole = made .seal-four128 .ensures in
     let blocks = counted .counted-four128 .ensures in

@@ -5,13 +5,13 @@ use mathlib.Core.Bool.{true}
 use mathlib.Core.List.{List}
 use Prim.Native.Nat.{ℕ}
 use native.Mathlib.Omega.{arith}
-use Rattle.fox_rounds.specs.Skeleton.{numbered, size, turned, seal64}
+use Rattle.fox_rounds.specs.Skeleton.{size, turned, seal64}
 use Rattle.fox_rounds.specs.declared.fox64.Fox64.{Fox64}
 use Rattle.fox_rounds.specs.declared.state.State.the-variants.{Of64}
 use Rattle.fox_rounds.proofs.Laws.Skeleton.{sealed-64}
 use Rattle.fox_server_rounds_four.specs.Four.{sealFour64}
 use Rattle.fox_server_rounds_four.specs.declared.fox64.Four64.{Four64}
-use Rattle.fox_rounds.specs.RoundKeys.{roundKeyIn64}
+use Rattle.fox_rounds.specs.RoundKeys.{roundKeysIn64}
 use Rattle.fox_block.specs.Block.{bytes64, bytes}
 use Rattle.fox_run.specs.States.{counted, sealed, stream}
 use Rattle.fox_run.proofs.Laws.Streams.{length-sealed, size-pos}
@@ -27,7 +27,7 @@ returns c =
     let made = added .before .before in
     let counted = made .before in
     let a = counted .before .before .before .args in
-    let rks = numbered (roundKeyIn64 (a .keys .now)) (a .rounds) 0 in
+    let rks = roundKeysIn64 (a .keys .now) (a .rounds) in
     let four = made .seal-four64 .result in
     let whole = made .seal-four64 .ensures in
     let blocks = counted .counted-four64 .ensures in

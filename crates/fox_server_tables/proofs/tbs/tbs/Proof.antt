@@ -27,8 +27,12 @@ loop-again c =
     let i = at .loop .i in
     let inv = at .loop .inv in
     let here : i < 1024 = search needs in
-    let value : c .shifted .result ≡ getD (TBS 4) i 0 = cc (sboxTable-entry (i % 256) (omega arith), TBS-entry 4 i here) in
-    (search needs, length-set (at .loop .t) i _ ∙ inv .1, entered (TBS 4) (at .loop .t) i _ (omega (arith, length-TBS 4)) (inv .1 ∙ sym (length-TBS 4)) value (inv .2))
+    let value : c .shifted .result ≡ getD (TBS 4) i 0 = cc (sboxTable-entry (i % 256) (omega arith), TBS-entry 4 i here) in (
+      search needs,
+      length-set (at .loop .t) i _ ∙ inv .1,
+      entered (TBS 4) (at .loop .t) i _ (omega (arith, length-TBS 4))
+          (inv .1 ∙ sym (length-TBS 4)) value (inv .2),
+    )
 
 returns : tie.Need-returns Inv-loop μ-loop
 returns c =

@@ -15,5 +15,6 @@ use Rattle.fox_server_tables.proofs.tbsm4.constant.Tie as tie
 pub constant-spec : {M : Type 1} → statement M
 unfolding joined double halve S₁ S₂ S₃ halves whole or4 lmid4 lmor4 sbox mu4Rows table column quick quickScaled
 constant-spec =
-    tie.close (tie.spec (λ c. by-number mu4Rows 0 (search needs) refl) (λ c. by-number mu4Rows 1 (search needs) refl) (λ c. by-number mu4Rows 2 (search needs) refl)
+    tie.close (tie.spec (λ c. by-number mu4Rows 0 (search needs) refl) (λ c. by-number mu4Rows 1 (search needs) refl)
+    (λ c. by-number mu4Rows 2 (search needs) refl)
     (λ c. by-number mu4Rows 3 (omega arith) refl))

@@ -25,12 +25,14 @@ unfolding joined double halve S₁ S₂ S₃ halves whole or4 lmid4 lmor4 sbox m
 seven c =
     let r = c .match .rest in
     let left : 7 ≤ c .before .args .j =
-    above (above (above (above (above (above (above (search needs) (r .0 .0 .0 .0 .0 .0 .1)) (r .0 .0 .0 .0 .0 .1)) (r .0 .0 .0 .0 .1)) (r .0 .0 .0 .1)) (r .0 .0 .1)) (r .0 .1)) (r .1) in
+    above (above (above (above (above (above (above (search needs) (r .0 .0 .0 .0 .0 .0 .1)) (r .0 .0 .0 .0 .0 .1)) (r .0 .0 .0 .0 .1))
+    (r .0 .0 .0 .1)) (r .0 .0 .1)) (r .0 .1)) (r .1) in
     by-number mu8Rows 7 (last left (c .before .pre)) refl
 
 pub constant-spec : {M : Type 1} → statement M
 unfolding joined double halve S₁ S₂ S₃ halves whole or4 lmid4 lmor4 sbox mu8Rows table column quick quickScaled
 constant-spec =
-    tie.close (tie.spec (λ c. by-number mu8Rows 0 (search needs) refl) (λ c. by-number mu8Rows 1 (search needs) refl) (λ c. by-number mu8Rows 2 (search needs) refl)
+    tie.close (tie.spec (λ c. by-number mu8Rows 0 (search needs) refl) (λ c. by-number mu8Rows 1 (search needs) refl)
+    (λ c. by-number mu8Rows 2 (search needs) refl)
     (λ c. by-number mu8Rows 3 (search needs) refl) (λ c. by-number mu8Rows 4 (search needs) refl) (λ c. by-number mu8Rows 5 (search needs) refl)
     (λ c. by-number mu8Rows 6 (search needs) refl) seven)

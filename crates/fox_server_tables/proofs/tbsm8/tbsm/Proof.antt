@@ -17,4 +17,5 @@ unfolding mu8Rows
 returns c = filledTo-all mu8Rows _ (c .set-table8 .ensures)
 
 pub tbsm-spec : {M : Type 1} → statement M
-tbsm-spec = tie.close (tie.spec set-table-requires (λ c κs. search needs) (λ c κs. search needs) (λ c κs. search needs) (λ c κs. search needs) (λ c κs. search needs) (λ c κs. search needs) (λ c κs. search needs) returns)
+tbsm-spec = tie.close (tie.spec set-table-requires (λ c κs. search needs) (λ c κs. search needs) (λ c κs. search needs) (λ c κs. search needs)
+    (λ c κs. search needs) (λ c κs. search needs) (λ c κs. search needs) returns)
