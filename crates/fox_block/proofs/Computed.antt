@@ -1,5 +1,5 @@
--- The values that 01 marks to be proved, as one list: 38·0B and 02·FC; "or" of 00010002, and "io" of that; mu4 and mu8 of a one and zeros; mix64 of
--- 1, 2, 4, 8; the register for 16 rounds after 0, 1, 2 and 3 steps; the beginning of the mixed key of the empty key, at both ek, and of the key 0011223344556677.
+-- The values that 01 marks to be proved, as one list: 38·0B and 02·FC; "or" of 00010002, and "io" of that; mu4 and mu8 of a one and zeros; mix64 of 1, 2, 4,
+-- 8; the register for 16 rounds after 0, 1, 2 and 3 steps; the beginning of the mixed key of the empty key, at both ek, and of the key 0011223344556677.
 -- Assumes nothing.
 use mathlib.Core.Path.{_≡_, refl}
 use mathlib.Core.List.{[], _∷_, _++_}

@@ -1,4 +1,4 @@
--- The counter blocks of a run (SP 800-38A §6.5 and B.1): how a run counts. No other file has this rule.
+-- The counter blocks of a run (SP 800-38A §6.5 and B.1): how a run counts.
 -- Assumes nothing.
 use Prim.Native.Nat.{ℕ, _+_, _-_, _%_, _^_}
 use mathlib.Core.List.{List, _++_}

@@ -1,4 +1,4 @@
--- A run in counter mode: the definition that every engine is held to.
+-- A run in counter mode (CTR): the definition that every engine is held to.
 pub mod Counter
 pub mod Run
 pub mod Promise

@@ -7,8 +7,7 @@ use lib.ListN.{length, take, drop}
 use Rattle.fox_layers.specs.Words.{xorEach}
 use Rattle.fox_run.specs.Run.{xorFrom}
 
--- key stream XORed with the input, up to the end of the shorter: the r bytes of this XOR are at the front of the output, and the rest of the output is as it
--- was
+-- key stream XORed with the input, up to the end of the shorter: this XOR has r bytes and is at the front of the output, whose rest is as it was
 pub record Xored (pad input before after : List ℕ) (r : ℕ) : Type 0 where
   pub count : r ≡ length (xorEach pad input)
   pub output : after ≡ xorEach pad input ++ drop r before
@@ -23,7 +22,7 @@ pub record Part (stream : ℕ → ℕ) (n : ℕ) (input before after : List ℕ)
   pub within : r ≤ length input
   pub output : XoredTo stream n input before r after
 
--- what sealing a stretch needs with blocks of B bytes: of rounds, first counter block, place, input and output
+-- what a stretch needs with blocks of B bytes: of rounds, first counter block, place, input and output
 pub record Ready (B rounds : ℕ) (counter : List ℕ) (n : ℕ) (input out : List ℕ) : Type 0 where
   pub some : 1 ≤ rounds
   pub few : rounds ≤ 255

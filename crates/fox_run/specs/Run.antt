@@ -1,5 +1,5 @@
--- A run in counter mode (SP 800-38A §6.5): every byte is XORed with a byte of the key stream, which is the sealed counter blocks one after the other. Sealing
--- and opening are the same XOR.
+-- A run in counter mode, CTR (SP 800-38A §6.5): every byte is XORed with a byte of the key stream, which is the sealed counter blocks one after the other.
+-- Sealing and opening are the same XOR.
 -- Assumes nothing.
 use Prim.Native.Nat.{ℕ, suc, _/_, _%_}
 use mathlib.Core.List.{List, [], _∷_}

@@ -38,7 +38,7 @@ steps (Ks64 m flip) = 6
 steps (Ks64h m flip) = 11
 steps (Ks128 m flip) = 11
 
--- the schedule of a key: which of the three it is, the mixed key, and whether the key has ek bytes
+-- the schedule of a key: which of the three it is, its mixed key, and whether the key has ek bytes
 unfoldable pub Scheduled : ℕ → List ℕ → Schedule → Type 0
 Scheduled cipher key (Ks64 m flip) = (cipher ≡ 64) × (length key ≤ 16) × (bytes16 m ≡ mkey 16 key) × (flip ≡ eqb (length key) 16)
 Scheduled cipher key (Ks64h m flip) = (cipher ≡ 64) × (16 < length key) × (bytes32 m ≡ mkey 32 key) × (flip ≡ eqb (length key) 32)
