@@ -28,7 +28,7 @@ pub(crate) fn stretch(s: Schedule, rounds: u8, x: State, n: usize, input: &[u8],
 {
     let mut at = 0;
     while at < input.len() {
-        let added = one_block(s, rounds, x, n + at, &input[at..], &mut out[at..]);
-        at = at + added;
+        let done = one_block(s, rounds, x, n + at, &input[at..], &mut out[at..]);
+        at = at + done;
     }
 }

@@ -24,9 +24,9 @@ fn main() {
         diffusion::mu8(0x0000_0000_0000_0001),
         16,
     );
-    io::write_all(1, b"32-bit words alike by both ways: ");
+    io::write_all(1, b"32-bit words alike by both engines: ");
     io::print_decimal(1, alike4() as u64);
-    io::write_all(1, b"\n64-bit words alike by both ways: ");
+    io::write_all(1, b"\n64-bit words alike by both engines: ");
     io::print_decimal(1, alike8() as u64);
     io::write_all(1, b"\n");
 }

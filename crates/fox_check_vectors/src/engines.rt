@@ -11,9 +11,9 @@ use fox_text_lines::lines::starts_with;
 
 const PAINT: u8 = 0xA5;
 
-// What a row asks of an engine (`way` 0: the card, 1: the server from key bytes, 2: the server from a prepared key), and the refusal that is due.
+// What a row asks of an engine (`engine` 0: the card, 1: the server from key bytes, 2: the server from a prepared key), and the refusal that is due.
 struct Call {
-    way: u32,
+    engine: u32,
     seals: bool,
     cipher: u32,
     rounds: u32,
@@ -40,7 +40,7 @@ pub(crate) fn agree(
 // Whether sealing gives the sealed block, and opening gives the block back. A refused row has nothing sealed to open: there both calls get the block, and
 // `sealed` has only the output's length.
 fn undoes(
-    way: u32,
+    engine: u32,
     cipher: u32,
     rounds: u32,
     refusal: u32,
@@ -51,14 +51,14 @@ fn undoes(
     requires { ⌜ (length (now block) ≤ 64) × (length (now sealed) ≤ 64) ⌝ }
 {
     let seals = Call {
-        way: way,
+        engine: engine,
         seals: true,
         cipher: cipher,
         rounds: rounds,
         refusal: refusal,
     };
     let opens = Call {
-        way: way,
+        engine: engine,
         seals: false,
         cipher: cipher,
         rounds: rounds,
@@ -78,7 +78,7 @@ fn tries(c: Call, key: &[u8], from: &[u8], to: &[u8]) -> bool
     let n = to.len();
     let right = puts(c, key, from, to, &mut out[..n]);
     if !right {
-        lines::print_engine(c.way, c.seals);
+        lines::print_engine(c.engine, c.seals);
     }
     right
 }
@@ -93,10 +93,10 @@ fn puts(c: Call, key: &[u8], from: &[u8], to: &[u8], out: &mut [u8]) -> bool {
 }
 
 fn make(c: Call, key: &[u8], from: &[u8], out: &mut [u8]) -> Answer {
-    if c.way == 0 {
+    if c.engine == 0 {
         return card::turn(c.seals, c.cipher, c.rounds, key, from, out);
     }
-    if c.way == 1 {
+    if c.engine == 1 {
         return server::turn_from_key(c.seals, c.cipher, c.rounds, key, from, out);
     }
     prepared_key::call(c.seals, c.cipher, c.rounds, key, from, out)

@@ -16,10 +16,10 @@ pub(crate) fn print_head(cipher: u32, rounds: u32, key_len: usize, refusal: u32)
 }
 
 // Names an engine that differs.
-pub(crate) fn print_engine(way: u32, seals: bool) {
-    if way == 0 {
+pub(crate) fn print_engine(engine: u32, seals: bool) {
+    if engine == 0 {
         io::write_all(1, b" card");
-    } else if way == 1 {
+    } else if engine == 1 {
         io::write_all(1, b" server-from-key");
     } else {
         io::write_all(1, b" server-prepared");

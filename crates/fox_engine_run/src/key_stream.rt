@@ -24,13 +24,13 @@ fn shorter(a: usize, b: usize) -> usize
 }
 
 // XORs up to the end of the shorter; returns the count of bytes written.
-fn xor_bytes(pad: &[u8], input: &[u8], out: &mut [u8]) -> usize
+fn xor_bytes(stream: &[u8], input: &[u8], out: &mut [u8]) -> usize
     requires { ⌜ length (now out) ≡ length (now input) ⌝ }
-    ensures { λ r. ⌜ Xored (now (pad .entry)) (now (input .entry)) (now (out .entry)) (now (out .exit)) r ⌝ }
+    ensures { λ r. ⌜ Xored (now (stream .entry)) (now (input .entry)) (now (out .entry)) (now (out .exit)) r ⌝ }
 {
-    let end = shorter(pad.len(), input.len());
+    let end = shorter(stream.len(), input.len());
     for i in 0..end {
-        out[i] = pad[i] ^ input[i];
+        out[i] = stream[i] ^ input[i];
     }
     end
 }
@@ -40,18 +40,18 @@ pub fn xor_part64(x: Fox64, skip: usize, input: &[u8], out: &mut [u8]) -> usize
     requires { ⌜ (skip < 8) × (length (now out) ≡ length (now input)) ⌝ }
     ensures { λ r. ⌜ Xored (drop skip (bytes64 x)) (now (input .entry)) (now (out .entry)) (now (out .exit)) r ⌝ }
 {
-    let mut pad = [0; 8];
-    write64(&mut pad, x);
-    xor_bytes(&pad[skip..], input, out)
+    let mut stream = [0; 8];
+    write64(&mut stream, x);
+    xor_bytes(&stream[skip..], input, out)
 }
 
 pub fn xor_part128(x: Fox128, skip: usize, input: &[u8], out: &mut [u8]) -> usize
     requires { ⌜ (skip < 16) × (length (now out) ≡ length (now input)) ⌝ }
     ensures { λ r. ⌜ Xored (drop skip (bytes128 x)) (now (input .entry)) (now (out .entry)) (now (out .exit)) r ⌝ }
 {
-    let mut pad = [0; 16];
-    write128(&mut pad, x);
-    xor_bytes(&pad[skip..], input, out)
+    let mut stream = [0; 16];
+    write128(&mut stream, x);
+    xor_bytes(&stream[skip..], input, out)
 }
 
 pub fn xor_part(x: State, skip: usize, input: &[u8], out: &mut [u8]) -> usize

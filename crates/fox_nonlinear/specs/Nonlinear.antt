@@ -58,9 +58,9 @@ flipped n w = w ⊕ (2 ^ (8 * n) - 1)
 -- Algorithms 7 to 9 up to the hashing layer, on k words of n bytes: substitution, diffusion, mixing, XOR with pad, flip, substitution
 unfoldable pub layers : ℕ → ℕ → (ℕ → ℕ) → (List ℕ → List ℕ) → Bool → List ℕ → List ℕ
 layers n k mu mix flip t =
-    let added = xorEach (mix (map mu (map (sigma n) t))) (words n k pad) in
-    let turned = map (flipped n) added in
-    map (sigma n) (cond flip turned added)
+    let withPad = xorEach (mix (map mu (map (sigma n) t))) (words n k pad) in
+    let allFlipped = map (flipped n) withPad in
+    map (sigma n) (cond flip allFlipped withPad)
 
 unfoldable pub number64 : Fox64 → ℕ
 number64 x = x .l * 2 ^ 32 + x .r

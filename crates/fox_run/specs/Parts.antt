@@ -8,9 +8,9 @@ use Rattle.fox_layers.specs.Words.{xorEach}
 use Rattle.fox_run.specs.Run.{xorFrom}
 
 -- key stream XORed with the input, up to the end of the shorter: this XOR has r bytes and is at the front of the output, whose rest is as it was
-pub record Xored (pad input before after : List ℕ) (r : ℕ) : Type 0 where
-  pub count : r ≡ length (xorEach pad input)
-  pub output : after ≡ xorEach pad input ++ drop r before
+pub record Xored (stream input before after : List ℕ) (r : ℕ) : Type 0 where
+  pub count : r ≡ length (xorEach stream input)
+  pub output : after ≡ xorEach stream input ++ drop r before
 
 -- the first r bytes of the input, XORed with the stream from its byte n on, are at the front of the output, and the rest of the output is as it was
 abbrev pub XoredTo : (ℕ → ℕ) → ℕ → List ℕ → List ℕ → ℕ → List ℕ → Type 0

@@ -59,7 +59,7 @@ pub fn seal_four64(
 ) -> Four64
     requires { ⌜ TablesOf mu4Rows (now s) (now t) ⌝ }
     requires { ⌜ 1 ≤ rounds ⌝ }
-    requires { ⌜ rounds ≤ 510 ⌝ }
+    requires { ⌜ rounds ≤ 255 ⌝ }
     ensures { λ r. ⌜ r ≡ sealFour64 (roundKeysIn64 (now (keys .entry)) rounds) x ⌝ }
 {
     let last = rounds - 1;

@@ -80,8 +80,8 @@ fn stretch128(
 {
     let mut at = 0;
     while at < input.len() {
-        let added = part128(s, t, keys, rounds, x, n + at, &input[at..], &mut out[at..]);
-        at = at + added;
+        let done = part128(s, t, keys, rounds, x, n + at, &input[at..], &mut out[at..]);
+        at = at + done;
     }
 }
 

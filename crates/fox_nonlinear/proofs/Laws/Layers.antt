@@ -23,16 +23,16 @@ unfolding words pad joined
 pad-8-4 = refl
 
 -- what follows the XOR with the pad, on one word
-abbrev pub turned : ℕ → Bool → ℕ → ℕ
-turned n flip w = sigma n (cond flip (flipped n w) w)
+abbrev pub afterPad : ℕ → Bool → ℕ → ℕ
+afterPad n flip w = sigma n (cond flip (flipped n w) w)
 
-map-turned : (n : ℕ) (flip : Bool) (ws : List ℕ) → map (sigma n) (cond flip (map (flipped n) ws) ws) ≡ map (turned n flip) ws
-map-turned n true [] = refl
-map-turned n true (w ∷ ws) = rw (map-turned n true ws)
-map-turned n false ws = refl
+map-afterPad : (n : ℕ) (flip : Bool) (ws : List ℕ) → map (sigma n) (cond flip (map (flipped n) ws) ws) ≡ map (afterPad n flip) ws
+map-afterPad n true [] = refl
+map-afterPad n true (w ∷ ws) = rw (map-afterPad n true ws)
+map-afterPad n false ws = refl
 
 -- the layers, from the words after the diffusion and the pad's words
 pub layers-made : (n k : ℕ) (mu : ℕ → ℕ) (mix : List ℕ → List ℕ) (flip : Bool) (ts : List ℕ) {xs ps : List ℕ}
-    → xs ≡ map mu (map (sigma n) ts) → words n k pad ≡ ps → map (turned n flip) (xorEach (mix xs) ps) ≡ layers n k mu mix flip ts
+    → xs ≡ map mu (map (sigma n) ts) → words n k pad ≡ ps → map (afterPad n flip) (xorEach (mix xs) ps) ≡ layers n k mu mix flip ts
 unfolding layers
-layers-made n k mu mix flip ts made pads = rw (made, ← pads) (sym (map-turned n flip (xorEach (mix (map mu (map (sigma n) ts))) (words n k pad))))
+layers-made n k mu mix flip ts made pads = rw (made, ← pads) (sym (map-afterPad n flip (xorEach (mix (map mu (map (sigma n) ts))) (words n k pad))))

@@ -14,16 +14,16 @@ use Rattle.fox_run.proofs.Laws.Streams.{length-within, within-taken}
 use Rattle.fox_run.proofs.Laws.Loop.{xoredTo-next, xoredTo-length, length-end}
 
 -- from byte n to the end of its block, or of the input where that comes first
-pub part-made : (B : ℕ) (block : ℕ → List ℕ) → 0 < B → ((i : ℕ) → length (block i) ≡ B) → (n : ℕ) {pad ds os after : List ℕ} {r : ℕ}
-    → pad ≡ block (n / B) → Xored (drop (n % B) pad) ds os after r → Part (streamed B block) n ds os after r
-part-made B block pos size n {pad} {ds} {os} {after} {r} made added =
+pub part-made : (B : ℕ) (block : ℕ → List ℕ) → 0 < B → ((i : ℕ) → length (block i) ≡ B) → (n : ℕ) {bs ds os after : List ℕ} {r : ℕ}
+    → bs ≡ block (n / B) → Xored (drop (n % B) bs) ds os after r → Part (streamed B block) n ds os after r
+part-made B block pos size n {bs} {ds} {os} {after} {r} made xored =
     let here = ap (λ (p : List ℕ). xorEach (drop (n % B) p) ds) made in
-    let many = added .count ∙ ap length here in
+    let many = xored .count ∙ ap length here in
     let least = many ∙ length-within B block pos size n ds in
     record {
       some = λ h. omega (arith, least, mod-lt n pos);
       within = omega (arith, least);
-      output = added .output
+      output = xored .output
           ∙ ap (λ (xs : List ℕ). xs ++ drop r os)
           (here ∙ sym (ap (λ (m : ℕ). xorFrom (streamed B block) n (take m ds)) many ∙ within-taken B block pos size n ds));
     }

@@ -26,9 +26,9 @@ use Rattle.fox_run.proofs.Laws.XorFrom.{xorFrom-same}
 
 -- the bytes of a stream from its byte n on are those of a list, up to the end of the list
 abbrev pub StreamHas : (ℕ → ℕ) → ℕ → List ℕ → Type 0
-StreamHas f n pad = (i : ℕ) → i < length pad → f (n + i) ≡ getD pad i 0
+StreamHas f n bs = (i : ℕ) → i < length bs → f (n + i) ≡ getD bs i 0
 
-pub xored-block : (f : ℕ → ℕ) (n : ℕ) (pad ds : List ℕ) → StreamHas f n pad → xorFrom f n (take (length pad) ds) ≡ xorEach pad ds
+pub xored-block : (f : ℕ → ℕ) (n : ℕ) (bs ds : List ℕ) → StreamHas f n bs → xorFrom f n (take (length bs) ds) ≡ xorEach bs ds
 unfolding xorFrom xorEach
 xored-block f n [] ds h = refl
 xored-block f n (p ∷ ps) [] h = refl

@@ -14,12 +14,12 @@ use Rattle.fox_engine_run.proofs.key_stream.xor_bytes.Statement.{statem
 use Rattle.fox_engine_run.proofs.key_stream.xor_bytes.Tie as tie
 
 abbrev Inv-loop : tie.InvT-loop
-Inv-loop pad input out₀ end i₀ out i =
-    (i ≤ end) × (end ≤ length pad) × (end ≤ length input) × (end ≡ length (xorEach pad input)) × (length out ≡ length input)
-    × (out ≡ take i (xorEach pad input) ++ drop i out₀)
+Inv-loop stream input out₀ end i₀ out i =
+    (i ≤ end) × (end ≤ length stream) × (end ≤ length input) × (end ≡ length (xorEach stream input)) × (length out ≡ length input)
+    × (out ≡ take i (xorEach stream input) ++ drop i out₀)
 
 abbrev μ-loop : tie.MeasureT-loop
-μ-loop pad input out₀ end i₀ out i = end - i
+μ-loop stream input out₀ end i₀ out i = end - i
 
 loop-holds : tie.Need-loop-holds Inv-loop μ-loop
 loop-holds c =
@@ -33,24 +33,24 @@ loop-again c =
     let at = c .before .before .before in
     let inv = at .loop .inv in
     let a = at .before .before .before .before .before .args in
-    let low : at .loop .i < length (a .pad .now) = search needs in
+    let low : at .loop .i < length (a .stream .now) = search needs in
     let high : at .loop .i < length (a .input .now) = search needs in
-    let here : at .loop .i < length (xorEach (a .pad .now) (a .input .now)) = search needs in
-    let room : length (xorEach (a .pad .now) (a .input .now)) ≤ length (a .out .now) = search needs in (
+    let here : at .loop .i < length (xorEach (a .stream .now) (a .input .now)) = search needs in
+    let room : length (xorEach (a .stream .now) (a .input .now)) ≤ length (a .out .now) = search needs in (
       search needs,
       inv .1,
       inv .2,
       inv .3,
       length-set (at .loop .out) (at .loop .i) _ ∙ inv .4,
-      ap (λ (b : ℕ). set (at .loop .out) (at .loop .i) b) (sym (getD-xorEach (a .pad .now) (a .input .now) (at .loop .i) low high))
-          ∙ written-next (xorEach (a .pad .now) (a .input .now)) (a .out .now) (at .loop .out) (at .loop .i) here room (inv .5),
+      ap (λ (b : ℕ). set (at .loop .out) (at .loop .i) b) (sym (getD-xorEach (a .stream .now) (a .input .now) (at .loop .i) low high))
+          ∙ written-next (xorEach (a .stream .now) (a .input .now)) (a .out .now) (at .loop .out) (at .loop .i) here room (inv .5),
     )
 
 returns : tie.Need-returns Inv-loop μ-loop
 returns c =
     let inv = c .before .loop .inv in
     let a = c .before .before .before .before .before .before .args in
-    let s = xorEach (a .pad .now) (a .input .now) in
+    let s = xorEach (a .stream .now) (a .input .now) in
     let n = inv .3 in
     let done : c .before .loop .i ≡ c .before .before .shorter .result = search needs in
     record {

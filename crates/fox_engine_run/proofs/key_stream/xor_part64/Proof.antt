@@ -16,12 +16,12 @@ returns c =
     let call = c .before .before in
     let filled = call .before .before .before .before .before in
     let a = filled .before .before .before .before .args in
-    let pad : take (8 - a .skip) (drop (a .skip) (filled .write64 .last .0)) ≡ drop (a .skip) (bytes64 (a .x)) =
+    let stream : take (8 - a .skip) (drop (a .skip) (filled .write64 .last .0)) ≡ drop (a .skip) (bytes64 (a .x)) =
     take-all (8 - a .skip) (drop (a .skip) (filled .write64 .last .0)) (simp length-drop (search needs))
     ∙ ap (λ (xs : List ℕ). drop (a .skip) xs) (filled .write64 .ensures) in
     record {
-      count = call .xor-bytes .ensures .count ∙ ap (λ (xs : List ℕ). length (xorEach xs (a .input .now))) pad;
-      output = call .xor-bytes .ensures .output ∙ ap (λ (xs : List ℕ). xorEach xs (a .input .now) ++ drop (call .xor-bytes .result) (a .out .now)) pad;
+      count = call .xor-bytes .ensures .count ∙ ap (λ (xs : List ℕ). length (xorEach xs (a .input .now))) stream;
+      output = call .xor-bytes .ensures .output ∙ ap (λ (xs : List ℕ). xorEach xs (a .input .now) ++ drop (call .xor-bytes .result) (a .out .now)) stream;
     }
 
 pub xor-part64-spec : {M : Type 1} → statement M

@@ -23,8 +23,8 @@ use Rattle.fox_server_run_four.proofs.fox128.four_blocks128.Tie as tie
 returns : tie.Need-returns
 unfolding sealFour128 bytes size counted sealed stream
 returns c =
-    let added = c .before .before in
-    let made = added .before .before in
+    let xored = c .before .before in
+    let made = xored .before .before in
     let counted = made .before in
     let a = counted .before .before .before .args in
     let rks = roundKeysIn128 (a .keys .now) (a .rounds) in
@@ -37,7 +37,7 @@ returns c =
     (a .input .now) (a .out .now) (size-pos (Of128 (a .x))) (length-sealed rks (Of128 (a .x))) (counted .before .before .before .pre .1 .2)
     (ap (λ (z : Four128). bytes128 (z .first)) whole ∙ ap one (blocks .0) ∙ is _) (ap (λ (z : Four128). bytes128 (z .second)) whole ∙ ap one (blocks .1) ∙ is _)
     (ap (λ (z : Four128). bytes128 (z .third)) whole ∙ ap one (blocks .2) ∙ is _) (ap (λ (z : Four128). bytes128 (z .fourth)) whole ∙ ap one (blocks .3) ∙ is _)
-    (added .xor-four128 .ensures)
+    (xored .xor-four128 .ensures)
 
 pub four-blocks128-spec : {M : Type 1} → statement M
 four-blocks128-spec =

@@ -23,8 +23,8 @@ use Rattle.fox_server_run_four.proofs.fox64.four_blocks64.Tie as tie
 returns : tie.Need-returns
 unfolding sealFour64 bytes size counted sealed stream
 returns c =
-    let added = c .before .before in
-    let made = added .before .before in
+    let xored = c .before .before in
+    let made = xored .before .before in
     let counted = made .before in
     let a = counted .before .before .before .args in
     let rks = roundKeysIn64 (a .keys .now) (a .rounds) in
@@ -37,7 +37,7 @@ returns c =
     (a .input .now) (a .out .now) (size-pos (Of64 (a .x))) (length-sealed rks (Of64 (a .x))) (counted .before .before .before .pre .1 .2)
     (ap (λ (z : Four64). bytes64 (z .first)) whole ∙ ap one (blocks .0) ∙ is _) (ap (λ (z : Four64). bytes64 (z .second)) whole ∙ ap one (blocks .1) ∙ is _)
     (ap (λ (z : Four64). bytes64 (z .third)) whole ∙ ap one (blocks .2) ∙ is _) (ap (λ (z : Four64). bytes64 (z .fourth)) whole ∙ ap one (blocks .3) ∙ is _)
-    (added .xor-four64 .ensures)
+    (xored .xor-four64 .ensures)
 
 pub four-blocks64-spec : {M : Type 1} → statement M
 four-blocks64-spec =
