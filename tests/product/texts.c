@@ -1,11 +1,11 @@
 /* Holds the texts of the refusals to what each has to name: what is wrong and what range is right. Usage: texts, or
  * texts NUMBER, which prints the text of that number. */
+#include "count.h"
+#include "fox.h"
+
 #include <stdio.h>
 #include <stdlib.h>
 #include <string.h>
-#include "fox.h"
-
-#define COUNT(a) (sizeof(a) / sizeof *(a))
 
 static const char *const named[][4] = {
     [FOX_SERVED] = {"Served", "output", "written"},
@@ -53,8 +53,8 @@ static void hold_other(uint32_t number)
 {
     const char *text = fox_refusal_text(number);
     hold(text != NULL && is_sentence(text), number, "is no sentence", "");
-    for (uint32_t i = 0; i < COUNT(named); i++)
-        hold(text == NULL || strcmp(text, fox_refusal_text(i)) != 0, number, "is that of a number that means something", "");
+    for (uint32_t i = 0; text != NULL && i < COUNT(named); i++)
+        hold(strcmp(text, fox_refusal_text(i)) != 0, number, "is that of a number that means something", "");
 }
 
 int main(int count, char **words)
