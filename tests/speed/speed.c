@@ -1,67 +1,67 @@
-/* The speed of the library's runs beside that of straight C code, side by side in one process. The C code is first held to the library's own
- * answers, and nothing is measured where they differ. Figures are asked on x86-64 alone; one that is missed is said and is no error. */
+/* The speed of the library's runs beside that of plain C code, side by side in one process. The C code and every
+ * engine are first held to the server's answers, and nothing is measured where they differ. Figures are asked on
+ * x86-64 alone; one that is missed is said and is no error. */
 #define _GNU_SOURCE
+#include "chance.h"
+#include "count.h"
+#include "engines.h"
+#include "fox.h"
+#include "plain.h"
+
 #include <stdio.h>
 #include <stdlib.h>
 #include <string.h>
 #include <time.h>
-#include "fox.h"
-#include "straight.h"
 
-#define COUNT(a) (sizeof(a) / sizeof *(a))
-
-enum { STRETCH = 65536, SHORT_STRETCH = 2048, ROUNDS = 16, PAIRS = 41, HIGH = 1073741824 - STRETCH };
+enum { STRETCH = FOX_MOST_DATA, SHORT_STRETCH = 2048, ROUNDS = 16, PAIRS = 41, HIGH = FOX_RUN_END - STRETCH };
 
 /* What is timed, and how many times as fast as the C code for one block the server is to be. */
 static const struct setting {
     uint32_t cipher;
     size_t key_len;
     double asked;
-} settings[] = {{64, 16, 2.0}, {64, 32, 2.0}, {128, 16, 1.8}};
+} settings[] = {{FOX64, 16, 2.0}, {FOX64, 32, 2.0}, {FOX128, 16, 1.8}};
 
-static uint8_t key[32], counter[16], input[STRETCH], out[STRETCH], answer[STRETCH];
+static uint8_t key[FOX_MOST_KEY], counter[FOX128_BLOCK], input[STRETCH], out[STRETCH], answer[STRETCH];
 static uint32_t cipher, rounds = ROUNDS;
 static size_t key_len;
-static struct straight_key prepared;
+static struct plain_key prepared;
 static volatile uint32_t sink;
-
-static void fill(uint8_t *bytes, size_t count, uint64_t seed)
-{
-    for (size_t i = 0; i < count; i++) {
-        seed = seed * 6364136223846793005u + 1442695040888963407u;
-        bytes[i] = (uint8_t)(seed >> 56);
-    }
-}
 
 /* What is compared. Each works on the first `len` bytes of the input; the prepared key is ready. */
 
 typedef uint32_t work(uint64_t offset, size_t len);
 
+static uint32_t by_engine(const struct engine *engine, uint64_t offset, size_t len)
+{
+    return engine->run(cipher, rounds, key, key_len, counter, cipher / 8, offset, input, len, out, len);
+}
+
 static uint32_t server(uint64_t offset, size_t len)
 {
-    return fox_server_run(cipher, rounds, key, key_len, counter, cipher / 8, offset, input, len, out, len);
+    return by_engine(&engines[ENGINE_server], offset, len);
 }
 
 static uint32_t card(uint64_t offset, size_t len)
 {
-    return fox_card_run(cipher, rounds, key, key_len, counter, cipher / 8, offset, input, len, out, len);
+    return by_engine(&engines[ENGINE_card], offset, len);
 }
 
 static uint32_t one(uint64_t offset, size_t len)
 {
-    straight_run_one(&prepared, counter, offset, input, len, out);
+    plain_run_one(&prepared, counter, offset, input, len, out);
     return 0;
 }
 
 static uint32_t four(uint64_t offset, size_t len)
 {
-    straight_run_four(&prepared, counter, offset, input, len, out);
+    plain_run_four(&prepared, counter, offset, input, len, out);
     return 0;
 }
 
 static uint32_t small(uint64_t offset, size_t len)
 {
-    straight_run_small(cipher, rounds, key, key_len, counter, offset, input, len, out);
+    plain_run_small(cipher, rounds, key, key_len, counter, offset, input, len, out);
     return 0;
 }
 
@@ -70,36 +70,48 @@ static void set(uint32_t new_cipher, uint32_t new_rounds, size_t new_key_len)
     cipher = new_cipher;
     rounds = new_rounds;
     key_len = new_key_len;
-    straight_prepare(&prepared, cipher, rounds, key, key_len);
+    plain_prepare(&prepared, cipher, rounds, key, key_len);
 }
 
-/* Holds every kind to the server's answer. */
+static int same(const char *name, uint32_t refusal, uint64_t offset, size_t len)
+{
+    int right = refusal == FOX_SERVED && memcmp(out, answer, len) == 0;
+    if (!right)
+        printf("speed: FOX%u, %u rounds, key of %zu, offset %llu, %zu bytes: %s differs from the server\n", cipher,
+               rounds, key_len, (unsigned long long)offset, len, name);
+    memset(out, 0, len);
+    return right;
+}
+
+/* Holds every kind of plain code and every engine to the server's answer. */
 static int agrees(uint64_t offset, size_t len)
 {
     static const struct {
         const char *name;
         work *work;
-    } kinds[] = {{"the card", card}, {"one block at a time", one}, {"four blocks at a time", four}, {"small boxes", small}};
-    if (server(offset, len) != 0) {
+    } kinds[] = {{"one block at a time", one}, {"four blocks at a time", four}, {"small boxes", small}};
+    int right = server(offset, len) == FOX_SERVED;
+    if (!right)
         printf("speed: the server refused\n");
-        return 0;
-    }
     memcpy(answer, out, len);
-    for (size_t i = 0; i < COUNT(kinds); i++) {
-        memset(out, 0, len);
-        if (kinds[i].work(offset, len) != 0 || memcmp(out, answer, len) != 0) {
-            printf("speed: FOX%u, %u rounds, key of %zu, offset %llu, %zu bytes: %s differs from the server\n", cipher, rounds, key_len,
-                   (unsigned long long)offset, len, kinds[i].name);
-            return 0;
-        }
-    }
-    return 1;
+    for (size_t i = 0; right && i < ENGINES; i++)
+        right = same(engines[i].name, by_engine(&engines[i], offset, len), offset, len);
+    for (size_t i = 0; right && i < COUNT(kinds); i++)
+        right = same(kinds[i].name, kinds[i].work(offset, len), offset, len);
+    return right;
+}
+
+/* Bytes that are the same in every run of this program. */
+static void fill_from(uint64_t seed, uint8_t *bytes, size_t len)
+{
+    chance_from(seed);
+    fill(bytes, len);
 }
 
 static void set_timed(const struct setting *s)
 {
     set(s->cipher, ROUNDS, s->key_len);
-    fill(counter, sizeof counter, 2);
+    fill_from(2, counter, sizeof counter);
 }
 
 static int timed_agree(void)
@@ -116,10 +128,10 @@ static int others_agree(void)
 {
     static const size_t lengths[] = {0, 5, 15, 16, 17, 24, 31, 32};
     static const uint64_t offsets[] = {0, 1, 7, 8, 29, HIGH + 3};
-    for (uint32_t c = 64; c <= 128; c += 64)
+    for (uint32_t c = FOX64; c <= FOX128; c += FOX64)
         for (size_t k = 0; k < COUNT(lengths); k++) {
             set(c, k % 2 == 0 ? 16 : 13, lengths[k]);
-            fill(counter, sizeof counter, c + k);
+            fill_from(c + k, counter, sizeof counter);
             memset(counter + c / 8 - 4, 0xFF, k % 4);
             for (size_t i = 0; i < COUNT(offsets); i++)
                 if (!agrees(offsets[i], 0) || !agrees(offsets[i], 1) || !agrees(offsets[i], 333))
@@ -156,9 +168,9 @@ static int ascending(const void *a, const void *b)
     return (x > y) - (x < y);
 }
 
-/* Ticks of the processor's time stamp counter in a nanosecond. They are cycles only where the clock stands at its nominal rate. The counter goes
- * on while other programs run, so it is held to the clock on the wall. The middle of several tries is taken, since one may be held up between
- * two readings. */
+/* Ticks of the processor's time stamp counter in a nanosecond. They are cycles only where the clock stands at its
+ * nominal rate. The counter goes on while other programs run, so it is held to the clock on the wall. The middle of
+ * several tries is taken, since one may be held up between two readings. */
 static double tick_rate(void)
 {
     double rates[9];
@@ -203,7 +215,8 @@ struct figure {
     double ratio, low, high, a, b;
 };
 
-/* How many times as fast a is as b: in each pair both are timed one after the other, so that what slows the machine for a while slows both. */
+/* How many times as fast a is as b: in each pair both are timed one after the other, so that what slows the machine
+ * for a while slows both. */
 static struct figure compared(const struct side *a, const struct side *b)
 {
     static double ratios[PAIRS], as[PAIRS], bs[PAIRS];
@@ -221,7 +234,8 @@ static struct figure compared(const struct side *a, const struct side *b)
     qsort(ratios, PAIRS, sizeof *ratios, ascending);
     qsort(as, PAIRS, sizeof *as, ascending);
     qsort(bs, PAIRS, sizeof *bs, ascending);
-    return (struct figure){ratios[PAIRS / 2], ratios[PAIRS / 4], ratios[PAIRS - 1 - PAIRS / 4], as[PAIRS / 2], bs[PAIRS / 2]};
+    return (struct figure){ratios[PAIRS / 2], ratios[PAIRS / 4], ratios[PAIRS - 1 - PAIRS / 4], as[PAIRS / 2],
+                           bs[PAIRS / 2]};
 }
 
 static double rate;
@@ -244,15 +258,18 @@ static void show(const struct side *a, const struct side *b, double asked)
     snprintf(what, sizeof what, "%s / %s", a->name, b->name);
     if (asked > 0)
         snprintf(verdict, sizeof verdict, "%.1f %s", asked, verdict_of(f.ratio, asked));
-    printf("FOX%-4u %3zu  %-36s %6.2f  %6.2f %6.2f  %8.2f %8.2f  %7.1f %7.1f  %s\n", cipher, key_len, what, f.ratio, f.low, f.high,
-           bytes * 1e3 / f.a, bytes * 1e3 / f.b, f.a * rate / bytes, f.b * rate / bytes, verdict);
+    printf("FOX%-4u %3zu  %-36s %6.2f  %6.2f %6.2f  %8.2f %8.2f  %7.1f %7.1f  %s\n", cipher, key_len, what, f.ratio,
+           f.low, f.high, bytes * 1e3 / f.a, bytes * 1e3 / f.b, f.a * rate / bytes, f.b * rate / bytes, verdict);
 }
 
 static void show_all(const struct setting *s)
 {
-    const struct side from_start = {"server", server, 0, STRETCH}, high = {"server, high offset", server, HIGH, STRETCH};
-    const struct side by_one = {"C, one block", one, 0, STRETCH}, by_four = {"C, four blocks", four, 0, STRETCH};
-    const struct side by_card = {"card", card, 0, SHORT_STRETCH}, by_small = {"C, small boxes", small, 0, SHORT_STRETCH};
+    const struct side from_start = {"server", server, 0, STRETCH};
+    const struct side high = {"server, high offset", server, HIGH, STRETCH};
+    const struct side by_one = {"C, one block", one, 0, STRETCH};
+    const struct side by_four = {"C, four blocks", four, 0, STRETCH};
+    const struct side by_card = {"card", card, 0, SHORT_STRETCH};
+    const struct side by_small = {"C, small boxes", small, 0, SHORT_STRETCH};
     set_timed(s);
     show(&from_start, &by_one, s->asked);
     show(&from_start, &by_four, 0);
@@ -263,15 +280,17 @@ static void show_all(const struct setting *s)
 int main(void)
 {
     setvbuf(stdout, NULL, _IOLBF, 0);
-    fill(key, sizeof key, 1);
-    fill(input, sizeof input, 3);
-    straight_tables();
+    fill_from(1, key, sizeof key);
+    fill_from(3, input, sizeof input);
+    plain_tables();
     if (!others_agree() || !timed_agree())
         return 1;
-    printf("speed: the C code answers as the library does; %d bytes (card: %d), %d rounds, medians of %d pairs, processor time\n",
+    printf("speed: the C code answers as the library does; %d bytes (card: %d), %d rounds, medians of %d pairs, "
+           "processor time\n",
            STRETCH, SHORT_STRETCH, ROUNDS, PAIRS);
     printf("speed: the server's time is from key bytes, while the C code by tables has its round keys prepared\n");
-    printf("speed: a ratio says how many times as fast the first is as the second; lower and upper are its quartiles\n");
+    printf("speed: a ratio says how many times as fast the first is as the second; "
+           "lower and upper are its quartiles\n");
     rate = tick_rate();
     printf("%-7s %3s  %-36s %6s  %6s %6s  %8s %8s  %7s %7s  %s\n", "cipher", "key", "what", "ratio", "lower", "upper",
            "MB/s", "other's", "ticks/B", "other's", "asked");

@@ -1,5 +1,5 @@
-/* FOX64 and FOX128 in counter mode, written straight: by tables one block at a time and four at a time, and by small boxes. */
-#include "straight.h"
+/* FOX64 and FOX128 in counter mode in plain C: by tables one block at a time and four at a time, and by small boxes. */
+#include "plain.h"
 #include <string.h>
 
 /* Substitution and diffusion, worked out. */
@@ -73,7 +73,8 @@ static inline uint32_t mu4(uint32_t w)
 {
     uint8_t a = byte4(w, 0), b = byte4(w, 1), c = byte4(w, 2), d = byte4(w, 3);
     uint8_t sum = a ^ b ^ c ^ d;
-    return join4(sum ^ d ^ doubled(d), sum ^ halved(b) ^ c ^ doubled(c), sum ^ halved(a) ^ b ^ doubled(b), sum ^ a ^ doubled(a) ^ halved(c));
+    return join4(sum ^ d ^ doubled(d), sum ^ halved(b) ^ c ^ doubled(c), sum ^ halved(a) ^ b ^ doubled(b),
+                 sum ^ a ^ doubled(a) ^ halved(c));
 }
 
 /* Rows 1 to 7 of the matrix have the products by 01, 03, 82, 02, 04, FC and 7E one place further in each column. */
@@ -93,8 +94,8 @@ static inline uint64_t mu8(uint64_t w)
     return all;
 }
 
-/* The round function worked out, and the rounds over it and over tables. A state goes by its address: handed over by value, its two words
- * would be packed into one register and taken apart again in each round. */
+/* The round function worked out, and the rounds over it and over tables. A state goes by its address: handed over by
+ * value, its two words would be packed into one register and taken apart again in each round. */
 
 struct state64 {
     uint32_t l, r;
@@ -153,7 +154,7 @@ static inline void small128(struct state128 *s, uint64_t left, uint64_t right)
 static uint32_t joined4[4][256], moved4[4][256];
 static uint64_t joined8[8][256], moved8[8][256];
 
-void straight_tables(void)
+void plain_tables(void)
 {
     for (int x = 0; x < 256; x++) {
         for (int i = 0; i < 4; i++) {
@@ -243,7 +244,8 @@ static inline uint64_t load8(const uint8_t *p)
     return (uint64_t)load4(p) << 32 | load4(p + 4);
 }
 
-/* Substitution, diffusion, mixing, the constant and substitution again, for either schedule of FOX64. `count` words make up four quarters. */
+/* Substitution, diffusion, mixing, the constant and substitution again, for either schedule of FOX64. `count` words
+ * make up four quarters. */
 static inline void nonlinear4(uint32_t *t, const uint8_t *bytes, int count, int full)
 {
     uint32_t sum[2] = {0, 0};
@@ -296,7 +298,7 @@ static inline void round_key128(const struct mixed *m, uint32_t *reg, uint64_t *
     key[1] = (uint64_t)s.c << 32 | s.d;
 }
 
-void straight_prepare(struct straight_key *prepared, uint32_t cipher, uint32_t rounds, const uint8_t *key, size_t key_len)
+void plain_prepare(struct plain_key *prepared, uint32_t cipher, uint32_t rounds, const uint8_t *key, size_t key_len)
 {
     struct mixed m = mixed_of(cipher, rounds, key, key_len);
     uint32_t reg = first_register(rounds);
@@ -312,7 +314,7 @@ void straight_prepare(struct straight_key *prepared, uint32_t cipher, uint32_t r
 
 /* Blocks sealed: by tables, four by tables, and by small boxes. */
 
-static inline void seal64(const struct straight_key *k, struct state64 *s)
+static inline void seal64(const struct plain_key *k, struct state64 *s)
 {
     struct state64 a = *s;
     uint32_t i = 0;
@@ -324,7 +326,7 @@ static inline void seal64(const struct straight_key *k, struct state64 *s)
     *s = a;
 }
 
-static inline void seal128(const struct straight_key *k, struct state128 *s)
+static inline void seal128(const struct plain_key *k, struct state128 *s)
 {
     struct state128 a = *s;
     uint32_t i = 0;
@@ -336,7 +338,7 @@ static inline void seal128(const struct straight_key *k, struct state128 *s)
     *s = a;
 }
 
-static inline void seal64_four(const struct straight_key *k, struct state64 *s)
+static inline void seal64_four(const struct plain_key *k, struct state64 *s)
 {
     struct state64 a = s[0], b = s[1], c = s[2], d = s[3];
     uint32_t i = 0;
@@ -353,7 +355,7 @@ static inline void seal64_four(const struct straight_key *k, struct state64 *s)
     s[0] = a, s[1] = b, s[2] = c, s[3] = d;
 }
 
-static inline void seal128_four(const struct straight_key *k, struct state128 *s)
+static inline void seal128_four(const struct plain_key *k, struct state128 *s)
 {
     struct state128 a = s[0], b = s[1], c = s[2], d = s[3];
     const uint64_t *key = k->keys;
@@ -437,7 +439,8 @@ struct place {
     uint64_t number;
 };
 
-static inline struct place place_of(size_t block, const uint8_t *counter, uint64_t offset, const uint8_t *input, size_t len, uint8_t *out)
+static inline struct place place_of(size_t block, const uint8_t *counter, uint64_t offset, const uint8_t *input,
+                                    size_t len, uint8_t *out)
 {
     return (struct place){counter, input, out, len, offset % block, offset / block};
 }
@@ -477,7 +480,7 @@ static void write_part128(struct place *p, const struct state128 *s)
     forward(p, bytes, 1);
 }
 
-static void part64(const struct straight_key *k, struct place *p)
+static void part64(const struct plain_key *k, struct place *p)
 {
     struct state64 s;
     count64(&s, p->counter, p->number);
@@ -485,7 +488,7 @@ static void part64(const struct straight_key *k, struct place *p)
     write_part64(p, &s);
 }
 
-static void part128(const struct straight_key *k, struct place *p)
+static void part128(const struct plain_key *k, struct place *p)
 {
     struct state128 s;
     count128(&s, p->counter, p->number);
@@ -493,7 +496,7 @@ static void part128(const struct straight_key *k, struct place *p)
     write_part128(p, &s);
 }
 
-static void singly64(const struct straight_key *k, struct place *p)
+static void singly64(const struct plain_key *k, struct place *p)
 {
     struct state64 s;
     for (; p->left >= 8; forward(p, 8, 1)) {
@@ -505,7 +508,7 @@ static void singly64(const struct straight_key *k, struct place *p)
         part64(k, p);
 }
 
-static void singly128(const struct straight_key *k, struct place *p)
+static void singly128(const struct plain_key *k, struct place *p)
 {
     struct state128 s;
     for (; p->left >= 16; forward(p, 16, 1)) {
@@ -517,7 +520,7 @@ static void singly128(const struct straight_key *k, struct place *p)
         part128(k, p);
 }
 
-static void by_four64(const struct straight_key *k, struct place *p)
+static void by_four64(const struct plain_key *k, struct place *p)
 {
     struct state64 s[4];
     for (; p->left >= 32; forward(p, 32, 4)) {
@@ -529,7 +532,7 @@ static void by_four64(const struct straight_key *k, struct place *p)
     }
 }
 
-static void by_four128(const struct straight_key *k, struct place *p)
+static void by_four128(const struct plain_key *k, struct place *p)
 {
     struct state128 s[4];
     for (; p->left >= 64; forward(p, 64, 4)) {
@@ -541,7 +544,7 @@ static void by_four128(const struct straight_key *k, struct place *p)
     }
 }
 
-static void straight_run(const struct straight_key *k, struct place p, int four)
+static void plain_run(const struct plain_key *k, struct place p, int four)
 {
     if (k->cipher == 64) {
         if (p.inside > 0)
@@ -558,16 +561,16 @@ static void straight_run(const struct straight_key *k, struct place p, int four)
     }
 }
 
-void straight_run_one(const struct straight_key *prepared, const uint8_t *counter, uint64_t offset,
+void plain_run_one(const struct plain_key *prepared, const uint8_t *counter, uint64_t offset,
                       const uint8_t *input, size_t len, uint8_t *out)
 {
-    straight_run(prepared, place_of(prepared->cipher / 8, counter, offset, input, len, out), 0);
+    plain_run(prepared, place_of(prepared->cipher / 8, counter, offset, input, len, out), 0);
 }
 
-void straight_run_four(const struct straight_key *prepared, const uint8_t *counter, uint64_t offset,
+void plain_run_four(const struct plain_key *prepared, const uint8_t *counter, uint64_t offset,
                        const uint8_t *input, size_t len, uint8_t *out)
 {
-    straight_run(prepared, place_of(prepared->cipher / 8, counter, offset, input, len, out), 1);
+    plain_run(prepared, place_of(prepared->cipher / 8, counter, offset, input, len, out), 1);
 }
 
 static void small_part64(const struct mixed *m, struct place *p)
@@ -586,7 +589,7 @@ static void small_part128(const struct mixed *m, struct place *p)
     write_part128(p, &s);
 }
 
-void straight_run_small(uint32_t cipher, uint32_t rounds, const uint8_t *key, size_t key_len, const uint8_t *counter,
+void plain_run_small(uint32_t cipher, uint32_t rounds, const uint8_t *key, size_t key_len, const uint8_t *counter,
                         uint64_t offset, const uint8_t *input, size_t len, uint8_t *out)
 {
     struct mixed m = mixed_of(cipher, rounds, key, key_len);
