@@ -84,7 +84,7 @@ engine_called() { # WORDS..
 }
 
 calls_its_engine() {
-    compiled stand_in examples/stretch.c tests/product/stand_in.c c/fox_refusal_text.c &&
+    compiled stand_in examples/stretch.c tests/product/stand_in.c &&
         same_text card "$(engine_called --card)" && same_text server "$(engine_called)"
 }
 
