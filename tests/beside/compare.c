@@ -8,7 +8,7 @@
 #include "count.h"
 #include "faults.h"
 #include "fox.h"
-#include "large.h"
+#include "groups.h"
 #include "tally.h"
 
 #include <inttypes.h>
@@ -23,9 +23,9 @@ static uint32_t cipher_by(size_t number)
 static void keys(void)
 {
     group_begin("blocks: keys of 0 to 33 bytes");
-    for (size_t i = 0; i < 34 * 2 * 250; i++) {
+    for (size_t i = 0; i < (FOX_MOST_KEY + 2) * 2 * 250; i++) {
         struct call c = right_block(cipher_by(i));
-        c.key_len = i / 2 % 34;
+        c.key_len = i / 2 % (FOX_MOST_KEY + 2);
         try_block(&c);
     }
     group_end();
@@ -202,7 +202,7 @@ static void changed_bits(void)
     for (int i = 0; i < 1500; i++) {
         struct call c = right_run(some_cipher(), 1 + below(40), below(1000));
         uint8_t bit = (uint8_t)(1 << below(8));
-        c.key_len = 1 + below(32);
+        c.key_len = 1 + below(FOX_MOST_KEY);
         try_run(&c);
         uint8_t *where[] = {&given.key[below(c.key_len)], &given.first[below(c.first_len)],
                             &given.data[below(c.data_len)]};
@@ -214,56 +214,15 @@ static void changed_bits(void)
     group_end();
 }
 
-/* What a call puts out by one engine goes into the call that undoes it, by another one, and what went in comes out. */
-static const char *not_undone(enum verb verb, struct call c, const struct engine *there, const struct engine *back)
-{
-    static uint8_t out[64], again[64];
-    const uint8_t *in = verbs[verb].over_data ? c.data : c.first;
-    size_t len = c.out_len = verbs[verb].over_data ? c.data_len : c.first_len;
-    struct call undo = c;
-    c.out = out, undo.out = again;
-    undo.data = verbs[verb].over_data ? out : c.data;
-    undo.first = verbs[verb].over_data ? c.first : out;
-    if (make_caught(there, verb, &c) != FOX_SERVED || make_caught(back, verbs[verb].undone_by, &undo) != FOX_SERVED)
-        return "refused";
-    if (memcmp(again, in, len) != 0)
-        return "does not come back";
-    /* Copying would be undone too, so that a block must not be put out as it came. */
-    return !verbs[verb].over_data && memcmp(out, in, len) == 0 ? "put out as it came" : NULL;
-}
-
-static void there_and_back(const struct engine *there, const struct engine *back)
-{
-    struct call c = right_run(some_cipher(), below(64), below(FOX_RUN_END - 64));
-    const char *wrong = NULL;
-    enum verb verb = 0;
-    while (verb < VERBS && (wrong = not_undone(verb, c, there, back)) == NULL)
-        verb++;
-    if (case_wrong(wrong == NULL)) {
-        printf("%s %s and then %s: ", there->name, verbs[verb].name, back->name);
-        show_call(verb, &c);
-        printf(": %s\n", wrong);
-    }
-}
-
-static void across(void)
-{
-    group_begin("sealed by one engine and opened by another, for every two");
-    for (int times = 0; times < 1000; times++)
-        for (size_t i = 0; i < ENGINES; i++)
-            for (size_t j = 0; j < ENGINES; j++)
-                if (i != j)
-                    there_and_back(&engines[i], &engines[j]);
-    group_end();
-}
-
 /* What was compared so far had every answer of a call among it. */
 static void every_answer(void)
 {
+    static const uint32_t answers[] = {FOX_SERVED,        FOX_REFUSED_CIPHER, FOX_REFUSED_ROUNDS, FOX_REFUSED_KEY,
+                                       FOX_REFUSED_BLOCK, FOX_REFUSED_DATA,   FOX_REFUSED_OUTPUT, FOX_REFUSED_END};
     group_begin("every answer was tried");
-    for (uint32_t answer = FOX_SERVED; answer <= FOX_REFUSED_END; answer++)
-        if (case_wrong(times_answered(answer) > 0))
-            printf("%" PRIu32 " was never the right one\n", answer);
+    for (size_t i = 0; i < COUNT(answers); i++)
+        if (case_wrong(times_answered(answers[i]) > 0))
+            printf("%" PRIu32 " was never the right one\n", answers[i]);
     group_end();
 }
 

@@ -1,11 +1,11 @@
 /* Lengths of 4 GiB and more, whose lower 32 bits are right: a library that keeps a length in 32 bits would serve these
  * calls. Behind each pointer there are as many bytes as the length says, in pages that are never touched. */
 #define _GNU_SOURCE
-#include "large.h"
 #include "beside.h"
 #include "count.h"
 #include "faults.h"
 #include "fox.h"
+#include "groups.h"
 #include "tally.h"
 
 #include <inttypes.h>
