@@ -1,6 +1,7 @@
 /* One call, answered by the second implementation and by every engine of the library. */
 #include "beside.h"
 #include "answers.h"
+#include "chance.h"
 #include "laid.h"
 #include "tally.h"
 
@@ -16,11 +17,10 @@ static void paint(uint8_t *bytes, size_t len, const uint8_t *other)
         bytes[i] = other == NULL ? (uint8_t)(i * 29 + 5) : (uint8_t)~other[i];
 }
 
-/* What is wrong with an engine's answer, and which engine's; NULL where all are right. Every second call has its
- * buffers at the other end of their rooms. */
+/* What is wrong with an engine's answer, and which engine's; NULL where all are right. The end of their rooms at which
+ * the buffers lie is by chance. */
 static const char *wrong_answer(enum verb verb, const struct call *c, const struct engine **engine)
 {
-    static int at_end;
     const char *wrong = NULL;
     struct call theirs = *c;
     theirs.out = expected;
@@ -29,7 +29,7 @@ static const char *wrong_answer(enum verb verb, const struct call *c, const stru
     count_answer(right);
     paint(painted, c->out_len, right == 0 ? expected : NULL);
     theirs.out = painted;
-    at_end = !at_end;
+    int at_end = (int)below(2);
     for (size_t i = 0; wrong == NULL && i < ENGINES; i++) {
         *engine = &engines[i];
         wrong = laid_wrong(*engine, verb, &theirs, at_end, right, expected);

@@ -39,7 +39,7 @@ static uint32_t nothing(uint32_t bits, uint32_t amount)
     return bits + amount;
 }
 
-enum { SHORT_RUN = 1024, LONG_RUN = 2048 };
+enum { SHORT_RUN = 256, LONG_RUN = 768 };
 static uint8_t run_key[FOX_MOST_KEY], run_counter[FOX128_BLOCK], run_input[LONG_RUN], run_out[LONG_RUN];
 
 static uint32_t server_run(uint32_t bits, uint32_t bytes)

@@ -4,6 +4,7 @@
 #include "call.h"
 #include "count.h"
 #include "fox.h"
+#include "tally.h"
 
 #include <stdio.h>
 #include <string.h>
@@ -17,7 +18,6 @@ static const uint8_t sealed128[] = {0x84, 0x9E, 0x0F, 0x06, 0x82, 0xF5, 0x0C, 0x
                                     0x88, 0xAE, 0x07, 0x30, 0x06, 0xA1, 0x0B, 0xEE};
 static const uint8_t zeros[FOX_MOST_DATA + 1];
 static uint8_t out[FOX_MOST_DATA + 1];
-static int wrong;
 
 /* One of an engine's calls. */
 struct one {
@@ -25,12 +25,10 @@ struct one {
     enum verb verb;
 };
 
-static void hold(int ok, struct one one, const char *what)
+static void hold(int right, const char *what)
 {
-    if (ok)
-        return;
-    printf("fox_%s_%s: %s\n", one.engine->name, verbs[one.verb].name, what);
-    wrong++;
+    if (case_wrong(right))
+        printf("%s\n", what);
 }
 
 /* A call over zeros with these numbers in it. */
@@ -53,13 +51,13 @@ static void vectors(struct one one, uint32_t cipher)
     const uint8_t *sealed = cipher == FOX64 ? sealed64 : sealed128, *answer = one.verb == OPEN ? block : sealed;
     c.first = one.verb == OPEN ? sealed : block;
     memset(out, 0x77, sizeof out);
-    hold(made(one, &c) == FOX_SERVED, one, "the vector is refused");
-    hold(memcmp(out, answer, c.out_len) == 0 && out[c.out_len] == 0x77, one, "the vector comes out wrong");
+    hold(made(one, &c) == FOX_SERVED, "the vector is refused");
+    hold(memcmp(out, answer, c.out_len) == 0 && out[c.out_len] == 0x77, "the vector comes out wrong");
     if (!verbs[one.verb].over_data)
         return;
     c.offset = 5, c.data_len = c.out_len = 3;
-    hold(made(one, &c) == FOX_SERVED, one, "bytes 5 to 7 are refused");
-    hold(memcmp(out, sealed + 5, 3) == 0, one, "bytes 5 to 7 come out wrong");
+    hold(made(one, &c) == FOX_SERVED, "bytes 5 to 7 are refused");
+    hold(memcmp(out, sealed + 5, 3) == 0, "bytes 5 to 7 come out wrong");
 }
 
 static void refusals(struct one one)
@@ -84,8 +82,8 @@ static void refusals(struct one one)
             memset(out, 0x77, sizeof out);
             uint32_t answer = made(one, &spoilt[i].c);
             int same = out[0] == 0x77 && memcmp(out, out + 1, sizeof out - 1) == 0;
-            hold(answer == spoilt[i].number, one, fox_refusal_text(spoilt[i].number));
-            hold(same, one, "a refused call has written");
+            hold(answer == spoilt[i].number, fox_refusal_text(spoilt[i].number));
+            hold(same, "a refused call has written");
         }
 }
 
@@ -99,25 +97,31 @@ static void limits(struct one one)
         call_of(FOX128, FOX_LEAST_ROUNDS, 16, FOX128_BLOCK, FOX_RUN_END, 0, 0),
     };
     for (size_t i = 0; i < (verbs[one.verb].over_data ? COUNT(within) : 3); i++)
-        hold(made(one, &within[i]) == FOX_SERVED, one, "refused within the limits");
+        hold(made(one, &within[i]) == FOX_SERVED, "refused within the limits");
 }
 
+/* A group of its own. */
 static void try(struct one one)
 {
+    group_begin("fox_%s_%s", one.engine->name, verbs[one.verb].name);
     vectors(one, FOX64);
     vectors(one, FOX128);
     refusals(one);
     limits(one);
+    group_end();
+}
+
+static void name(struct one one)
+{
+    printf("fox_%s_%s\n", one.engine->name, verbs[one.verb].name);
 }
 
 int main(int count, char **words)
 {
     int names = count == 2 && strcmp(words[1], "names") == 0;
+    tally_begin("calls");
     for (size_t i = 0; i < ENGINES; i++)
         for (enum verb verb = 0; verb < VERBS; verb++)
-            if (names)
-                printf("fox_%s_%s\n", engines[i].name, verbs[verb].name);
-            else
-                try((struct one){&engines[i], verb});
-    return wrong != 0;
+            (names ? name : try)((struct one){&engines[i], verb});
+    return names ? 0 : tally_end();
 }
