@@ -25,9 +25,9 @@ part() { # WHAT sheet|calls
     case $1-$2 in
         crates-sheet) echo fox_probe ;;
         crates-calls) engine_names | sed 's/^/fox_station_/' ;;
-        sources-sheet) echo "$t/sheet.c $t/begin.c $t/exact.c $s/sheet.c $second $helpers" ;;
+        sources-sheet) echo "$t/sheet.c $t/begin.c $t/exact.c $s/sheet.c $second $c/answers.c" ;;
         sources-calls)
-            echo "$t/calls.c $t/begin.c $t/take.c $t/change.c $t/exact.c tests/beside/second_answer.c $second $engines"
+            echo "$t/calls.c $t/begin.c $t/take.c $t/change.c $t/exact.c tests/beside/second_answer.c $second $engines $c/answers.c $c/chance.c"
             ;;
         wrapped-sheet) echo fox_probe_sheet ;;
         wrapped-calls) echo fox_card_open_block fox_server_run ;;

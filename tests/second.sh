@@ -16,7 +16,7 @@ alone() {
 
 beside() { # [SEED]
     made second libfox.a
-    built second compare -O2 tests/beside/*.c $second $engines "$OUT/libfox.a"
+    built second compare tests/beside/*.c $second $guarded "$OUT/libfox.a"
     run_host "./$OUT/compare" "$@"
 }
 

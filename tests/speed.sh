@@ -12,6 +12,6 @@ compiler=$(
     [ -n "$said" ] || echo clang
 )
 CC_HOST=${compiler:-$CC_HOST}
-built speed speed -O3 tests/speed/*.c $engines "$OUT/libfox.a"
+built speed speed -O3 tests/speed/*.c $engines $c/chance.c "$OUT/libfox.a"
 echo "speed: on $MACHINE; the C code is compiled by $CC_HOST -O3"
 "./$OUT/speed"

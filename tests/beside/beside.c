@@ -7,32 +7,42 @@
 
 #include <stdio.h>
 
-static uint8_t expected[MOST_LAID], painted[MOST_LAID];
-
-/* Before a call that is to be served, every byte of the output is another one than it has to become: a byte left out
- * shows. */
-static void paint(uint8_t *bytes, size_t len, const uint8_t *other)
+/* What stands in the output before a call that is to be refused, and after it as well. */
+static uint8_t *paint(void)
 {
+    static uint8_t bytes[MOST_LAID];
+    static int painted;
+    for (size_t i = 0; !painted && i < sizeof bytes; i++)
+        bytes[i] = (uint8_t)(i * 29 + 5);
+    painted = 1;
+    return bytes;
+}
+
+/* What stands there before a call that is to be served: every byte is another one than it has to become, so that one
+ * left out shows. */
+static uint8_t *other_than(const uint8_t *answer, size_t len)
+{
+    static uint8_t bytes[MOST_LAID];
     for (size_t i = 0; i < len; i++)
-        bytes[i] = other == NULL ? (uint8_t)(i * 29 + 5) : (uint8_t)~other[i];
+        bytes[i] = (uint8_t)~answer[i];
+    return bytes;
 }
 
 /* What is wrong with an engine's answer, and which engine's; NULL where all are right. The end of their rooms at which
  * the buffers lie is by chance. */
 static const char *wrong_answer(enum verb verb, const struct call *c, const struct engine **engine)
 {
+    static uint8_t answer[MOST_LAID];
     const char *wrong = NULL;
+    int at_end = (int)below(2);
     struct call theirs = *c;
-    theirs.out = expected;
-    paint(expected, c->out_len, NULL);
+    theirs.out = answer;
     uint32_t right = second_answer(verb, &theirs);
     count_answer(right);
-    paint(painted, c->out_len, right == 0 ? expected : NULL);
-    theirs.out = painted;
-    int at_end = (int)below(2);
+    theirs.out = right == 0 ? other_than(answer, c->out_len) : paint();
     for (size_t i = 0; wrong == NULL && i < ENGINES; i++) {
         *engine = &engines[i];
-        wrong = laid_wrong(*engine, verb, &theirs, at_end, right, expected);
+        wrong = laid_wrong(*engine, verb, &theirs, at_end, right, right == 0 ? answer : theirs.out);
     }
     return wrong;
 }

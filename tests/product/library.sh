@@ -82,7 +82,7 @@ readme_example() {
         $CC_HOST -std=c99 -Wall -Wextra -Wpedantic -Werror -Iinclude -fsyntax-only "$room/example.c"
 }
 
-check "every refusal's text is there, names what is right, and is no other's" compiled_and_right texts tests/product/texts.c $helpers
+check "every refusal's text is there, names what is right, and is no other's" compiled_and_right texts tests/product/texts.c $c/tally.c
 check "the header alone in C99, C11 and C17" header_alone "$CC_HOST" c c99 c11 c17
 check "two files that include the header, in C99" joined "$CC_HOST" "-std=c99 -Iinclude" tests/product "$OUT/libfox.a"
 if command -v "${CXX_HOST%% *}" >/dev/null 2>&1; then

@@ -70,16 +70,27 @@ static void in_one(const struct engine *engine, const struct work *w, size_t at,
 /* An engine by itself, on the part that its work allows. Of two parts of one run the shorter lies in the longer. */
 static void alone(struct work *w, size_t i, size_t place)
 {
-    static uint8_t out[LONG_RUN];
     size_t most = engines[i].work / w->setting.rounds;
     size_t part = w->part[i] = most < w->len ? most : w->len;
     size_t at = w->at[i] = (w->len - part) * place / WHOLE;
-    uint8_t *sealed = w->sealed[i] + at;
-    in_cuts(&engines[i], w, at, w->plain + at, part, sealed, NULL, "");
-    in_cuts(&engines[i], w, at, w->plain + at, part, out, sealed, "the same run in other cuts");
-    in_cuts(&engines[i], w, at, sealed, part, out, w->plain + at, "what it opened in cuts of its own");
+    in_cuts(&engines[i], w, at, w->plain + at, part, w->sealed[i] + at, NULL, "");
     if (part <= FOX_MOST_DATA)
-        in_one(&engines[i], w, at, part, sealed);
+        in_one(&engines[i], w, at, part, w->sealed[i] + at);
+}
+
+/* The engine with the longest part in other cuts, and what it opens of its own; the other engines do both with what this
+ * one sealed. */
+static void longest_again(const struct work *w)
+{
+    static uint8_t out[LONG_RUN];
+    size_t longest = 0;
+    for (size_t i = 1; i < ENGINES; i++)
+        longest = w->part[i] > w->part[longest] ? i : longest;
+    const struct engine *engine = &engines[longest];
+    size_t at = w->at[longest], part = w->part[longest];
+    const uint8_t *plain = w->plain + at, *sealed = w->sealed[longest] + at;
+    in_cuts(engine, w, at, plain, part, out, sealed, "the same run in other cuts");
+    in_cuts(engine, w, at, sealed, part, out, plain, "what it opened in cuts of its own");
 }
 
 /* What one engine sealed is what the other one sealed, and is opened by it in other cuts. */
@@ -104,6 +115,7 @@ static void cuts(const struct setting *s, uint64_t offset, size_t len)
     fill(w.plain, len);
     for (size_t i = 0; i < ENGINES; i++)
         alone(&w, i, place);
+    longest_again(&w);
     for (size_t i = 0; i < ENGINES; i++)
         for (size_t j = 0; j < ENGINES; j++)
             if (i != j)
