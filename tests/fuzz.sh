@@ -24,10 +24,11 @@ stop() { # WHAT
 part() { # WHAT sheet|calls
     case $1-$2 in
         crates-sheet) echo fox_probe ;;
-        crates-calls) engine_names | sed 's/^/fox_station_/' ;;
+        crates-calls) sed -n 's/^CALLS = //p' Makefile | sed -e 's|$(OUT)/||g' -e 's|\.o||g' ;;
         sources-sheet) echo "$t/sheet.c $t/begin.c $t/exact.c $s/sheet.c $second $c/answers.c" ;;
         sources-calls)
-            echo "$t/calls.c $t/begin.c $t/take.c $t/change.c $t/exact.c tests/beside/second_answer.c $second $engines $c/answers.c $c/chance.c"
+            echo "$t/calls.c $t/begin.c $t/take.c $t/change.c $t/exact.c tests/beside/second_answer.c" \
+                "$second $engines $c/answers.c $c/chance.c"
             ;;
         wrapped-sheet) echo fox_probe_sheet ;;
         wrapped-calls) echo fox_card_open_block fox_server_run ;;

@@ -78,8 +78,8 @@ static void alone(struct work *w, size_t i, size_t place)
         in_one(&engines[i], w, at, part, w->sealed[i] + at);
 }
 
-/* The engine with the longest part in other cuts, and what it opens of its own; the other engines do both with what this
- * one sealed. */
+/* The engine with the longest part in other cuts, and what it opens of its own; the other engines do both with what
+ * this one sealed. */
 static void longest_again(const struct work *w)
 {
     static uint8_t out[LONG_RUN];
