@@ -33,7 +33,7 @@ help:
 	@echo "make host       the host tests alone, on what they link and run"
 	@echo "make vectors    the compiled ciphers on the specification's vectors"
 	@echo "make count      instructions, stack and size of the compiled code"
-	@echo "make speed      the library's speed beside that of straight C code"
+	@echo "make speed      the library's speed beside that of plain C code"
 	@echo "make fuzz       ten minutes of clang's fuzzer on the calls and the bench sheet"
 	@echo "make fmt        sets the Rattle code in its layout"
 	@echo "make install    the libraries, fox.h and files for pkg-config below PREFIX ($(PREFIX)); DESTDIR goes before it"

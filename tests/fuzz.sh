@@ -1,5 +1,5 @@
 #!/bin/sh
-# Fuzzes the bench sheet and the station's six calls by clang's libFuzzer, with the second implementation beside them:
+# Fuzzes the bench sheet and the calls of every engine by clang's libFuzzer, with the second implementation beside them:
 # sh tests/fuzz.sh [SECONDS] [sheet|calls]. Without a name both are run, each for half of the seconds, 600 in all.
 # SEED=.. in the environment gives the seed that an earlier run printed. FAULT=.. puts that fault of tests/fuzz/wrong_*.c
 # into the library. What is found stays in build/fuzz/found; build/fuzz/sheet.fuzzer FILE, or calls.fuzzer, shows it again.
@@ -11,7 +11,7 @@ unset PROCESSOR
 seconds=${1:-600} names=${2:-sheet calls} seed=${SEED:-$(date +%s)}
 clang=${CLANG:-clang}
 t=tests/fuzz libraries=build/fuzz into=build/fuzz${FAULT:+/wrong}
-flags="-std=gnu11 -g -O2 -Wall -Wextra -Werror -Iinclude -I$s"
+flags="-std=gnu11 -g -O2 -Wall -Wextra -Werror $includes"
 flags="$flags -fsanitize=fuzzer,address,undefined -fno-sanitize-recover=all"
 # The library allocates nothing, and a search for leaks does not work on every machine.
 export ASAN_OPTIONS=detect_leaks=0:quarantine_size_mb=32
@@ -24,10 +24,11 @@ stop() { # WHAT
 part() { # WHAT sheet|calls
     case $1-$2 in
         crates-sheet) echo fox_probe ;;
-        crates-calls) echo fox_station_card fox_station_server ;;
-        sources-sheet) echo "$t/sheet.c $t/exact.c $t/answers.c $s/sheet.c $second" ;;
+        crates-calls) sed -n 's/^CALLS = //p' Makefile | sed -e 's|$(OUT)/||g' -e 's|\.o||g' ;;
+        sources-sheet) echo "$t/sheet.c $t/begin.c $t/exact.c $s/sheet.c $second $c/answers.c" ;;
         sources-calls)
-            echo "$t/calls.c $t/take.c $t/change.c $t/exact.c $t/answers.c $s/ways.c $s/hex.c $s/tally.c $second"
+            echo "$t/calls.c $t/begin.c $t/take.c $t/change.c $t/exact.c tests/beside/second_answer.c" \
+                "$second $engines $c/answers.c $c/chance.c"
             ;;
         wrapped-sheet) echo fox_probe_sheet ;;
         wrapped-calls) echo fox_card_open_block fox_server_run ;;
@@ -90,12 +91,14 @@ seed_sheet() { # FOLDER: right sheets of all kinds
 }
 
 # The choices that tests/fuzz/take.h lists, each of a kind and of four bytes that these leave aside.
-seed_calls() { # FOLDER: a served call of each kind, and a run of the most data
-    n='\000\000\000\000'
-    for call in 0.021 1.021 2.021 3.021 4.021 5.021 5.370; do
-        for cipher in 0 1; do
-            printf "\\00${call%.*}$n\\00$cipher$n\\004$n\\020$n\\000$n\\${call#*.}$n\\000$n\\000$n\\000$n%s" \
-                0123456789abcdefghijklmnopqrstuvwxyzABCDEF >"$1/$call.$cipher"
+seed_calls() { # FOLDER: a served call of each verb, undone by each engine, and runs of the most data
+    n='\000\000\000\000' verbs=$(grep -c "^uint32_t fox_$(engine_names | head -n 1)_" include/fox.h)
+    for which in $(seq 0 $((verbs * $(engine_names | wc -l) - 1))); do
+        first="\\$(printf %03o "$which")$n"
+        for choices in 0.021 1.021 0.370 1.370; do
+            cipher="\\00${choices%.*}$n" data="\\${choices#*.}$n"
+            printf "$first$cipher\\004$n\\020$n\\000$n$data\\000$n\\000$n\\000$n%s" \
+                0123456789abcdefghijklmnopqrstuvwxyzABCDEF >"$1/$which.$choices"
         done
     done
 }

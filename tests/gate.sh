@@ -10,26 +10,15 @@ cd "$(dirname "$0")/.." || exit 2
 began=$(date +%s)
 log=$(mktemp -d) || exit 2
 trap 'rm -rf "$log"' EXIT
-: >"$log/sums"
 : >"$log/left"
 rm -f target/gate.sum
 
-# The sum of a part goes to a file, since parts may run side by side.
 part() { # NAME COMMAND..
-    name=$1 file=$log/$1
+    name=$1 had_passed=$passed had_failed=$failed since=$(date +%s)
     shift
-    since=$(date +%s)
-    { "$@" 2>&1; echo "$?" >"$file.status"; } | tee "$file"
-    status=$(cat "$file.status")
-    grep ': left out: ' "$file" | sed "s/^[^:]*: /gate: $name: /" >>"$log/left"
-    set -- $(tail -n 1 "$file" | sed -n 's/^\([0-9][0-9]*\) passed, \([0-9][0-9]*\) failed$/\1 \2/p')
-    if [ $# -ne 2 ] || [ "$1$2" = 00 ]; then
-        set -- 0 1
-    elif [ "$status" -ne 0 ] && [ "$2" -eq 0 ]; then
-        set -- "$1" 1
-    fi
-    echo "$1 $2" >>"$log/sums"
-    echo "gate: $name: $1 passed, $2 failed, in $(($(date +%s) - since)) s"
+    add "$log/$name" "$@"
+    grep ': left out: ' "$log/$name" | sed "s/^[^:]*: /gate: $name: /" >>"$log/left"
+    echo "gate: $name: $((passed - had_passed)) passed, $((failed - had_failed)) failed, in $(($(date +%s) - since)) s"
 }
 
 minutes() {
@@ -69,18 +58,24 @@ host_tests() { # PROCESSOR
     done
 }
 
+# Beside the machine's own, with a sum of their own.
+other_host_tests() { # PROCESSOR
+    passed=0 failed=0
+    host_tests "$1"
+    close_sum
+}
+
 finish() {
     cat "$log/left"
     mkdir -p target
-    awk '{ passed += $1; failed += $2 } END { printf "%d passed, %d failed\n", passed, failed; exit failed != 0 }' "$log/sums" \
-        >"$log/sum"
+    close_sum >"$log/sum"
     status=$?
     tee target/gate.sum <"$log/sum"
     exit "$status"
 }
 
 sh tools/needs.sh || {
-    echo "0 1" >"$log/sums"
+    failed=1
     finish
 }
 sh tools/needs.sh optional
@@ -92,12 +87,15 @@ made_for "$MACHINE"
 if [ -z "$why" ]; then
     tested="$tested, and on that for $other by an emulator"
     made_for "$other"
-    host_tests "$other" >"$log/other" 2>&1 &
+    { other_host_tests "$other" >"$log/other" 2>&1; echo "$?" >"$log/other.status"; } &
 else
     left_out gate "host tests of the library for $other" "$why" >>"$log/left"
 fi
 host_tests "$MACHINE"
 wait
-[ ! -f "$log/other" ] || cat "$log/other"
+if [ -z "$why" ]; then
+    cat "$log/other"
+    add_said "$log/other" "$(cat "$log/other.status")"
+fi
 echo "gate: host tests ran on $tested; the whole took $(minutes)"
 finish

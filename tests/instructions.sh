@@ -1,5 +1,5 @@
 #!/bin/sh
-# Counts the instructions under each symbol of tests/instructions.txt and holds them to their limit for this processor: a
+# Counts the instructions under each symbol of tests/measure/instructions.txt and holds them to their limit for this processor: a
 # lookup that built its table anew would take hundreds. Code that calls or jumps is refused, since a count of lines says
 # nothing of it. Last line: 'N passed, M failed'.
 set -u
@@ -14,7 +14,6 @@ case $PROCESSOR in
     aarch64) jumps='(b|bl|br|blr|b\.[a-z]+|cbn?z|tbn?z)' ;;
     *) failed_to instructions "there are no limits for $PROCESSOR" ;;
 esac
-passed=0 failed=0
 while read -r symbol x86_64 aarch64; do
     case $symbol in '' | '#'*) continue ;; esac
     [ "$PROCESSOR" = x86_64 ] && limit=$x86_64 || limit=$aarch64
@@ -22,15 +21,11 @@ while read -r symbol x86_64 aarch64; do
         >"$OUT/fox_probe.symbol"
     count=$(($(wc -l <"$OUT/fox_probe.symbol")))
     if grep -Eq "[[:space:]]$jumps[[:space:]]" "$OUT/fox_probe.symbol"; then
-        failed=$((failed + 1))
-        echo "instructions: $symbol calls or jumps: FAILED"
+        fails "instructions: $symbol calls or jumps"
     elif [ "$count" -gt 0 ] && [ "$count" -lt "$limit" ]; then
-        passed=$((passed + 1))
-        echo "instructions: $symbol takes $count, below $limit"
+        passes "instructions: $symbol takes $count, below $limit"
     else
-        failed=$((failed + 1))
-        echo "instructions: $symbol takes $count, and is to stay below $limit: FAILED"
+        fails "instructions: $symbol takes $count, and is to stay below $limit"
     fi
-done <tests/instructions.txt
-echo "$passed passed, $failed failed"
-[ "$failed" -eq 0 ]
+done <tests/measure/instructions.txt
+close_sum

@@ -24,5 +24,4 @@ strict='-Wall -Wextra -Wpedantic -Wshadow -Wconversion -Werror'
 . tests/product/trouble.sh
 . tests/product/progress.sh
 [ "$PROCESSOR" != "$MACHINE" ] || . tests/product/commands.sh
-echo "$passed passed, $failed failed"
-[ "$failed" -eq 0 ]
+close_sum

@@ -1,5 +1,5 @@
 #!/bin/sh
-# Builds and runs tests/speed.c over libfox.a: the library's speed beside that of straight C code, both for the machine's own
+# Builds and runs tests/speed over libfox.a: the library's speed beside that of plain C code, both for the machine's own
 # processor. The C code is compiled by clang -O3 where clang makes programs that run here, and by gcc -O3 elsewhere.
 set -u
 cd "$(dirname "$0")/.." || exit 2
@@ -11,8 +11,7 @@ compiler=$(
     said=$(no_programs)
     [ -n "$said" ] || echo clang
 )
-compiler=${compiler:-$CC_HOST}
-$compiler -std=gnu11 -O3 -Wall -Wextra -Werror -Iinclude -o "$OUT/speed" tests/speed.c tests/straight.c "$OUT/libfox.a" ||
-    failed_to speed "nothing was measured"
-echo "speed: on $MACHINE; the C code is compiled by $compiler -O3"
+CC_HOST=${compiler:-$CC_HOST}
+built speed speed -O3 tests/speed/*.c $engines $c/chance.c "$OUT/libfox.a"
+echo "speed: on $MACHINE; the C code is compiled by $CC_HOST -O3"
 "./$OUT/speed"

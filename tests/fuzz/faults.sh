@@ -3,18 +3,16 @@
 # minute and from an empty corpus. Last line: 'N passed, M failed'.
 set -u
 cd "$(dirname "$0")/../.." || exit 2
-passed=0 failed=0
+. tests/host.sh
 
 find_fault() { # sheet|calls FAULT
     rm -rf build/fuzz/wrong
     began=$(date +%s)
     said=$(FAULT=$2 sh tests/fuzz.sh 60 "$1" 2>&1)
     if [ $? -eq 1 ]; then
-        passed=$((passed + 1))
-        echo "faults: $2 found in the $1, built and run in $(($(date +%s) - began)) s"
+        passes "faults: $2 found in the $1, built and run in $(($(date +%s) - began)) s"
     else
-        failed=$((failed + 1))
-        echo "faults: $2 not found in the $1: $said"
+        fails "faults: $2 not found in the $1: $said"
     fi
 }
 
@@ -23,5 +21,4 @@ for fault in BYTE_WRONG REFUSALS_EXCHANGED SUM_WRAPS COUNTER_CARRIES LAST_LENGTH
     REFUSED_WRITES KEY_READ_AFTER; do
     find_fault calls $fault
 done
-echo "$passed passed, $failed failed"
-[ "$failed" -eq 0 ]
+close_sum

@@ -27,7 +27,7 @@ int LLVMFuzzerTestOneInput(const uint8_t *bytes, size_t len)
     char answer[MOST_ANSWER];
     size_t count = second_sheet(bytes, len, answer, sizeof answer);
     const uint8_t *right = (const uint8_t *)answer;
-    count_answer(right[strlen("refusal=")] - (unsigned)'0');
+    count_answer((uint32_t)strtoul(answer + strlen("refusal="), NULL, 10));
     struct exact sheet = exact_copy(bytes, len), out = exact_room(MOST_ANSWER);
     exact_paint(&out, right, count);
     hold(fox_probe_sheet(sheet.at, sheet.len, out.at) == count, "the answer has another length");

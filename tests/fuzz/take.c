@@ -126,26 +126,27 @@ static void take_data(const struct input *in, uint8_t *data, size_t len)
 
 struct job take_job(const uint8_t *bytes, size_t len)
 {
-    static uint8_t data[LONG_ROOM];
+    static uint8_t key[SHORT_ROOM], first[SHORT_ROOM], data[LONG_ROOM];
     struct choice made[CHOICES];
     struct input in = {bytes, len};
     for (int i = 0; i < CHOICES; i++)
         made[i] = take_choice(&in);
-    int which = made[WHICH].kind % (WAYS * VERBS);
-    struct job job = {.verb = (enum verb)(which / WAYS), .way = which % WAYS};
+    struct job job = {.verb = (enum verb)(made[WHICH].kind % VERBS)};
     struct call *c = &job.call;
+    c->key = key, c->first = first, c->data = data;
+    int over_data = verbs[job.verb].over_data;
+    job.undoes = &engines[made[WHICH].kind / VERBS % ENGINES];
     c->cipher = cipher_of(made[CIPHER]);
     c->rounds = rounds_of(made[ROUNDS]);
     c->key_len = key_len_of(made[KEY_LEN]);
     c->first_len = first_len_of(made[FIRST_LEN], c->cipher);
-    if (job.verb == RUN) {
+    if (over_data) {
         c->data_len = data_len_of(made[DATA_LEN], c->rounds);
         c->offset = offset_of(made[OFFSET], made[OFFSET_HIGH], c->data_len);
     }
-    c->out_len = out_len_of(made[OUT_LEN], job.verb == RUN ? c->data_len : c->first_len);
-    take_bytes(&in, c->key, c->key_len);
-    take_bytes(&in, c->first, c->first_len);
+    c->out_len = out_len_of(made[OUT_LEN], over_data ? c->data_len : c->first_len);
+    take_bytes(&in, key, c->key_len);
+    take_bytes(&in, first, c->first_len);
     take_data(&in, data, c->data_len);
-    c->data = data;
     return job;
 }

@@ -3,13 +3,14 @@
 #ifndef FUZZ_TAKE_H
 #define FUZZ_TAKE_H
 
-#include "ways.h"
+#include "call.h"
 
-enum verb { SEAL, OPEN, RUN, VERBS };
+enum { SHORT_ROOM = 80, LONG_ROOM = 70000 };
 
+/* `undoes` is the engine that is to undo what is served; the call itself goes to all. The call has no output yet. */
 struct job {
     enum verb verb;
-    int way;
+    const struct engine *undoes;
     struct call call;
 };
 
@@ -18,7 +19,7 @@ struct job {
 enum { WHICH, CIPHER, ROUNDS, KEY_LEN, FIRST_LEN, DATA_LEN, OFFSET, OFFSET_HIGH, OUT_LEN, CHOICES };
 enum { CHOICE = 5, HEAD = CHOICES * CHOICE };
 
-/* The data of every call stands in the same place. */
+/* The bytes of every call stand in the same place. */
 struct job take_job(const uint8_t *bytes, size_t len);
 
 #endif

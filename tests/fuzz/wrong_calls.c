@@ -1,5 +1,5 @@
-/* Stands before two of the station's exports, by the linker's --wrap, and puts the one fault named by FAULT into them, so
- * that one sees whether the fuzzer finds it. */
+/* Stands before two of the station's exports, by the linker's --wrap, and puts the one fault named by FAULT into
+ * them, so that one sees whether the fuzzer finds it. */
 #include "fox.h"
 
 #include <string.h>

@@ -1,5 +1,5 @@
-/* Stands before the bench sheet's export, by the linker's --wrap, and puts the one fault named by FAULT into it, so that
- * one sees whether the fuzzer finds it. */
+/* Stands before the bench sheet's export, by the linker's --wrap, and puts the one fault named by FAULT into it, so
+ * that one sees whether the fuzzer finds it. */
 #include "exact.h"
 
 #include <string.h>

@@ -1,15 +1,12 @@
-# Sourced by tests/product.sh: how checks are counted, and what several of them use.
-passed=0 failed=0
+# Sourced by tests/product.sh: how a check is made, and what several of them use.
 
 check() { # NAME COMMAND..: passes where the command, which may be a function, succeeds
     checked=$1
     shift
     if "$@" >"$room/said" 2>&1; then
-        passed=$((passed + 1))
-        echo "product: $checked"
+        passes "product: $checked"
     else
-        failed=$((failed + 1))
-        echo "product: $checked: FAILED"
+        fails "product: $checked"
         head -n 10 "$room/said" | sed 's/^/    /'
     fi
 }
@@ -17,7 +14,7 @@ check() { # NAME COMMAND..: passes where the command, which may be a function, s
 compiled() { # PROGRAM SOURCE WORDS..: a program over libfox.a
     out=$1
     shift
-    $CC_HOST -std=gnu11 -O1 $strict -Iinclude -o "$room/$out" "$@" "$OUT/libfox.a"
+    $CC_HOST -std=gnu11 -O1 $strict $includes -o "$room/$out" "$@" "$OUT/libfox.a"
 }
 
 compiled_and_right() { # PROGRAM SOURCE WORDS..: it says by its exit status whether all is right

@@ -1,5 +1,5 @@
 /* One of two files that include fox.h, this one twice, for a program in C99 or C++ that is linked with the library. It
- * prints one block sealed by the card's way, as the other file opens it by the server's, and then the text of refusal 2. */
+ * prints one block sealed by the card, as the other file opens it by the server, and then the text of refusal 2. */
 #include <stdio.h>
 #include "fox.h"
 #include "fox.h"

@@ -38,7 +38,12 @@ symbols() { # LIBRARY EXPRESSION WORDS..: those of nm
     same_text '' "$(grep -v -x -e memcpy -e memset "$room/wanted")"
 }
 
-# A card's program has no part of the server's way in it, neither by the card's library nor, where the linker takes out what
+# The tests' table of engines, and its verbs, leave out no call of the header but the one for texts.
+every_call() {
+    same_text "$(declared . | grep -v -x fox_refusal_text)" "$(run_host "$room/calls" names | sort)"
+}
+
+# A card's program has no part of the server in it, neither by the card's library nor, where the linker takes out what
 # is not reached, by the whole one.
 card_alone() {
     for library in libfox_card.a "libfox.a -Wl,--gc-sections"; do
@@ -77,7 +82,7 @@ readme_example() {
         $CC_HOST -std=c99 -Wall -Wextra -Wpedantic -Werror -Iinclude -fsyntax-only "$room/example.c"
 }
 
-check "every refusal's text is there, names what is right, and is no other's" compiled_and_right texts tests/product/texts.c
+check "every refusal's text is there, names what is right, and is no other's" compiled_and_right texts tests/product/texts.c $c/tally.c
 check "the header alone in C99, C11 and C17" header_alone "$CC_HOST" c c99 c11 c17
 check "two files that include the header, in C99" joined "$CC_HOST" "-std=c99 -Iinclude" tests/product "$OUT/libfox.a"
 if command -v "${CXX_HOST%% *}" >/dev/null 2>&1; then
@@ -97,6 +102,8 @@ check "the archive defines what the header declares, and nothing else" symbols l
 check "the card's archive defines the card's calls, and nothing else" symbols libfox_card.a 'fox_card|text'
 check "the shared library defines what the header declares, and nothing else" symbols libfox.so . -D
 check "a card's program has nothing of the server's in it" card_alone
-check "every call on vectors, refusals and limits" compiled_and_right calls tests/product/calls.c
-check "four threads at once get the bytes that one alone gets" compiled_and_right threads tests/product/threads.c -pthread
+check "every call on vectors, refusals and limits" compiled_and_right calls tests/product/calls.c $engines
+check "every call that the header declares is among those" every_call
+check "four threads at once get the bytes that one alone gets" \
+    compiled_and_right threads tests/product/threads.c $engines -pthread
 check "the C example of README.md is compiled as printed and prints what is shown" readme_example

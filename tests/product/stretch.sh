@@ -20,7 +20,7 @@ opens_whole() {
         stretch 128 12 "$key128" "$counter128" 0 "$last" "$room/sealed128" | cmp - "$room/plain"
 }
 
-seals_alike() { # by the server's way as by the card's
+seals_alike() { # by the server as by the card
     stretch 64 16 "$key64" "$counter64" 0 "$last" "$room/plain" | cmp - "$room/sealed64" &&
         stretch 128 12 "$key128" "$counter128" 0 "$last" "$room/plain" | cmp - "$room/sealed128"
 }
@@ -79,14 +79,13 @@ card_stretches() {
     done
 }
 
-way_called() { # NUMBER WORDS..: the number that this way refuses with
-    number=$1
-    shift
-    run_host "$room/ways" "$@" 64 16 "$key64" "$counter64" 0 9 "$room/plain" 2>&1 | grep "^stretch: refusal $number: "
+engine_called() { # WORDS..
+    run_host "$room/stand_in" "$@" 64 16 "$key64" "$counter64" 0 9 "$room/plain"
 }
 
-calls_its_way() {
-    compiled ways examples/stretch.c tests/product/ways.c c/fox_refusal_text.c && way_called 101 --card && way_called 102
+calls_its_engine() {
+    compiled stand_in examples/stretch.c tests/product/stand_in.c &&
+        same_text card "$(engine_called --card)" && same_text server "$(engine_called)"
 }
 
 # A size that is kept in 32 bits would come out as 10 bytes for the first.
@@ -99,11 +98,11 @@ large_files() {
         tail -c 24 "$room/end" | cmp - "$room/end.card"
 }
 
-check "stretch: what the card's way sealed, the server's way opens" opens_whole
-check "stretch: the server's way seals as the card's" seals_alike
+check "stretch: what the card sealed, the server opens" opens_whole
+check "stretch: the server seals as the card" seals_alike
 check "stretch: over zeros come known vectors, for a key in either case and the empty key" seals_vectors
 check "stretch: later bytes are those of the counter that is reached there" counts_on
-check "stretch: stretches by the server's way" all_stretches
-check "stretch: stretches by the card's way" card_stretches
-check "stretch: --card calls the card's way, and else the server's is called" calls_its_way
+check "stretch: stretches by the server" all_stretches
+check "stretch: stretches by the card" card_stretches
+check "stretch: --card calls the card's engine, and else the server's is called" calls_its_engine
 check "stretch: the end of the longest run in files above 4 GiB" large_files

@@ -1,11 +1,12 @@
 /* Holds the texts of the refusals to what each has to name: what is wrong and what range is right. Usage: texts, or
  * texts NUMBER, which prints the text of that number. */
+#include "count.h"
+#include "fox.h"
+#include "tally.h"
+
 #include <stdio.h>
 #include <stdlib.h>
 #include <string.h>
-#include "fox.h"
-
-#define COUNT(a) (sizeof(a) / sizeof *(a))
 
 static const char *const named[][4] = {
     [FOX_SERVED] = {"Served", "output", "written"},
@@ -20,14 +21,10 @@ static const char *const named[][4] = {
 };
 static const uint32_t others[] = {COUNT(named), COUNT(named) + 1, 255, 256, 65536, 0x7FFFFFFF, 0x80000000, UINT32_MAX};
 
-static int wrong;
-
-static void hold(int ok, uint32_t number, const char *what, const char *word)
+static void hold(int right, uint32_t number, const char *what, const char *word)
 {
-    if (ok)
-        return;
-    printf("text %u %s%s\n", (unsigned)number, what, word);
-    wrong++;
+    if (case_wrong(right))
+        printf("text %u %s%s\n", (unsigned)number, what, word);
 }
 
 /* One sentence: it begins with a capital letter and has its only full stop, and no line's end, at its end. */
@@ -53,8 +50,8 @@ static void hold_other(uint32_t number)
 {
     const char *text = fox_refusal_text(number);
     hold(text != NULL && is_sentence(text), number, "is no sentence", "");
-    for (uint32_t i = 0; i < COUNT(named); i++)
-        hold(text == NULL || strcmp(text, fox_refusal_text(i)) != 0, number, "is that of a number that means something", "");
+    for (uint32_t i = 0; text != NULL && i < COUNT(named); i++)
+        hold(strcmp(text, fox_refusal_text(i)) != 0, number, "is that of a number that means something", "");
 }
 
 int main(int count, char **words)
@@ -63,9 +60,14 @@ int main(int count, char **words)
         printf("%s\n", fox_refusal_text((uint32_t)strtoul(words[1], NULL, 10)));
         return 0;
     }
+    tally_begin("texts");
+    group_begin("texts of the answers");
     for (uint32_t number = 0; number < COUNT(named); number++)
         hold_named(number);
+    group_end();
+    group_begin("texts of other numbers");
     for (size_t i = 0; i < COUNT(others); i++)
         hold_other(others[i]);
-    return wrong != 0;
+    group_end();
+    return tally_end();
 }

@@ -1,19 +1,20 @@
-/* Four threads call both ways at once, each with another cipher, key and offset, and are to get the bytes that the same
- * calls gave alone. */
+/* Four threads make every engine's calls at once, each with another cipher, key and offset, and are to get the bytes
+ * that the same calls gave alone. */
 #define _GNU_SOURCE
+#include "call.h"
+#include "fox.h"
+
 #include <pthread.h>
 #include <stdio.h>
 #include <string.h>
-#include "fox.h"
 
-enum { THREADS = 4, TIMES = 60, LENGTH = 500 };
+enum { THREADS = 4, TIMES = 30, LENGTH = 500 };
 
 struct caller {
     uint32_t cipher, rounds;
-    size_t key_len, block;
+    size_t key_len;
     uint64_t offset;
-    uint8_t key[FOX_MOST_KEY], counter[FOX128_BLOCK], data[LENGTH];
-    uint8_t stretch[LENGTH], sealed[FOX128_BLOCK];
+    uint8_t key[FOX_MOST_KEY], first[FOX128_BLOCK], data[LENGTH], alone[VERBS][LENGTH];
     int wrong;
 };
 
@@ -21,41 +22,49 @@ static pthread_barrier_t all_here;
 
 static void set(struct caller *c, int number)
 {
-    *c = (struct caller){.cipher = number % 2 == 0 ? FOX64 : FOX128, .rounds = 12 + (uint32_t)number};
+    *c = (struct caller){.cipher = number % 2 == 0 ? FOX64 : FOX128, .rounds = FOX_LEAST_ROUNDS + (uint32_t)number};
     c->offset = (uint64_t)number * 1001;
     c->key_len = (size_t)number * 10;
-    c->block = c->cipher / 8;
     memset(c->key, 0x11 * (number + 1), sizeof c->key);
-    memset(c->counter, 0xF0 + number, sizeof c->counter);
+    memset(c->first, 0xF0 + number, sizeof c->first);
     memset(c->data, number, sizeof c->data);
 }
 
-static int run(const struct caller *c, int card, uint8_t *out)
+/* Every call of the engine, each into an output of its own; answers with 0 where one was refused. */
+static int called(const struct caller *c, const struct engine *engine, uint8_t out[VERBS][LENGTH])
 {
-    return (card ? fox_card_run : fox_server_run)(c->cipher, c->rounds, c->key, c->key_len, c->counter, c->block, c->offset,
-                                                  c->data, LENGTH, out, LENGTH) == FOX_SERVED;
+    int served = 1;
+    for (enum verb verb = 0; verb < VERBS; verb++) {
+        size_t block = block_of(c->cipher), len = verbs[verb].over_data ? LENGTH : block;
+        struct call call = {c->cipher, c->rounds, c->key, c->key_len, c->first, block, c->offset, c->data, LENGTH,
+                            out[verb], len};
+        served = served && make_call(engine, verb, &call) == FOX_SERVED;
+    }
+    return served;
 }
 
-static int seal(const struct caller *c, int card, uint8_t *out)
+static int again(const struct caller *c, const struct engine *engine)
 {
-    return (card ? fox_card_seal_block : fox_server_seal_block)(c->cipher, c->rounds, c->key, c->key_len, c->data, c->block,
-                                                                out, c->block) == FOX_SERVED;
-}
-
-static int again(const struct caller *c, int card)
-{
-    uint8_t stretch[LENGTH] = {0}, sealed[FOX128_BLOCK] = {0};
-    return run(c, card, stretch) && seal(c, card, sealed) && memcmp(stretch, c->stretch, LENGTH) == 0 &&
-           memcmp(sealed, c->sealed, c->block) == 0;
+    uint8_t out[VERBS][LENGTH] = {{0}};
+    return called(c, engine, out) && memcmp(out, c->alone, sizeof out) == 0;
 }
 
 static void *call_often(void *caller)
 {
     struct caller *c = caller;
     pthread_barrier_wait(&all_here);
-    for (int i = 0; i < TIMES; i++)
-        c->wrong += !again(c, i % 2);
+    for (size_t i = 0; i < TIMES * ENGINES; i++)
+        c->wrong += !again(c, &engines[i % ENGINES]);
     return NULL;
+}
+
+/* What the first engine gives alone, and every other one as well. */
+static int prepared(struct caller *c)
+{
+    int right = called(c, &engines[0], c->alone);
+    for (size_t i = 1; i < ENGINES; i++)
+        right = right && again(c, &engines[i]);
+    return right;
 }
 
 int main(void)
@@ -65,10 +74,9 @@ int main(void)
     int wrong = 0;
     pthread_barrier_init(&all_here, NULL, THREADS);
     for (int i = 0; i < THREADS; i++) {
-        struct caller *c = &callers[i];
-        set(c, i);
-        if (!run(c, 0, c->stretch) || !seal(c, 0, c->sealed) || !again(c, 1))
-            return 1;
+        set(&callers[i], i);
+        if (!prepared(&callers[i]))
+            return puts("alone, two engines differ, or one refuses"), 1;
     }
     for (int i = 0; i < THREADS; i++)
         if (pthread_create(&threads[i], NULL, call_often, &callers[i]) != 0)
@@ -77,6 +85,7 @@ int main(void)
         pthread_join(threads[i], NULL);
         wrong += callers[i].wrong;
     }
-    printf("%d of %d calls by four threads came out otherwise than alone\n", wrong, THREADS * TIMES);
+    printf("%d of %d times the calls of four threads came out otherwise than alone\n", wrong,
+           THREADS * TIMES * (int)ENGINES);
     return wrong != 0;
 }

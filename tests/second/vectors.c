@@ -1,5 +1,6 @@
 /* The second implementation by itself: 001's vectors, 01's known values and sheet, and the rows of two files.
  * Usage: vectors BLOCKS RUNS. Last line: 'N passed, M failed', where each group of cases counts as one. */
+#include "count.h"
 #include "hex.h"
 #include "parts.h"
 #include "second.h"
@@ -11,8 +12,6 @@
 #include <stdio.h>
 #include <stdlib.h>
 #include <string.h>
-
-#define COUNT(a) (sizeof(a) / sizeof *(a))
 
 enum { MOST_ROW = 2048, RUN_END = 1073741824 };
 
@@ -290,7 +289,7 @@ static uint32_t all_rows(FILE *file, size_t width, void (*check_row)(char **fiel
 static void rows(const char *path, size_t width, uint32_t expected, void (*check_row)(char **fields))
 {
     FILE *file = fopen(path, "r");
-    group_begin(path);
+    group_begin("%s", path);
     if (file != NULL) {
         same_number(all_rows(file, width, check_row), expected, "rows");
         fclose(file);

@@ -1,0 +1,12 @@
+/* A call as the second implementation answers it. */
+#include "beside.h"
+#include "second.h"
+
+uint32_t second_answer(enum verb verb, const struct call *c)
+{
+    if (verb == RUN)
+        return second_run(c->cipher, c->rounds, c->key, c->key_len, c->first, c->first_len, c->offset, c->data,
+                          c->data_len, c->out, c->out_len);
+    return second_block(verb == OPEN, c->cipher, c->rounds, c->key, c->key_len, c->first, c->first_len, c->out,
+                        c->out_len);
+}

@@ -1,0 +1,11 @@
+/* The table of the library's engines, made of the lines of engines.def. */
+#include "engines.h"
+#include "fox.h"
+
+#define ENGINE(name, stack, work) \
+    {#name, fox_##name##_seal_block, fox_##name##_open_block, fox_##name##_run, stack, work},
+const struct engine engines[ENGINES] = {
+#include "engines.def"
+};
+
+_Static_assert(ENGINES >= 2, "engines are held to one another");

@@ -1,0 +1,14 @@
+/* Bytes as pairs of upper-case hex digits. */
+#ifndef COMMON_HEX_H
+#define COMMON_HEX_H
+
+#include <stddef.h>
+#include <stdint.h>
+
+/* The bytes that `text` names, up to its end or the first byte that is no pair; at most `room` of them. Answers with
+ * their number. */
+size_t hex_read(const char *text, uint8_t *bytes, size_t room);
+
+void hex_print(const uint8_t *bytes, size_t len);
+
+#endif

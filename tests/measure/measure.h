@@ -1,0 +1,11 @@
+/* What is measured of the compiled library, each figure counted by the tally. */
+#ifndef MEASURE_MEASURE_H
+#define MEASURE_MEASURE_H
+
+/* The stack that each call takes, held to what fox.h says. */
+void stacks(void);
+
+/* The instructions that one more block takes by the server. */
+void instructions(void);
+
+#endif

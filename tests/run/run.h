@@ -1,0 +1,25 @@
+/* The groups of cases on the library's runs. */
+#ifndef RUN_RUN_H
+#define RUN_RUN_H
+
+#include "engines.h"
+
+/* Each row of the file, sealed and opened. */
+void rows(const struct engine *engine, const char *path);
+
+/* Calls spoilt in one way, in two and in more: the refusal that comes first is given, and nothing is changed. */
+void refusals(const struct engine *engine);
+
+/* The counter's lowest 32 bits count and wrap, and its other bytes stay. */
+void counters(const struct engine *engine);
+
+/* Served and refused calls with their buffers beside pages that may not be touched. */
+void guarded(const struct engine *engine);
+
+/* The values at which a call is just served and just refused, by every engine. */
+void limits(void);
+
+/* Runs cut at random, by every engine, and by every pair of two. */
+void random_cuts(uint32_t cipher);
+
+#endif

@@ -1,0 +1,32 @@
+/* Plain C code for FOX in counter mode, to compare the library's speed with. It checks nothing: a caller hands over
+ * what the library would serve. */
+#ifndef SPEED_PLAIN_H
+#define SPEED_PLAIN_H
+
+#include <stddef.h>
+#include <stdint.h>
+
+/* One number a round for FOX64, two for FOX128, left first. */
+struct plain_key {
+    uint32_t cipher, rounds;
+    uint64_t keys[2 * 255];
+};
+
+/* To be called once, before any other function here. */
+void plain_tables(void);
+
+void plain_prepare(struct plain_key *prepared, uint32_t cipher, uint32_t rounds, const uint8_t *key, size_t key_len);
+
+/* By tables and a prepared key, one block at a time. */
+void plain_run_one(const struct plain_key *prepared, const uint8_t *counter, uint64_t offset,
+                      const uint8_t *input, size_t len, uint8_t *out);
+
+/* The same, four blocks side by side. */
+void plain_run_four(const struct plain_key *prepared, const uint8_t *counter, uint64_t offset,
+                       const uint8_t *input, size_t len, uint8_t *out);
+
+/* By small boxes and products worked out, each round key made anew for each block. */
+void plain_run_small(uint32_t cipher, uint32_t rounds, const uint8_t *key, size_t key_len, const uint8_t *counter,
+                        uint64_t offset, const uint8_t *input, size_t len, uint8_t *out);
+
+#endif

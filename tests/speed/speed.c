@@ -1,0 +1,300 @@
+/* The speed of the library's runs beside that of plain C code, side by side in one process. The C code and every
+ * engine are first held to the server's answers, and nothing is measured where they differ. Figures are asked on
+ * x86-64 alone; one that is missed is said and is no error. */
+#define _GNU_SOURCE
+#include "chance.h"
+#include "count.h"
+#include "engines.h"
+#include "fox.h"
+#include "plain.h"
+
+#include <stdio.h>
+#include <stdlib.h>
+#include <string.h>
+#include <time.h>
+
+enum { STRETCH = FOX_MOST_DATA, SHORT_STRETCH = 2048, ROUNDS = 16, PAIRS = 41, HIGH = FOX_RUN_END - STRETCH };
+
+/* What is timed, and how many times as fast as the C code for one block the server is to be. */
+static const struct setting {
+    uint32_t cipher;
+    size_t key_len;
+    double asked;
+} settings[] = {{FOX64, 16, 2.0}, {FOX64, 32, 2.0}, {FOX128, 16, 1.8}};
+
+static uint8_t key[FOX_MOST_KEY], counter[FOX128_BLOCK], input[STRETCH], out[STRETCH], answer[STRETCH];
+static uint32_t cipher, rounds = ROUNDS;
+static size_t key_len;
+static struct plain_key prepared;
+static volatile uint32_t sink;
+
+/* What is compared. Each works on the first `len` bytes of the input; the prepared key is ready. */
+
+typedef uint32_t work(uint64_t offset, size_t len);
+
+static uint32_t by_engine(const struct engine *engine, uint64_t offset, size_t len)
+{
+    return engine->run(cipher, rounds, key, key_len, counter, cipher / 8, offset, input, len, out, len);
+}
+
+static uint32_t server(uint64_t offset, size_t len)
+{
+    return by_engine(&engines[ENGINE_server], offset, len);
+}
+
+static uint32_t card(uint64_t offset, size_t len)
+{
+    return by_engine(&engines[ENGINE_card], offset, len);
+}
+
+static uint32_t one(uint64_t offset, size_t len)
+{
+    plain_run_one(&prepared, counter, offset, input, len, out);
+    return 0;
+}
+
+static uint32_t four(uint64_t offset, size_t len)
+{
+    plain_run_four(&prepared, counter, offset, input, len, out);
+    return 0;
+}
+
+static uint32_t small(uint64_t offset, size_t len)
+{
+    plain_run_small(cipher, rounds, key, key_len, counter, offset, input, len, out);
+    return 0;
+}
+
+static void set(uint32_t new_cipher, uint32_t new_rounds, size_t new_key_len)
+{
+    cipher = new_cipher;
+    rounds = new_rounds;
+    key_len = new_key_len;
+    plain_prepare(&prepared, cipher, rounds, key, key_len);
+}
+
+static int same(const char *name, uint32_t refusal, uint64_t offset, size_t len)
+{
+    int right = refusal == FOX_SERVED && memcmp(out, answer, len) == 0;
+    if (!right)
+        printf("speed: FOX%u, %u rounds, key of %zu, offset %llu, %zu bytes: %s differs from the server\n", cipher,
+               rounds, key_len, (unsigned long long)offset, len, name);
+    memset(out, 0, len);
+    return right;
+}
+
+/* Holds every kind of plain code and every engine to the server's answer. */
+static int agrees(uint64_t offset, size_t len)
+{
+    static const struct {
+        const char *name;
+        work *work;
+    } kinds[] = {{"one block at a time", one}, {"four blocks at a time", four}, {"small boxes", small}};
+    int right = server(offset, len) == FOX_SERVED;
+    if (!right)
+        printf("speed: the server refused\n");
+    memcpy(answer, out, len);
+    for (size_t i = 0; right && i < ENGINES; i++)
+        right = same(engines[i].name, by_engine(&engines[i], offset, len), offset, len);
+    for (size_t i = 0; right && i < COUNT(kinds); i++)
+        right = same(kinds[i].name, kinds[i].work(offset, len), offset, len);
+    return right;
+}
+
+/* Bytes that are the same in every run of this program. */
+static void fill_from(uint64_t seed, uint8_t *bytes, size_t len)
+{
+    chance_from(seed);
+    fill(bytes, len);
+}
+
+static void set_timed(const struct setting *s)
+{
+    set(s->cipher, ROUNDS, s->key_len);
+    fill_from(2, counter, sizeof counter);
+}
+
+static int timed_agree(void)
+{
+    for (size_t i = 0; i < COUNT(settings); i++) {
+        set_timed(&settings[i]);
+        if (!agrees(0, STRETCH) || !agrees(HIGH, STRETCH))
+            return 0;
+    }
+    return 1;
+}
+
+static int others_agree(void)
+{
+    static const size_t lengths[] = {0, 5, 15, 16, 17, 24, 31, 32};
+    static const uint64_t offsets[] = {0, 1, 7, 8, 29, HIGH + 3};
+    for (uint32_t c = FOX64; c <= FOX128; c += FOX64)
+        for (size_t k = 0; k < COUNT(lengths); k++) {
+            set(c, k % 2 == 0 ? 16 : 13, lengths[k]);
+            fill_from(c + k, counter, sizeof counter);
+            memset(counter + c / 8 - 4, 0xFF, k % 4);
+            for (size_t i = 0; i < COUNT(offsets); i++)
+                if (!agrees(offsets[i], 0) || !agrees(offsets[i], 1) || !agrees(offsets[i], 333))
+                    return 0;
+        }
+    return 1;
+}
+
+static double now(clockid_t clock)
+{
+    struct timespec t;
+    clock_gettime(clock, &t);
+    return (double)t.tv_sec * 1e9 + (double)t.tv_nsec;
+}
+
+/* The time for which the process was run, so that what runs beside it is not counted. */
+static double spent(void)
+{
+    return now(CLOCK_PROCESS_CPUTIME_ID);
+}
+
+static double ticks(void)
+{
+#ifdef __x86_64__
+    return (double)__builtin_ia32_rdtsc();
+#else
+    return 0;
+#endif
+}
+
+static int ascending(const void *a, const void *b)
+{
+    double x = *(const double *)a, y = *(const double *)b;
+    return (x > y) - (x < y);
+}
+
+/* Ticks of the processor's time stamp counter in a nanosecond. They are cycles only where the clock stands at its
+ * nominal rate. The counter goes on while other programs run, so it is held to the clock on the wall. The middle of
+ * several tries is taken, since one may be held up between two readings. */
+static double tick_rate(void)
+{
+    double rates[9];
+    for (size_t i = 0; i < COUNT(rates); i++) {
+        double t = now(CLOCK_MONOTONIC), began = ticks();
+        while (now(CLOCK_MONOTONIC) - t < 3e6)
+            ;
+        rates[i] = (ticks() - began) / (now(CLOCK_MONOTONIC) - t);
+    }
+    qsort(rates, COUNT(rates), sizeof *rates, ascending);
+    return rates[COUNT(rates) / 2];
+}
+
+struct side {
+    const char *name;
+    work *work;
+    uint64_t offset;
+    size_t len;
+};
+
+/* Nanoseconds of one of so many calls. */
+static double timed(const struct side *s, int calls)
+{
+    double began = spent();
+    for (int i = 0; i < calls; i++) {
+        sink += s->work(s->offset, s->len);
+        sink += out[s->len - 1];
+    }
+    return (spent() - began) / calls;
+}
+
+/* As many calls as take some milliseconds, beside which reading the clock is nothing. */
+static int calls_of(const struct side *s)
+{
+    int calls = 1;
+    while (timed(s, calls) * calls < 4e6 && calls < 1 << 20)
+        calls *= 2;
+    return calls;
+}
+
+struct figure {
+    double ratio, low, high, a, b;
+};
+
+/* How many times as fast a is as b: in each pair both are timed one after the other, so that what slows the machine
+ * for a while slows both. */
+static struct figure compared(const struct side *a, const struct side *b)
+{
+    static double ratios[PAIRS], as[PAIRS], bs[PAIRS];
+    int calls_a = calls_of(a), calls_b = calls_of(b);
+    for (int i = 0; i < PAIRS; i++) {
+        if (i % 2 == 0) {
+            as[i] = timed(a, calls_a);
+            bs[i] = timed(b, calls_b);
+        } else {
+            bs[i] = timed(b, calls_b);
+            as[i] = timed(a, calls_a);
+        }
+        ratios[i] = bs[i] / as[i];
+    }
+    qsort(ratios, PAIRS, sizeof *ratios, ascending);
+    qsort(as, PAIRS, sizeof *as, ascending);
+    qsort(bs, PAIRS, sizeof *bs, ascending);
+    return (struct figure){ratios[PAIRS / 2], ratios[PAIRS / 4], ratios[PAIRS - 1 - PAIRS / 4], as[PAIRS / 2],
+                           bs[PAIRS / 2]};
+}
+
+static double rate;
+
+static const char *verdict_of(double ratio, double asked)
+{
+#ifdef __x86_64__
+    return ratio >= asked ? "met" : "MISSED";
+#else
+    (void)ratio, (void)asked;
+    return "(asked on x86-64)";
+#endif
+}
+
+static void show(const struct side *a, const struct side *b, double asked)
+{
+    char what[64], verdict[32] = "-";
+    struct figure f = compared(a, b);
+    double bytes = (double)a->len;
+    snprintf(what, sizeof what, "%s / %s", a->name, b->name);
+    if (asked > 0)
+        snprintf(verdict, sizeof verdict, "%.1f %s", asked, verdict_of(f.ratio, asked));
+    printf("FOX%-4u %3zu  %-36s %6.2f  %6.2f %6.2f  %8.2f %8.2f  %7.1f %7.1f  %s\n", cipher, key_len, what, f.ratio,
+           f.low, f.high, bytes * 1e3 / f.a, bytes * 1e3 / f.b, f.a * rate / bytes, f.b * rate / bytes, verdict);
+}
+
+static void show_all(const struct setting *s)
+{
+    const struct side from_start = {"server", server, 0, STRETCH};
+    const struct side high = {"server, high offset", server, HIGH, STRETCH};
+    const struct side by_one = {"C, one block", one, 0, STRETCH};
+    const struct side by_four = {"C, four blocks", four, 0, STRETCH};
+    const struct side by_card = {"card", card, 0, SHORT_STRETCH};
+    const struct side by_small = {"C, small boxes", small, 0, SHORT_STRETCH};
+    set_timed(s);
+    show(&from_start, &by_one, s->asked);
+    show(&from_start, &by_four, 0);
+    show(&high, &from_start, 0);
+    show(&by_card, &by_small, 0);
+}
+
+int main(void)
+{
+    setvbuf(stdout, NULL, _IOLBF, 0);
+    fill_from(1, key, sizeof key);
+    fill_from(3, input, sizeof input);
+    plain_tables();
+    if (!others_agree() || !timed_agree())
+        return 1;
+    printf("speed: the C code answers as the library does; %d bytes (card: %d), %d rounds, medians of %d pairs, "
+           "processor time\n",
+           STRETCH, SHORT_STRETCH, ROUNDS, PAIRS);
+    printf("speed: the server's time is from key bytes, while the C code by tables has its round keys prepared\n");
+    printf("speed: a ratio says how many times as fast the first is as the second; "
+           "lower and upper are its quartiles\n");
+    rate = tick_rate();
+    printf("%-7s %3s  %-36s %6s  %6s %6s  %8s %8s  %7s %7s  %s\n", "cipher", "key", "what", "ratio", "lower", "upper",
+           "MB/s", "other's", "ticks/B", "other's", "asked");
+    for (size_t i = 0; i < COUNT(settings); i++)
+        show_all(&settings[i]);
+    return 0;
+}
