@@ -44,7 +44,7 @@ help:
 CALLS = $(OUT)/fox_station_card.o $(OUT)/fox_station_server.o
 TEXTS = $(OUT)/fox_refusal_text.o
 
-$(CALLS) $(OUT)/fox_probe.o: $(OUT)/%.o: $(SOURCES) tools/build.sh
+$(CALLS) $(OUT)/fox_check_probe.o: $(OUT)/%.o: $(SOURCES) tools/build.sh
 	$(BUILD) crate $@ $*
 
 $(TEXTS): c/fox_refusal_text.c include/fox.h tools/build.sh
@@ -52,7 +52,7 @@ $(TEXTS): c/fox_refusal_text.c include/fox.h tools/build.sh
 
 $(OUT)/libfox.a: $(CALLS) $(TEXTS)
 $(OUT)/libfox_card.a: $(OUT)/fox_station_card.o $(TEXTS)
-$(OUT)/libfox_probe.a: $(OUT)/fox_probe.o
+$(OUT)/libfox_probe.a: $(OUT)/fox_check_probe.o
 
 $(OUT)/%.a:
 	$(BUILD) archive $@ $^
@@ -74,9 +74,9 @@ bench:
 
 vectors:
 	@sh tools/needs.sh
-	@sh tools/prove.sh fox_vectors
-	@echo "cipher, rounds, key bytes: sealed and opened by the card's way, by the server's way from a prepared key, and from key bytes"
-	@cat target/log/fox_vectors.stdout
+	@sh tools/prove.sh fox_check_vectors
+	@echo "cipher, rounds, key bytes: sealed and opened by the card, by the server from key bytes, and from a prepared key"
+	@cat target/log/fox_check_vectors.stdout
 
 test:
 	@sh tests/gate.sh

@@ -21,9 +21,9 @@ static const char usage[] =
     "usage: stretch [--card] CIPHER ROUNDS KEY COUNTER FIRST LAST FILE\n"
     "\n"
     "Opens the bytes FIRST to LAST of a sealed FILE and writes them to standard output. Sealing and opening are the\n"
-    "same sum, so from a plain FILE the same command makes sealed bytes.\n"
+    "same XOR, so from a plain FILE the same command makes sealed bytes.\n"
     "\n"
-    "  --card    work by the card's way, which is slow, and not by the server's; the bytes are the same\n"
+    "  --card    work by the card engine, which is slow, and not by the server's; the bytes are the same\n"
     "  CIPHER    64 or 128\n"
     "  ROUNDS    12 to 255\n"
     "  KEY       0 to 32 bytes in hex, in upper or lower case; '' is the key of 0 bytes\n"
@@ -39,7 +39,7 @@ typedef uint32_t run_call(uint32_t, uint32_t, const uint8_t *, size_t, const uin
                           const uint8_t *, size_t, uint8_t *, size_t);
 
 struct job {
-    run_call *way;
+    run_call *engine;
     uint32_t cipher, rounds;
     const uint8_t *key, *counter;
     size_t key_len, counter_len;
@@ -142,7 +142,7 @@ static int read_words(int count, char **words, struct job *job)
     int card = option && strcmp(words[0], "--card") == 0;
     if (option && !card)
         return complain(WRONG_WORDS, "%s is no option; stretch --help says which there are", words[0]);
-    job->way = card ? fox_card_run : fox_server_run;
+    job->engine = card ? fox_card_run : fox_server_run;
     if (count - card == WORDS)
         return read_job(words + card, job);
     complain(WRONG_WORDS, "%d words came, and CIPHER to FILE are %d", count - card, WORDS);
@@ -154,7 +154,7 @@ static int read_words(int count, char **words, struct job *job)
 
 static uint32_t run(const struct job *job, uint64_t offset, const uint8_t *data, size_t len, uint8_t *out)
 {
-    return job->way(job->cipher, job->rounds, job->key, job->key_len, job->counter, job->counter_len, offset, data, len,
+    return job->engine(job->cipher, job->rounds, job->key, job->key_len, job->counter, job->counter_len, offset, data, len,
                     out, len);
 }
 

@@ -23,7 +23,7 @@ stop() { # WHAT
 
 part() { # WHAT sheet|calls
     case $1-$2 in
-        crates-sheet) echo fox_probe ;;
+        crates-sheet) echo fox_check_probe ;;
         crates-calls) sed -n 's/^CALLS = //p' Makefile | sed -e 's|$(OUT)/||g' -e 's|\.o||g' ;;
         sources-sheet) echo "$t/sheet.c $t/begin.c $t/exact.c $s/sheet.c $second $c/answers.c" ;;
         sources-calls)

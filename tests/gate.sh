@@ -1,7 +1,7 @@
 #!/bin/sh
-# The gate: `rt ci` over every listed crate, then the host tests, on the library for this machine's processor and, where a
-# compiler and an emulator are there for the other one, beside it on that for it too. `sh tests/gate.sh host` has the host
-# tests alone. Each part closes with 'N passed, M failed'; the very last line here is the sum, and the exit status is 0 only
+# The gate: crates.txt and documents held to the sources, `rt ci` over every listed crate, then the host tests, on the library
+# for this machine's processor and, where a compiler and an emulator are there for the other one, beside it on that for it too.
+# `sh tests/gate.sh host` leaves `rt ci` out. Each part closes with 'N passed, M failed'; the very last line here is the sum, and the exit status is 0 only
 # where that says 0 failed. A part that closes otherwise, that passed nothing, or that has another exit status than its count
 # asks for, counts as one failure.
 set -u
@@ -79,6 +79,7 @@ sh tools/needs.sh || {
     finish
 }
 sh tools/needs.sh optional
+part crates sh tools/crates.sh check
 [ "${1:-all}" = host ] || part "rt ci" rt_ci
 
 other=$(other_processor) tested="the library for $MACHINE"
