@@ -137,6 +137,10 @@ check() {
     hold "no engine, and no export of one, stands on another" "$room/wrong"
     named >"$room/wrong"
     hold "every file and function that docs/STATEMENTS.md and docs/EXCEPTIONS.md name is there" "$room/wrong"
+    for file in README.md docs/*.md tests/README.md; do
+        tr -d '\200-\277' <"$file" | awk -v file="$file" 'length > 160 { print file ":" NR }'
+    done >"$room/wrong"
+    hold "no line of a document has more than 160 characters" "$room/wrong"
     block >"$room/block"
     awk -v begin="$begin" -v end="$end" '$0 == begin { on = 1 } on { print } $0 == end { on = 0 }' README.md |
         diff "$room/block" - >"$room/wrong"
