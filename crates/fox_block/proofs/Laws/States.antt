@@ -17,7 +17,7 @@ use Rattle.fox_rounds.specs.declared.state.State.the-variants.{Of64, Of128}
 use Rattle.fox_rounds.proofs.Laws.Rounds.{Words64, Words128}
 use Rattle.fox_rounds.proofs.Laws.Undoing.{Fits}
 use Rattle.fox_refusals.specs.Refusals.{blockSize}
-use Rattle.fox_bytes.proofs.Laws.Blocks.{words-8, words-16}
+use Rattle.fox_bytes.proofs.Laws.WordsInBytes.{words-8, words-16}
 use Rattle.fox_block.specs.Block.{state64, state128, bytes64, bytes128, state, bytes, BlockOf}
 
 state64-bytes64 : (x : Fox64) → Words64 x → state64 (bytes64 x) ≡ x

@@ -11,7 +11,7 @@ use Rattle.fox_layers.proofs.Laws.Words.{length-split, joined-append, joined-sp
 use Rattle.fox_register.specs.Register.{clocked, iterate}
 use Rattle.fox_key_mixing.specs.Diversification.{stream}
 use Rattle.fox_register.proofs.Laws.Register.{iterate-first}
-use Rattle.fox_bytes.proofs.Laws.Blocks.{word-of}
+use Rattle.fox_bytes.proofs.Laws.WordsInBytes.{word-of}
 
 pub stream-add : (m n x : ℕ) → stream (m + n) x ≡ stream m x ++ stream n (iterate m clocked x)
 unfolding stream iterate

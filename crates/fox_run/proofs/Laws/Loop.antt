@@ -8,7 +8,7 @@ use native.Mathlib.Omega.{arith}
 use borrow.Rule.Slice.PartMut.{midOf, putMid}
 use lib.ListN.{length, take, drop, length-append, length-drop, drop-of-length-le}
 use lib.Seq.{length-take-le, take-all, take-at, drop-at, take-add, drop-drop}
-use Rattle.fox_bytes.proofs.Laws.Blocks.{put-end}
+use Rattle.fox_bytes.proofs.Laws.WordsInBytes.{put-end}
 use Rattle.fox_run.specs.Run.{xorFrom}
 use Rattle.fox_run.specs.Parts.{XoredTo}
 use Rattle.fox_run.proofs.Laws.XorFrom.{length-xorFrom, xorFrom-append}

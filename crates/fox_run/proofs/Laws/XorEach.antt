@@ -12,7 +12,7 @@ use lib.ListN.{length, take, drop, getD, set, length-drop}
 use lib.Seq.{take-suc, drop-cons, set-at, length-take-le, append-snoc, take-all, take-at, drop-at, drop-drop}
 use Rattle.fox_layers.specs.Words.{_⊕_, joined, split, Bytes, xorEach}
 use Rattle.fox_layers.proofs.Laws.Words.{split-joined, split-xor, take-bytes, drop-bytes}
-use Rattle.fox_bytes.proofs.Laws.Blocks.{put-end}
+use Rattle.fox_bytes.proofs.Laws.WordsInBytes.{put-end}
 
 pub length-xorEach-min : (xs ys : List ℕ) → length (xorEach xs ys) ≡ min (length xs) (length ys)
 unfolding xorEach

@@ -4,7 +4,7 @@ use mathlib.Core.Path.{sym, ap, _∙_}
 use Prim.Native.Nat.{_+_, _≤_}
 use lib.ListN.{length}
 use Rattle.fox_layers.specs.Words.{joined}
-use Rattle.fox_bytes.proofs.Laws.Blocks.{take-four}
+use Rattle.fox_bytes.proofs.Laws.WordsInBytes.{take-four}
 use borrow.Author.Needs.{needs}
 use Rattle.fox_bytes.proofs.bytes.load4.Statement.{statement}
 use Rattle.fox_bytes.proofs.bytes.load4.Tie as tie

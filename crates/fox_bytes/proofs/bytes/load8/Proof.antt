@@ -4,7 +4,7 @@ use mathlib.Core.Path.{sym, ap, _∙_}
 use lib.ListN.{length, take, drop}
 use Rattle.fox_layers.specs.Words.{joined}
 use Rattle.fox_layers.proofs.Laws.Words.{take-bytes, drop-bytes}
-use Rattle.fox_bytes.proofs.Laws.Blocks.{word-of, take-eight}
+use Rattle.fox_bytes.proofs.Laws.WordsInBytes.{word-of, take-eight}
 use borrow.Author.Needs.{needs}
 use Rattle.fox_bytes.proofs.bytes.load8.Statement.{statement}
 use Rattle.fox_bytes.proofs.bytes.load8.Tie as tie

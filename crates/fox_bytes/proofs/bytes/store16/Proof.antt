@@ -5,7 +5,7 @@ use mathlib.Core.List.{List, _++_}
 use Prim.Native.Nat.{ℕ}
 use lib.ListN.{take, drop}
 use Rattle.fox_layers.specs.Words.{split}
-use Rattle.fox_bytes.proofs.Laws.Blocks.{put-end}
+use Rattle.fox_bytes.proofs.Laws.WordsInBytes.{put-end}
 use borrow.Author.Needs.{needs}
 use Rattle.fox_bytes.proofs.bytes.store16.Statement.{statement}
 use Rattle.fox_bytes.proofs.bytes.store16.Tie as tie

@@ -6,7 +6,7 @@ use Prim.Native.Nat.{ℕ}
 use native.Mathlib.Omega.{arith}
 use lib.ListN.{length, take}
 use Rattle.fox_layers.specs.Words.{split}
-use Rattle.fox_bytes.proofs.Laws.Blocks.{put-end, end-spent}
+use Rattle.fox_bytes.proofs.Laws.WordsInBytes.{put-end, end-spent}
 use borrow.Author.Needs.{needs}
 use Rattle.fox_bytes.proofs.bytes.store8.Statement.{statement}
 use Rattle.fox_bytes.proofs.bytes.store8.Tie as tie
