@@ -11,7 +11,7 @@ use lib.ListN.{length}
 use Rattle.fox_rounds.specs.Skeleton.{turned}
 use Rattle.fox_rounds.specs.declared.state.State.{State}
 use Rattle.fox_rounds.proofs.Laws.Undoing.{turned-fits, turned-back}
-use Rattle.fox_schedule.specs.Schedule.{roundKeys}
+use Rattle.fox_key_schedule.specs.Schedule.{roundKeys}
 use Rattle.fox_refusals.specs.Refusals.{blockSize, forBlock, Keyed}
 use Rattle.fox_refusals.specs.Reply.{Served, Same}
 use Rattle.fox_refusals.specs.declared.answer.Answer.{Answer}

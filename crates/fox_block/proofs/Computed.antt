@@ -9,8 +9,8 @@ use Rattle.fox_layers.specs.Field.{polynomial, rest, product}
 use Rattle.fox_layers.specs.Diffusion.{dot, times, mu4Rows, mu8Rows, diffused, mu4, mu8}
 use Rattle.fox_rounds.specs.Rounds.{left, right, or, io}
 use Rattle.fox_key_mixing.specs.Padding.{pad, padded, mixed, mkey}
-use Rattle.fox_register.specs.Register.{seed, clocked, iterate, LFSR}
-use Rattle.fox_nonlinear.specs.Nonlinear.{mix64}
+use Rattle.fox_key_register.specs.Register.{seed, clocked, iterate, LFSR}
+use Rattle.fox_key_nonlinear.specs.Nonlinear.{mix64}
 
 pub known : (product 0x38 0x0B ∷ product 0x02 0xFC ∷ or 0x0001_0002 ∷ io (or 0x0001_0002) ∷ mu4 0x0100_0000 ∷ mu8 0x0100_0000_0000_0000 ∷ [])
     ++ mix64 (1 ∷ 2 ∷ 4 ∷ 8 ∷ [])

@@ -9,7 +9,7 @@ use lib.ListN.{length}
 use Rattle.fox_refusals.specs.Refusals.{blockSize, forBlock}
 use Rattle.fox_refusals.specs.Reply.{Reply}
 use Rattle.fox_refusals.specs.declared.answer.Answer.{Answer}
-use Rattle.fox_schedule.specs.Schedule.{roundKeys}
+use Rattle.fox_key_schedule.specs.Schedule.{roundKeys}
 use Rattle.fox_block.specs.Block.{turnWith}
 
 -- from cipher, rounds, key length, a list of round keys and a block, with the output before and after

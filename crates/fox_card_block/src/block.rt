@@ -3,9 +3,9 @@ ghost use Rattle.fox_block.specs.Promise.{Turns};
 use crate::rounds::turned;
 use fox_engine_block::blocks::read;
 use fox_engine_block::blocks::write;
+use fox_key_schedule::schedule::Schedule;
 use fox_refusals::answer::Answer;
 use fox_refusals::refusals::for_block;
-use fox_schedule::schedule::Schedule;
 
 pub fn turn(
     sealing: bool,

@@ -2,9 +2,9 @@
 ghost use mathlib.Core.Path.{_≡_};
 ghost use Prim.Native.Nat.{_≤_, _<_, _^_};
 ghost use Rattle.fox_rounds.specs.Skeleton.{round, turned};
-ghost use Rattle.fox_schedule.specs.Step.{roundKeyAt, roundKeysOf};
+ghost use Rattle.fox_key_schedule.specs.Step.{roundKeyAt, roundKeysOf};
+use fox_key_schedule::schedule::Schedule;
 use fox_rounds::state::State;
-use fox_schedule::schedule::Schedule;
 
 // One round, with the round key at the register value reg.
 fn round_at(s: Schedule, reg: u32, y: State) -> State

@@ -2,9 +2,9 @@
 ghost use Rattle.fox_run.specs.Promise.{Runs};
 use crate::stretch::stretch;
 use fox_engine_block::blocks::read;
+use fox_key_schedule::schedule::Schedule;
 use fox_refusals::answer::Answer;
 use fox_refusals::stretch::for_run;
-use fox_schedule::schedule::Schedule;
 
 pub fn run(
     cipher: u32,

@@ -2,15 +2,15 @@
 ghost use mathlib.Core.Path.{_≡_};
 ghost use Prim.Native.Nat.{_+_, _≤_, _<_};
 ghost use lib.ListN.{length};
-ghost use Rattle.fox_schedule.specs.Step.{roundKeysOf};
+ghost use Rattle.fox_key_schedule.specs.Step.{roundKeysOf};
 ghost use Rattle.fox_run.specs.Run.{xorFrom};
 ghost use Rattle.fox_run.specs.States.{stream};
 ghost use Rattle.fox_run.specs.Parts.{Part};
 use fox_card_block::rounds::turned;
 use fox_engine_run::counter::counted;
 use fox_engine_run::key_stream::xor_part;
+use fox_key_schedule::schedule::Schedule;
 use fox_rounds::state::State;
-use fox_schedule::schedule::Schedule;
 
 // Seals the block that the run's byte n is in, from that byte on; returns the bytes done.
 fn one_block(s: Schedule, rounds: u8, x: State, n: usize, input: &[u8], out: &mut [u8]) -> usize

@@ -9,12 +9,13 @@ use Rattle.fox_layers.specs.Field.{polynomial, rest, product}
 use Rattle.fox_layers.specs.Substitution.{S₁, S₂, S₃, halves, whole, or4, lmid4, lmor4, sbox, sigma}
 use Rattle.fox_layers.specs.Diffusion.{dot, times, mu8Rows, diffused, mu8}
 use Rattle.fox_rounds.specs.Rounds.{left, right, or, io, f, f64, xor128, elmid128, or128, io128}
-use Rattle.fox_rounds.specs.Skeleton.{numbered, through, round, between, inOrder, turned, seal128}
+use Rattle.fox_layers.specs.Lists.{numbered}
+use Rattle.fox_rounds.specs.Skeleton.{through, round, between, inOrder, turned, seal128}
 use Rattle.fox_key_mixing.specs.Padding.{pad, padded, mixed, mkey}
-use Rattle.fox_register.specs.Register.{seed, clocked, iterate, LFSR}
+use Rattle.fox_key_register.specs.Register.{seed, clocked, iterate, LFSR}
 use Rattle.fox_key_mixing.specs.Diversification.{stream, groups, dkey}
-use Rattle.fox_nonlinear.specs.Nonlinear.{words, mix64, mix128, flipped, layers, number128, parts128, NL128}
-use Rattle.fox_schedule.specs.Schedule.{ek128, roundKeyAt128, roundKey128, roundKey, roundKeys}
+use Rattle.fox_key_nonlinear.specs.Nonlinear.{words, mix64, mix128, flipped, layers, number128, parts128, NL128}
+use Rattle.fox_key_schedule.specs.Schedule.{ek128, roundKeyAt128, roundKey128, roundKey, roundKeys}
 use Rattle.fox_block.specs.Block.{state128, bytes128, state, bytes, turnWith, openBlock}
 use Rattle.fox_block.specs.Vectors.{key, plain128, sealed128, sealedBy}
 

@@ -4,7 +4,7 @@ ghost use mathlib.Core.Path.{_≡_};
 ghost use Rattle.fox_layers.specs.Tables.{picked};
 ghost use Rattle.fox_rounds.specs.Skeleton.{seal64, seal128};
 ghost use Rattle.fox_rounds.specs.RoundKeys.{roundKeysIn64, roundKeysIn128};
-ghost use Rattle.fox_register.specs.Register.{iterate};
+ghost use Rattle.fox_key_register.specs.Register.{iterate};
 ghost use Rattle.fox_sheet.specs.Answer.{Answers};
 use fox_rounds::fox64::Fox64;
 use fox_rounds::fox128::Fox128;

@@ -7,12 +7,13 @@ use Rattle.fox_layers.specs.Field.{polynomial, rest, product}
 use Rattle.fox_layers.specs.Substitution.{S₁, S₂, S₃, halves, whole, or4, lmid4, lmor4, sbox, sigma}
 use Rattle.fox_layers.specs.Diffusion.{dot, times, mu4Rows, diffused, mu4}
 use Rattle.fox_rounds.specs.Rounds.{left, right, or, io, f, f32, lmid64, or64, io64}
-use Rattle.fox_rounds.specs.Skeleton.{numbered, through, round, between, inOrder, turned as turnedState, seal64}
+use Rattle.fox_layers.specs.Lists.{numbered}
+use Rattle.fox_rounds.specs.Skeleton.{through, round, between, inOrder, turned as turnedState, seal64}
 use Rattle.fox_key_mixing.specs.Padding.{pad, padded, mixed, mkey}
-use Rattle.fox_register.specs.Register.{seed, clocked, iterate, LFSR}
+use Rattle.fox_key_register.specs.Register.{seed, clocked, iterate, LFSR}
 use Rattle.fox_key_mixing.specs.Diversification.{stream, groups, dkey}
-use Rattle.fox_nonlinear.specs.Nonlinear.{words, mix64, flipped, layers, number64, NL64}
-use Rattle.fox_schedule.specs.Schedule.{ek64, roundKeyAt64, roundKey64, roundKey, roundKeys}
+use Rattle.fox_key_nonlinear.specs.Nonlinear.{words, mix64, flipped, layers, number64, NL64}
+use Rattle.fox_key_schedule.specs.Schedule.{ek64, roundKeyAt64, roundKey64, roundKey, roundKeys}
 use Rattle.fox_refusals.specs.Refusals.{refusalOf, blockSize, wrongCipher, wrongRounds, longKey, wrongBlockLength, wrongOutputLength, forKey, forBlock}
 use Rattle.fox_block.specs.Block.{state64, bytes64, state, bytes, turnWith}
 use Rattle.fox_text.specs.Ascii.{codes, ascii, startsWith}

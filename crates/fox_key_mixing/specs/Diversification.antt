@@ -4,7 +4,7 @@ use Prim.Native.Nat.{ℕ, zero, suc, _+_, _/_}
 use mathlib.Core.List.{List, [], _++_}
 use lib.ListN.{length}
 use Rattle.fox_layers.specs.Words.{split, xorEach}
-use Rattle.fox_register.specs.Register.{clocked}
+use Rattle.fox_key_register.specs.Register.{clocked}
 
 -- the bytes of n successive register values, three each, the first of them reg
 unfoldable pub stream : ℕ → ℕ → List ℕ

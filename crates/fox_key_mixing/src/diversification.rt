@@ -5,12 +5,12 @@ ghost use mathlib.Core.List.{_++_};
 ghost use Prim.Native.Nat.{_<_, _^_};
 ghost use lib.ListN.{take, drop};
 ghost use Rattle.fox_layers.specs.Words.{split};
-ghost use Rattle.fox_register.specs.Register.{clocked, iterate};
+ghost use Rattle.fox_key_register.specs.Register.{clocked, iterate};
 ghost use Rattle.fox_key_mixing.specs.Diversification.{stream, dkey};
 ghost use Rattle.fox_key_mixing.specs.KeyBytes.{bytes16, bytes32};
 use crate::key_bytes::Key16;
 use crate::key_bytes::Key32;
-use fox_register::register::clocked;
+use fox_key_register::register::clocked;
 
 // A word that begins with the whole of x and ends after the second byte of z.
 fn word_332(x: u32, y: u32, z: u32) -> u64

@@ -1,4 +1,5 @@
 -- Laws on the definitions, which proofs cite in place of a definition's text.
+pub mod Lists
 pub mod Xor
 pub mod Words
 pub mod Bytewise

@@ -1,4 +1,5 @@
 -- What the promises and laws of fox_layers cite: 001's definitions, in its order.
+pub mod Lists
 pub mod Words
 pub mod Field
 pub mod Substitution

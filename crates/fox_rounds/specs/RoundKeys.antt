@@ -3,7 +3,7 @@
 use Prim.Native.Nat.{ℕ, _+_, _*_, _^_}
 use mathlib.Core.List.{List}
 use lib.ListN.{getD}
-use Rattle.fox_rounds.specs.Skeleton.{numbered}
+use Rattle.fox_layers.specs.Lists.{numbered}
 
 -- round key number i, counted from 0: one word for FOX64, two for FOX128, the left first
 unfoldable pub roundKeyIn64 : List ℕ → ℕ → ℕ

@@ -1,6 +1,6 @@
 -- The skeleton (001 §2.1): rounds over a list of round keys, with "or" or "io" after every round but the last.
 -- Assumes nothing.
-use Prim.Native.Nat.{ℕ, zero, suc, _-_}
+use Prim.Native.Nat.{ℕ, _-_}
 use mathlib.Core.Bool.{Bool, true, false}
 use mathlib.Core.List.{List, [], _∷_, reverse}
 use Rattle.fox_rounds.specs.Rounds.{lmid64, or64, io64, elmid128, or128, io128}
@@ -8,11 +8,6 @@ use Rattle.fox_rounds.specs.declared.fox64.Fox64.{Fox64}
 use Rattle.fox_rounds.specs.declared.fox128.Fox128.{Fox128}
 use Rattle.fox_rounds.specs.declared.state.State.{State}
 use Rattle.fox_rounds.specs.declared.state.State.the-variants.{Of64, Of128}
-
--- the values of k at the n numbers from i on
-unfoldable pub numbered : {A : Type 0} → (ℕ → A) → ℕ → ℕ → List A
-numbered k zero i = []
-numbered k (suc n) i = k i ∷ numbered k n (suc i)
 
 -- a round for each round key, with `between` after every round but the last
 unfoldable pub through : {S : Type 0} → (ℕ → S → S) → (S → S) → List ℕ → S → S

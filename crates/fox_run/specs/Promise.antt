@@ -6,7 +6,7 @@ use lib.ListN.{length}
 use Rattle.fox_refusals.specs.Refusals.{forRun}
 use Rattle.fox_refusals.specs.Reply.{Reply}
 use Rattle.fox_refusals.specs.declared.answer.Answer.{Answer}
-use Rattle.fox_schedule.specs.Schedule.{roundKeys}
+use Rattle.fox_key_schedule.specs.Schedule.{roundKeys}
 use Rattle.fox_run.specs.Run.{runWith}
 
 -- from cipher, rounds, key length, a list of round keys, counter block, offset and input, with the output before and after

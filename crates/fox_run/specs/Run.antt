@@ -6,7 +6,7 @@ use mathlib.Core.List.{List, [], _∷_}
 use lib.ListN.{getD}
 use Rattle.fox_layers.specs.Words.{_⊕_}
 use Rattle.fox_refusals.specs.Refusals.{blockSize}
-use Rattle.fox_schedule.specs.Schedule.{roundKeys}
+use Rattle.fox_key_schedule.specs.Schedule.{roundKeys}
 use Rattle.fox_block.specs.Block.{sealWith}
 use Rattle.fox_run.specs.Counter.{counterBlock}
 

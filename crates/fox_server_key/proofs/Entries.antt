@@ -8,10 +8,10 @@ use native.Mathlib.Nat.{zero-add}
 use native.Mathlib.Omega.{arith}
 use lib.ListN.{length, getD}
 use Rattle.fox_rounds.specs.Rounds.{left, right}
-use Rattle.fox_rounds.specs.Skeleton.{numbered}
+use Rattle.fox_layers.specs.Lists.{numbered}
 use Rattle.fox_rounds.proofs.Laws.Halves.{pair}
-use Rattle.fox_rounds.proofs.Laws.Skeleton.{length-numbered, numbered-at}
-use Rattle.fox_schedule.specs.Schedule.{roundKey, roundKeys}
+use Rattle.fox_layers.proofs.Laws.Lists.{length-numbered, numbered-at}
+use Rattle.fox_key_schedule.specs.Schedule.{roundKey, roundKeys}
 use Rattle.fox_refusals.specs.Refusals.{Keyed}
 use Rattle.fox_refusals.proofs.Laws.Refusals.{keyed-served}
 use Rattle.fox_refusals.proofs.Laws.Reply.{chosen}

@@ -9,7 +9,7 @@ use lib.Dec.{eqb}
 use lib.ListN.{length, getD, replicate}
 use Rattle.fox_rounds.specs.Rounds.{left, right}
 use Rattle.fox_rounds.specs.RoundKeys.{roundKeysIn64, roundKeysIn128}
-use Rattle.fox_schedule.specs.Schedule.{roundKeys}
+use Rattle.fox_key_schedule.specs.Schedule.{roundKeys}
 use Rattle.fox_refusals.specs.Refusals.{refusalOf, blockSize, forKey}
 use Rattle.fox_server_key.specs.declared.prepared.Prepared.{Prepared}
 use Rattle.fox_server_key.specs.declared.prepared.Preparation.{Preparation}

@@ -4,12 +4,12 @@ ghost use mathlib.Core.Bool.{true};
 ghost use mathlib.Core.Path.{_≡_};
 ghost use Prim.Native.Nat.{_+_, _*_, _≤_};
 ghost use lib.ListN.{length};
-ghost use Rattle.fox_schedule.specs.Step.{narrow, roundKeysOf};
+ghost use Rattle.fox_key_schedule.specs.Step.{narrow, roundKeysOf};
 ghost use Rattle.fox_server_key.specs.Prepared.{inHalves, filled, preparedWords, noKey, Prepares};
+use fox_key_schedule::schedule::Schedule;
 use fox_refusals::answer::Answer;
 use fox_refusals::refusals::block_size;
 use fox_refusals::refusals::for_key;
-use fox_schedule::schedule::Schedule;
 
 pub struct Prepared {
     pub cipher: u32,

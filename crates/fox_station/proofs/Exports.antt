@@ -11,9 +11,9 @@ use Rattle.fox_refusals.specs.Refusals.{Refusal, First, blockSize, Keyed, Stret
 use Rattle.fox_refusals.specs.Reply.{Served, Refused, Same}
 use Rattle.fox_refusals.specs.Handed.{Handed, answer}
 use Rattle.fox_refusals.specs.declared.answer.Answer.{Answer}
-use Rattle.fox_refusals.proofs.Laws.Refusals.{first-given}
+use Rattle.fox_refusals.proofs.Laws.Refusals.{first-given, given-first}
 use Rattle.fox_refusals.proofs.Laws.Reply.{refused, handed-reply}
-use Rattle.fox_schedule.specs.Schedule.{roundKeys}
+use Rattle.fox_key_schedule.specs.Schedule.{roundKeys}
 use Rattle.fox_block.specs.Block.{turnBlock, sealBlock, BlockOf}
 use Rattle.fox_block.specs.Promise.{TurnedBack}
 use Rattle.fox_block.proofs.Blocks.{block-served, blocks-same, turned-back-calls}
@@ -36,6 +36,9 @@ export-refused h isnt = refused (handed-reply h) isnt
 -- and returns the number of the first refusal that applies
 pub export-refused-by : {rs : List Refusal} {value before after : List ℕ} {m n : ℕ} → Handed rs value before after n → First m rs → n ≡ m
 export-refused-by h f = h .refusal ∙ first-given f
+
+pub export-refused-first : {rs : List Refusal} {value before after : List ℕ} {n : ℕ} → Handed rs value before after n → (n ≡ 0 → ⊥) → First n rs
+export-refused-first {rs} {n = n} h isnt = given-first n rs (sym (h .refusal)) isnt
 
 -- two exports on the same block, or on the same stretch, with outputs of one length, answer the same
 

@@ -7,8 +7,8 @@ use native.Mathlib.Omega.{arith}
 use Rattle.fox_rounds.specs.Skeleton.{seal64}
 use Rattle.fox_rounds.proofs.Laws.Skeleton.{sealed-64}
 use Rattle.fox_rounds.specs.RoundKeys.{roundKeysIn64}
-use Rattle.fox_register.specs.Register.{iterate}
-use Rattle.fox_register.proofs.Laws.Register.{iterate-suc}
+use Rattle.fox_key_register.specs.Register.{iterate}
+use Rattle.fox_key_register.proofs.Laws.Register.{iterate-suc}
 use Rattle.fox_check_probe.proofs.fox_probe_again64.Statement.{statement}
 use Rattle.fox_check_probe.proofs.fox_probe_again64.Tie as tie
 

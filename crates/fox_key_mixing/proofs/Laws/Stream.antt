@@ -8,9 +8,9 @@ use native.Mathlib.Omega.{arith}
 use lib.ListN.{take, drop, length-append, length-take, length-drop}
 use Rattle.fox_layers.specs.Words.{joined, split}
 use Rattle.fox_layers.proofs.Laws.Words.{length-split, joined-append, joined-split, joined-split-low, split-bytes, append-bytes, take-bytes, drop-bytes}
-use Rattle.fox_register.specs.Register.{clocked, iterate}
+use Rattle.fox_key_register.specs.Register.{clocked, iterate}
 use Rattle.fox_key_mixing.specs.Diversification.{stream}
-use Rattle.fox_register.proofs.Laws.Register.{iterate-first}
+use Rattle.fox_key_register.proofs.Laws.Register.{iterate-first}
 use Rattle.fox_bytes.proofs.Laws.WordsInBytes.{word-of}
 
 pub stream-add : (m n x : ℕ) → stream (m + n) x ≡ stream m x ++ stream n (iterate m clocked x)

@@ -15,7 +15,8 @@ use Rattle.fox_layers.specs.Words.{_⊕_, Bytes}
 use Rattle.fox_layers.specs.Field.{double, halve, product, polynomial, rest}
 use Rattle.fox_layers.specs.Tables.{table}
 use Rattle.fox_layers.proofs.Laws.Xor.{xor-zero, xor-lt}
-use Rattle.fox_layers.proofs.Laws.Bytewise.{by-test, agree}
+use Rattle.fox_layers.proofs.Laws.Lists.{by-test}
+use Rattle.fox_layers.proofs.Laws.Bytewise.{agree}
 
 pub halve-double : (x : ℕ) → x < 256 → halve (double x) ≡ x
 unfolding double halve table

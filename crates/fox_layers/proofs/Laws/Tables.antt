@@ -12,10 +12,12 @@ use Rattle.fox_layers.specs.Words.{_⊕_, joined, split, Bytes, xorEach,
 use Rattle.fox_layers.specs.Field.{product}
 use Rattle.fox_layers.specs.Substitution.{S₁, S₂, S₃, halves, whole, or4, lmid4, lmor4, sbox, sigma}
 use Rattle.fox_layers.specs.Diffusion.{times, diffused, mu4Rows, mu8Rows, mu4, mu8}
-use Rattle.fox_layers.specs.Tables.{listed, table, sboxTable, tables, TBS, column, scaled, tbsmEntry, TBSM, picked}
+use Rattle.fox_layers.specs.Lists.{numbered}
+use Rattle.fox_layers.specs.Tables.{table, sboxTable, tables, TBS, column, scaled, tbsmEntry, TBSM, picked}
 use Rattle.fox_layers.proofs.Laws.Words.{length-split, split-bytes, split-above, split-joined, joined-xorEach, joined-lt, map-bytes}
 use Rattle.fox_layers.proofs.Laws.Field.{product-lt}
-use Rattle.fox_layers.proofs.Laws.Bytewise.{below, listed-at, length-listed, table-at}
+use Rattle.fox_layers.proofs.Laws.Lists.{numbered-at, length-numbered}
+use Rattle.fox_layers.proofs.Laws.Bytewise.{below, table-at}
 use Rattle.fox_layers.proofs.Laws.Matrix.{Wide, multiple, columns, times-columns, length-columns, columns-bytes}
 
 pub sbox-lt : (x : ℕ) → x < 256 → sbox x < 256
@@ -37,7 +39,7 @@ split-sigma n w =
 -- the entries of tables that follow one another
 tables-entry : (f : ℕ → ℕ → ℕ) (n i : ℕ) → i < n * 256 → getD (tables f n) i 0 ≡ f (i / 256) (i % 256)
 unfolding tables
-tables-entry f n i h = listed-at _ (n * 256) 0 i h ∙ ap (λ (k : ℕ). f (k / 256) (k % 256)) (zero-add i)
+tables-entry f n i h = numbered-at _ (n * 256) 0 i 0 h ∙ ap (λ (k : ℕ). f (k / 256) (k % 256)) (zero-add i)
 
 tables-at : (f : ℕ → ℕ → ℕ) (n j x : ℕ) → j < n → x < 256 → getD (tables f n) (j * 256 + x) 0 ≡ f j x
 tables-at f n j x h l =
@@ -47,7 +49,7 @@ tables-at f n j x h l =
 
 length-tables : (f : ℕ → ℕ → ℕ) (n : ℕ) → length (tables f n) ≡ n * 256
 unfolding tables
-length-tables f n = length-listed _ (n * 256) 0
+length-tables f n = length-numbered _ (n * 256) 0
 
 pub TBS-entry : (n i : ℕ) → i < n * 256 → getD (TBS n) i 0 ≡ sbox (i % 256) * 2 ^ (8 * (n - 1 - i / 256))
 unfolding TBS
@@ -71,12 +73,12 @@ sboxTable-entry x h = table-at sbox x h
 
 -- the n numbers from j on
 abbrev from : ℕ → ℕ → List ℕ
-from n j = listed (λ (i : ℕ). i) n j
+from n j = numbered (λ (i : ℕ). i) n j
 
 -- a lookup of bytes in tables, from table number j on, is the XOR of these tables' functions at the bytes
 picked-from : (f : ℕ → ℕ → ℕ) (n j : ℕ) (xs : List ℕ) → Bytes xs → j + length xs ≡ n
     → xorOver (λ (j x : ℕ). getD (tables f n) (j * 256 + x) 0) (from (length xs) j) xs ≡ xorOver f (from (length xs) j) xs
-unfolding xorOver listed
+unfolding xorOver numbered
 picked-from f n j [] h e = refl
 picked-from f n j (x ∷ xs) h e = rw (tables-at f n j x (omega arith) (h 0), picked-from f n (suc j) xs (λ i. h (suc i)) (omega arith))
 
@@ -88,7 +90,7 @@ picked-tables f n w =
 -- the S-box shifted to each byte, XORed: the S-box's values joined
 shifted-joined : (n j : ℕ) (xs : List ℕ) → Bytes xs → j + length xs ≡ n
     → xorOver (λ (j x : ℕ). sbox x * 2 ^ (8 * (n - 1 - j))) (from (length xs) j) xs ≡ joined (map sbox xs)
-unfolding xorOver listed joined
+unfolding xorOver numbered joined
 shifted-joined n j [] h e = refl
 shifted-joined n j (x ∷ xs) h e =
     let left : n - 1 - j ≡ length (map sbox xs) = omega (arith, length-map xs sbox) in
@@ -125,7 +127,7 @@ joined-zeros (row ∷ rows) = omega (arith, joined-zeros rows)
 
 tbsmEntry-columns : (rows : List (List ℕ)) (j : ℕ) (xs : List ℕ) → Bytes xs
     → xorOver (tbsmEntry rows) (from (length xs) j) xs ≡ joined (columns rows j (map sbox xs))
-unfolding xorOver listed tbsmEntry scaled column columns
+unfolding xorOver numbered tbsmEntry scaled column columns
 tbsmEntry-columns rows j [] h = sym (joined-zeros rows)
 tbsmEntry-columns rows j (x ∷ xs) h =
     let ms = multiple (column j rows) (sbox x) in

@@ -8,6 +8,7 @@ use mathlib.Core.List.{List, [], _∷_, _++_}
 use Prim.Native.Nat.{ℕ, _+_, _≤_}
 use lib.Dec.{ltb, eqb}
 use borrow.Author.Tests.{ltb-false, eqb-true, eqb-false, le-ltb, eq-eqb, ne-eqb, not-false}
+use Rattle.fox_layers.proofs.Laws.Lists.{by-test}
 use Rattle.fox_refusals.specs.Refusals.{Refusal, refusalOf, First, here, later, orElse, differs, blockSize, wrongCipher, wrongRounds, longKey}
 use Rattle.fox_refusals.specs.Refusals.{wrongBlockLength, longData, wrongOutputLength, pastEnd, forKey, forBlock, forStretch, forRun, Keyed}
 use Rattle.fox_refusals.specs.Refusals.{Blocked, Stretched}
@@ -26,10 +27,6 @@ numbered (x ∷ xs) = cond (eqb (x .number) 0) false (numbered xs)
 unfoldable pub chain : ℕ → List Refusal → ℕ
 chain r [] = r
 chain r (x ∷ xs) = chain (orElse r (x .applies) (x .number)) xs
-
-by-test : {P : Type 0} (t : Bool) → (t ≡ true → P) → (t ≡ false → P) → P
-by-test true f g = f refl
-by-test false f g = g refl
 
 -- the number of a list whose first test applies
 

@@ -11,7 +11,7 @@ use Rattle.fox_refusals.specs.Refusals.{Refusal, refusalOf, First}
 use Rattle.fox_refusals.specs.Reply.{Reply, Served, Refused, Same}
 use Rattle.fox_refusals.specs.Handed.{Handed, answer}
 use Rattle.fox_refusals.specs.declared.answer.Answer.{Answer}
-use Rattle.fox_refusals.proofs.Laws.Refusals.{first-given}
+use Rattle.fox_refusals.proofs.Laws.Refusals.{first-given, given-first}
 
 -- the value that a `cond` on the refusals' number takes
 pub chosen : {A : Type 0} (n : ℕ) (a b : A) → n ≡ 0 → a ≡ cond (eqb n 0) a b
@@ -59,11 +59,15 @@ module _ {rs : List Refusal} {value before after : List ℕ} {r : Answer} (call 
         output = call .output ∙ sym (passed-over (refusalOf rs) value before h);
       }
 
-  -- the number of a refused call is that of the first refusal that applies
+  -- where n is the number of the first refusal that applies, the call is refused with n
   pub refused-by : {n : ℕ} → First n rs → (n ≡ 0 → ⊥) → Refused rs before after r × (r .refusal ≡ n)
   refused-by f isnt =
       let is = call .refusal ∙ first-given f in
       (refused (λ z. isnt (sym is ∙ z)), is)
+
+  -- and a call that is refused with a number is refused with that of the first refusal that applies
+  pub refused-first : (r .refusal ≡ 0 → ⊥) → First (r .refusal) rs
+  refused-first isnt = given-first (r .refusal) rs (sym (call .refusal)) isnt
 
 -- two calls with the same refusals, the same value and outputs of one length, of any engines and whatever the outputs held
 pub same : {rs₁ rs₂ : List Refusal} {value before₁ before₂ after₁ after₂ : List ℕ} {r₁ r₂ : Answer} → rs₁ ≡ rs₂ → length before₁ ≡ length before₂

@@ -9,8 +9,8 @@ use native.Mathlib.Omega.{arith}
 use lib.ListN.{length, set, replicate, length-append}
 use lib.Seq.{set-at}
 use Rattle.fox_rounds.specs.Rounds.{left, right}
-use Rattle.fox_rounds.specs.Skeleton.{numbered}
-use Rattle.fox_rounds.proofs.Laws.Skeleton.{length-numbered, numbered-snoc}
+use Rattle.fox_layers.proofs.Laws.Lists.{length-numbered, numbered-snoc}
+use Rattle.fox_layers.specs.Lists.{numbered}
 use Rattle.fox_server_key.specs.Prepared.{inHalves, filled}
 
 -- one word more

@@ -11,7 +11,7 @@ use lib.ListN.{length}
 use Rattle.fox_refusals.specs.Refusals.{refusalOf, blockSize, forKey, Keyed}
 use Rattle.fox_refusals.proofs.Laws.Refusals.{keyed-served}
 use Rattle.fox_refusals.proofs.Laws.Reply.{chosen, passed-over}
-use Rattle.fox_schedule.specs.Schedule.{roundKeys}
+use Rattle.fox_key_schedule.specs.Schedule.{roundKeys}
 use Rattle.fox_server_key.specs.Prepared.{preparedKey, noKey, Prepares, roundKeysIn}
 use Rattle.fox_server_key.specs.declared.prepared.Prepared.{Prepared}
 use Rattle.fox_server_key.specs.declared.prepared.Preparation.{Preparation}

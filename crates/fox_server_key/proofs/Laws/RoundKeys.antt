@@ -10,14 +10,15 @@ use lib.ListN.{length, getD, replicate, List·getD-append}
 use lib.Seq.{getD-append-add}
 use borrow.Author.Tests.{eq-eqb, ne-eqb}
 use Rattle.fox_rounds.specs.Rounds.{left, right}
-use Rattle.fox_rounds.specs.Skeleton.{numbered, turned}
+use Rattle.fox_layers.specs.Lists.{numbered}
+use Rattle.fox_rounds.specs.Skeleton.{turned}
 use Rattle.fox_rounds.specs.declared.state.State.{State}
 use Rattle.fox_rounds.specs.declared.state.State.the-variants.{Of64, Of128}
 use Rattle.fox_rounds.specs.RoundKeys.{roundKeyIn64, roundKeyIn128, roundKeysIn64, roundKeysIn128}
 use Rattle.fox_rounds.proofs.Laws.Halves.{pair}
-use Rattle.fox_rounds.proofs.Laws.Skeleton.{length-numbered, numbered-next, numbered-same, numbered-at}
-use Rattle.fox_schedule.specs.Schedule.{roundKey, roundKeys}
-use Rattle.fox_schedule.proofs.Laws.Schedules.{roundKey-128, roundKey128-lt}
+use Rattle.fox_layers.proofs.Laws.Lists.{length-numbered, numbered-next, numbered-same, numbered-at}
+use Rattle.fox_key_schedule.specs.Schedule.{roundKey, roundKeys}
+use Rattle.fox_key_schedule.proofs.Laws.Schedules.{roundKey-128, roundKey128-lt}
 use Rattle.fox_block.specs.Block.{state64, state128, bytes, turnWith}
 use Rattle.fox_block.proofs.Laws.Block.{by-cipher, state-64, state-128}
 use Rattle.fox_server_key.specs.Prepared.{inHalves, filled, preparedWords, roundKeysIn}

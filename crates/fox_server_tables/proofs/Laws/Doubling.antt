@@ -11,8 +11,8 @@ use borrow.Author.Tests.{eqb-true}
 use Rattle.fox_layers.specs.Words.{_⊕_, joined}
 use Rattle.fox_layers.specs.Field.{double, halve, product}
 use Rattle.fox_layers.specs.Substitution.{sbox}
-use Rattle.fox_layers.specs.Tables.{listed, table, column, scaled, tbsmEntry}
-use Rattle.fox_layers.proofs.Laws.Bytewise.{by-test}
+use Rattle.fox_layers.specs.Tables.{table, column, scaled, tbsmEntry}
+use Rattle.fox_layers.proofs.Laws.Lists.{by-test, numbered-same}
 use Rattle.fox_layers.proofs.Laws.Field.{products}
 use Rattle.fox_layers.proofs.Laws.Tables.{sbox-lt}
 
@@ -55,17 +55,11 @@ quick-scaled : (ms : List ℕ) (x : ℕ) → x < 256 → scaled ms x ≡ quickSc
 unfolding scaled quickScaled
 quick-scaled ms x h = ap (λ (f : ℕ → ℕ). joined (map f ms)) (fun-ext (λ m. sym (quick-product m x h)))
 
--- tables of functions that agree at every byte are the same list
-listed-same : (f g : ℕ → ℕ) → ((x : ℕ) → x < 256 → f x ≡ g x) → (n i : ℕ) → i + n ≤ 256 → listed f n i ≡ listed g n i
-unfolding listed
-listed-same f g same zero i h = refl
-listed-same f g same (suc n) i h = cc (same i (omega arith), listed-same f g same n (suc i) (omega arith))
-
 tbsmEntry-quick : (rows : List (List ℕ)) (j : ℕ) → table (tbsmEntry rows j) ≡ table (λ (x : ℕ). quickScaled (column j rows) (sbox x))
 unfolding table tbsmEntry
 tbsmEntry-quick rows j =
-    listed-same (λ (x : ℕ). scaled (column j rows) (sbox x)) (λ (x : ℕ). quickScaled (column j rows) (sbox x))
-    (λ x h. quick-scaled (column j rows) (sbox x) (sbox-lt x h)) 256 0 (omega arith)
+    numbered-same (λ (x : ℕ). scaled (column j rows) (sbox x)) (λ (x : ℕ). quickScaled (column j rows) (sbox x)) 256 0
+    (λ x h. quick-scaled (column j rows) (sbox x) (sbox-lt x (omega arith)))
 
 -- table number j, where j is k, from what the prover computes at k
 pub by-number : (rows : List (List ℕ)) (k : ℕ) {j : ℕ} {t : List ℕ} → j ≡ k → t ≡ table (λ (x : ℕ). quickScaled (column k rows) (sbox x))

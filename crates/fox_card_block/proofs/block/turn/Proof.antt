@@ -8,8 +8,8 @@ use Prim.Native.Nat.{ℕ}
 use native.Mathlib.Omega.{arith}
 use Rattle.fox_rounds.specs.Skeleton.{size, turned}
 use Rattle.fox_rounds.specs.declared.state.State.{State}
-use Rattle.fox_schedule.specs.Schedule.{roundKeys}
-use Rattle.fox_schedule.proofs.Laws.Schedules.{roundKeys-scheduled}
+use Rattle.fox_key_schedule.specs.Schedule.{roundKeys}
+use Rattle.fox_key_schedule.proofs.Laws.Schedules.{roundKeys-scheduled}
 use Rattle.fox_refusals.proofs.Laws.Refusals.{blocked}
 use Rattle.fox_refusals.proofs.Laws.Reply.{served-reply, refused-reply}
 use Rattle.fox_block.specs.Block.{bytes, turnWith}

@@ -10,9 +10,9 @@ use Prim.Native.Nat.{ℕ, _+_, _-_, _≤_, _<_}
 use Rattle.fox_rounds.specs.Skeleton.{round, between, place}
 use Rattle.fox_rounds.specs.declared.state.State.{State}
 use Rattle.fox_rounds.proofs.Laws.Skeleton.{TurnDone, turnDone-none, turnDone-one, turnDone-more, turnDone-all}
-use Rattle.fox_schedule.specs.Step.{roundKeyAt, roundKeyOf, RegisterAt, RegisterNext}
-use Rattle.fox_schedule.specs.declared.schedule.Schedule.{Schedule}
-use Rattle.fox_schedule.proofs.Laws.RegisterAt.{registerAt-next, registerAt-key}
+use Rattle.fox_key_schedule.specs.Step.{roundKeyAt, roundKeyOf, RegisterAt, RegisterNext}
+use Rattle.fox_key_schedule.specs.declared.schedule.Schedule.{Schedule}
+use Rattle.fox_key_schedule.proofs.Laws.RegisterAt.{registerAt-next, registerAt-key}
 use Rattle.fox_card_block.proofs.rounds.turned.Statement.{statement}
 use Rattle.fox_card_block.proofs.rounds.turned.Tie as tie
 

@@ -7,8 +7,8 @@ use mathlib.Core.List.{List}
 use Prim.Native.Nat.{ℕ}
 use native.Mathlib.Omega.{arith}
 use Rattle.fox_rounds.specs.declared.state.State.{State}
-use Rattle.fox_schedule.specs.Schedule.{roundKeys}
-use Rattle.fox_schedule.proofs.Laws.Schedules.{roundKeys-scheduled}
+use Rattle.fox_key_schedule.specs.Schedule.{roundKeys}
+use Rattle.fox_key_schedule.proofs.Laws.Schedules.{roundKeys-scheduled}
 use Rattle.fox_refusals.proofs.Laws.Refusals.{stretched}
 use Rattle.fox_refusals.proofs.Laws.Reply.{served-reply, refused-reply}
 use Rattle.fox_block.proofs.Laws.Block.{rounds-whole}

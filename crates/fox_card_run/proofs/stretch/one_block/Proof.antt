@@ -6,7 +6,7 @@ use Prim.Native.Nat.{ℕ, _<_}
 use native.Mathlib.Nat.{mod-lt, div-le-self}
 use native.Mathlib.Omega.{arith}
 use Rattle.fox_rounds.specs.Skeleton.{size, turned}
-use Rattle.fox_schedule.specs.Step.{roundKeysOf}
+use Rattle.fox_key_schedule.specs.Step.{roundKeysOf}
 use Rattle.fox_block.specs.Block.{bytes}
 use Rattle.fox_block.proofs.Laws.Block.{turned-size}
 use Rattle.fox_run.specs.Run.{streamed}

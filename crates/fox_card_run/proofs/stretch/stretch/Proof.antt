@@ -6,7 +6,7 @@ use Prim.Native.Nat.{_-_, _≤_, _<_}
 use native.Mathlib.Omega.{arith}
 use lib.ListN.{length}
 use borrow.Author.Needs.{needs}
-use Rattle.fox_schedule.specs.Step.{roundKeysOf}
+use Rattle.fox_key_schedule.specs.Step.{roundKeysOf}
 use Rattle.fox_run.specs.States.{stream}
 use Rattle.fox_run.specs.Parts.{XoredTo}
 use Rattle.fox_run.proofs.Laws.Loop.{xoredTo-first, xoredTo-last}

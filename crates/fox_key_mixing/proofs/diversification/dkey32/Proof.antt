@@ -6,7 +6,7 @@ use lib.ListN.{drop}
 use Rattle.fox_layers.specs.Words.{split}
 use Rattle.fox_key_mixing.specs.declared.key_bytes.Key32.{Key32}
 use Rattle.fox_key_mixing.specs.KeyBytes.{bytes16, bytes32}
-use Rattle.fox_register.specs.Register.{clocked, iterate}
+use Rattle.fox_key_register.specs.Register.{clocked, iterate}
 use Rattle.fox_key_mixing.specs.Diversification.{dkey, groups}
 use Rattle.fox_key_mixing.proofs.Laws.KeyBytes.{xorEach-bytes32, xorEach-surplus, length-bytes32}
 use Rattle.fox_key_mixing.proofs.Laws.Stream.{eleven}

@@ -1,6 +1,6 @@
 -- `diversification::front` meets its contract: the two words and what is left of the last register value are six successive values, cut at other places.
 -- Assumes nothing.
-use Rattle.fox_register.specs.Register.{iterate}
+use Rattle.fox_key_register.specs.Register.{iterate}
 use Rattle.fox_key_mixing.proofs.Laws.Stream.{front-row}
 use borrow.Author.Needs.{needs}
 use Rattle.fox_key_mixing.proofs.diversification.front.Statement.{statement}

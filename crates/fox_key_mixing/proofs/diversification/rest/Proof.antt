@@ -1,7 +1,7 @@
 -- `diversification::rest` meets its contract: the two words and the byte that is left are six successive values after their first byte, cut at other places.
 -- Assumes nothing.
 use Rattle.fox_key_mixing.specs.KeyBytes.{bytes16}
-use Rattle.fox_register.specs.Register.{iterate}
+use Rattle.fox_key_register.specs.Register.{iterate}
 use Rattle.fox_key_mixing.proofs.Laws.Stream.{rest-row}
 use borrow.Author.Needs.{needs}
 use Rattle.fox_key_mixing.proofs.diversification.rest.Statement.{statement}

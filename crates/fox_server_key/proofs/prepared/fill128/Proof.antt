@@ -6,10 +6,11 @@ use mathlib.Core.Path.{_≡_, refl, sym, ap, _∙_}
 use mathlib.Core.Bool.{true}
 use Prim.Native.Nat.{ℕ, _-_, _≤_}
 use Rattle.fox_rounds.specs.Rounds.{left, right}
-use Rattle.fox_rounds.specs.Skeleton.{numbered, place}
+use Rattle.fox_layers.specs.Lists.{numbered}
+use Rattle.fox_rounds.specs.Skeleton.{place}
 use Rattle.fox_rounds.proofs.Laws.Halves.{left-pair, right-pair}
-use Rattle.fox_schedule.specs.Step.{roundKeyOf, RegisterAt}
-use Rattle.fox_schedule.proofs.Laws.RegisterAt.{registerAt-on, registerAt-key}
+use Rattle.fox_key_schedule.specs.Step.{roundKeyOf, RegisterAt}
+use Rattle.fox_key_schedule.proofs.Laws.RegisterAt.{registerAt-on, registerAt-key}
 use Rattle.fox_server_key.specs.Prepared.{inHalves, filled}
 use Rattle.fox_server_key.proofs.Laws.Filled.{filled-128}
 use Rattle.fox_server_key.proofs.prepared.fill128.Statement.{statement}

@@ -5,10 +5,11 @@ use borrow.Author.Needs.{needs}
 use mathlib.Core.Path.{_≡_, refl, ap, _∙_}
 use mathlib.Core.Bool.{true}
 use Prim.Native.Nat.{ℕ, _-_, _≤_}
-use Rattle.fox_rounds.specs.Skeleton.{numbered, place}
-use Rattle.fox_schedule.specs.Step.{roundKeyOf, RegisterAt}
-use Rattle.fox_schedule.proofs.Laws.RegisterAt.{registerAt-on, registerAt-key}
-use Rattle.fox_schedule.proofs.Laws.Schedules.{right-roundKeyAt}
+use Rattle.fox_layers.specs.Lists.{numbered}
+use Rattle.fox_rounds.specs.Skeleton.{place}
+use Rattle.fox_key_schedule.specs.Step.{roundKeyOf, RegisterAt}
+use Rattle.fox_key_schedule.proofs.Laws.RegisterAt.{registerAt-on, registerAt-key}
+use Rattle.fox_key_schedule.proofs.Laws.Schedules.{right-roundKeyAt}
 use Rattle.fox_server_key.specs.Prepared.{filled}
 use Rattle.fox_server_key.proofs.Laws.Filled.{filled-64}
 use Rattle.fox_server_key.proofs.prepared.fill64.Statement.{statement}

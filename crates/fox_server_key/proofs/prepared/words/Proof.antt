@@ -4,7 +4,7 @@ use borrow.Author.Needs.{needs}
 use mathlib.Core.Path.{sym, ap, _∙_}
 use mathlib.Core.List.{List}
 use Prim.Native.Nat.{ℕ}
-use Rattle.fox_schedule.proofs.Laws.Schedules.{roundKeys-scheduled, scheduled-narrow}
+use Rattle.fox_key_schedule.proofs.Laws.Schedules.{roundKeys-scheduled, scheduled-narrow}
 use Rattle.fox_server_key.specs.Prepared.{inHalves, filled}
 use Rattle.fox_server_key.proofs.Laws.RoundKeys.{preparedWords-64, preparedWords-128}
 use Rattle.fox_server_key.proofs.prepared.words.Statement.{statement}

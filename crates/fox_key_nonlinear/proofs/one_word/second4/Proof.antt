@@ -1,0 +1,11 @@
+-- `one_word::second4` meets its contract: the flip XORs with ones, as many as the definition has, and the test on `flip` is the definition's.
+-- Assumes nothing.
+use Rattle.fox_key_nonlinear.specs.Nonlinear.{flipped}
+use Rattle.fox_key_nonlinear.proofs.one_word.second4.Statement.{statement}
+use Rattle.fox_key_nonlinear.proofs.one_word.second4.Tie as tie
+
+pub second4-spec : {M : Type 1} → statement M
+unfolding flipped
+second4-spec =
+    tie.close (tie.spec (λ c κs. tt) (λ c κs. tt) (λ c. rw (c .sigma4 .ensures, c .before .if1 .taken))
+    (λ c. rw (c .sigma42 .ensures, c .before .if1 .left)))

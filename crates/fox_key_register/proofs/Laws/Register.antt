@@ -1,0 +1,118 @@
+-- The register stays within 24 bits, and a step back undoes a step. So the register stepped back is the register stepped forward fewer times.
+-- Assumes nothing.
+use mathlib.Core.Path.{_≡_, refl, sym, ap, _∙_}
+use Prim.Native.Nat.{ℕ, zero, suc, _+_, _-_, _*_, _/_, _%_, _^_, _≤_, _<_}
+use native.Mathlib.Nat.{zero-add, suc-add, add-comm, one-mul}
+use native.Mathlib.Numerals.{add-one}
+use native.Mathlib.Omega.{arith}
+use lib.Dec.{ltb}
+use lib.Bits.{xor-shr, xor-mod, xor-comm, xor-lt, xor-shifted}
+use borrow.Author.Tests.{ltb-true, ltb-false, lt-ltb, le-ltb, eq-eqb, ne-eqb}
+use Rattle.fox_layers.specs.Words.{_⊕_, joined}
+use Rattle.fox_layers.proofs.Laws.Xor.{xor-assoc}
+use Rattle.fox_layers.proofs.Laws.Lists.{by-test}
+use Rattle.fox_key_register.specs.Register.{seed, clocked, clockedBack, iterate, LFSR}
+
+-- the four branches of the two steps
+pub clocked-below : (x : ℕ) → x < 2 ^ 23 → clocked x ≡ x * 2
+unfolding clocked
+clocked-below x h = simp (lt-ltb x (2 ^ 23) h)
+
+pub clocked-above : (x : ℕ) → 2 ^ 23 ≤ x → clocked x ≡ (x * 2 - 2 ^ 24) ⊕ 0x1B
+unfolding clocked
+clocked-above x h = simp (le-ltb x (2 ^ 23) h)
+
+pub clockedBack-even : (x : ℕ) → x % 2 ≡ 0 → clockedBack x ≡ x / 2
+unfolding clockedBack
+clockedBack-even x h = simp (eq-eqb (x % 2) 0 h)
+
+pub clockedBack-odd : (x : ℕ) → (x % 2 ≡ 0 → ⊥) → clockedBack x ≡ x / 2 ⊕ 0x80000D
+unfolding clockedBack
+clockedBack-odd x h = simp (ne-eqb (x % 2) 0 h)
+
+pub moved-lt : (x : ℕ) → x < 2 ^ 24 → ((x * 2 - 2 ^ 24) ⊕ 0x1B) < 2 ^ 24
+moved-lt x h = xor-lt 24 (x * 2 - 2 ^ 24) 0x1B (omega arith) (omega arith)
+
+pub halved-lt : (x : ℕ) → x < 2 ^ 24 → (x / 2 ⊕ 0x80000D) < 2 ^ 24
+halved-lt x h = xor-lt 24 (x / 2) 0x80000D (omega arith) (omega arith)
+
+pub clocked-lt : (x : ℕ) → x < 2 ^ 24 → clocked x < 2 ^ 24
+unfolding clocked
+clocked-lt x h =
+    by-test (ltb x (2 ^ 23)) (λ t. rw t (omega (arith, ltb-true x (2 ^ 23) t))) (λ t. rw t (moved-lt x h))
+
+-- XOR with a top bit that is not set is the sum. The powers are variables here, since ⊕ of two numerals would be computed bit by bit
+with-top : (k p b : ℕ) → p ≡ 2 ^ k → b < 2 ^ k → b ⊕ p ≡ p + b
+with-top k p b e h =
+    xor-comm b p ∙ ap (λ (n : ℕ). n ⊕ b) (e ∙ sym (one-mul (2 ^ k))) ∙ xor-shifted 1 k b h
+    ∙ ap (λ (n : ℕ). n + b) (one-mul (2 ^ k) ∙ sym e)
+
+-- A register with its top bit set is 2 ^ 23 + z: a step gives z * 2 ⊕ 1B, which is odd. Its half is z ⊕ 0D, and XORed with 80000D that is z with the top bit
+-- set again.
+odd-after : (z : ℕ) → (z * 2 ⊕ 0x1B) % 2 ≡ 1
+odd-after z =
+    let even : z * 2 % 2 ≡ 0 = omega arith in
+    rw (xor-mod (z * 2) 0x1B 1, even)
+
+half-after : (z : ℕ) → (z * 2 ⊕ 0x1B) / 2 ≡ z ⊕ 0xD
+half-after z =
+    let half : z * 2 / 2 ≡ z = omega arith in
+    rw (xor-shr (z * 2) 0x1B 1, half)
+
+back-above : (x z : ℕ) → x ≡ 0x800000 + z → z < 2 ^ 23 → clockedBack (z * 2 ⊕ 0x1B) ≡ x
+back-above x z e h =
+    let odd = odd-after z in
+    rw (clockedBack-odd (z * 2 ⊕ 0x1B) (λ p. omega arith), half-after z) (xor-assoc z 0xD 0x80000D ∙ with-top 23 0x800000 z refl h ∙ sym e)
+
+back-below : (x : ℕ) → x < 2 ^ 23 → clockedBack (clocked x) ≡ x
+back-below x below = rw (clocked-below x below, clockedBack-even (x * 2) (omega arith)) (omega arith)
+
+pub back-clocked : (x : ℕ) → x < 2 ^ 24 → clockedBack (clocked x) ≡ x
+back-clocked x h =
+    by-test (ltb x (2 ^ 23)) (λ t. back-below x (ltb-true x (2 ^ 23) t))
+    (λ t.
+    let above = ltb-false x (2 ^ 23) t in
+    let moved : x * 2 - 2 ^ 24 ≡ (x - 2 ^ 23) * 2 = omega arith in
+    rw (clocked-above x above, moved) (back-above x (x - 2 ^ 23) (omega arith) (omega arith)))
+
+-- one step more, taken last or first
+pub iterate-suc : {A : Type 0} (n : ℕ) (f : A → A) (x : A) → iterate (n + 1) f x ≡ f (iterate n f x)
+unfolding iterate
+iterate-suc n f x = rw add-one
+
+pub iterate-first : {A : Type 0} (n : ℕ) (f : A → A) (x : A) → iterate n f (f x) ≡ f (iterate n f x)
+unfolding iterate
+iterate-first zero f x = refl
+iterate-first (suc n) f x = ap f (iterate-first n f x)
+
+pub iterate-add : {A : Type 0} (m n : ℕ) (f : A → A) (x : A) → iterate (m + n) f x ≡ iterate m f (iterate n f x)
+unfolding iterate
+iterate-add zero n f x = rw zero-add
+iterate-add (suc m) n f x = rw suc-add (ap f (iterate-add m n f x))
+
+pub iterate-lt : (n x : ℕ) → x < 2 ^ 24 → iterate n clocked x < 2 ^ 24
+unfolding iterate
+iterate-lt zero x h = h
+iterate-lt (suc n) x h = clocked-lt (iterate n clocked x) (iterate-lt n x h)
+
+pub back-iterate : (n x : ℕ) → x < 2 ^ 24 → iterate n clockedBack (iterate n clocked x) ≡ x
+unfolding iterate
+back-iterate zero x h = refl
+back-iterate (suc n) x h =
+    let y = iterate n clocked x in
+    cc (iterate-first n clockedBack (clocked y), back-clocked y (iterate-lt n x h), back-iterate n x h)
+
+pub seed-lt : (r : ℕ) → r < 256 → seed r < 2 ^ 24
+unfolding seed joined
+seed-lt r h = omega (arith, xor-lt 8 r 0xFF h (omega arith))
+
+pub LFSR-lt : (c r : ℕ) → r < 256 → LFSR c r < 2 ^ 24
+unfolding LFSR
+LFSR-lt c r h = iterate-lt c (seed r) (seed-lt r h)
+
+pub LFSR-forward : (m n r : ℕ) → iterate n clocked (LFSR m r) ≡ LFSR (m + n) r
+unfolding LFSR
+LFSR-forward m n r = cc (iterate-add n m clocked (seed r), add-comm n m)
+
+pub LFSR-back : (m n r : ℕ) → r < 256 → iterate n clockedBack (LFSR (m + n) r) ≡ LFSR m r
+LFSR-back m n r h = rw (← (LFSR-forward m n r)) (back-iterate n (LFSR m r) (LFSR-lt m r h))

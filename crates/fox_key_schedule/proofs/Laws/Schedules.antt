@@ -1,0 +1,89 @@
+-- Which key schedule a key takes (001 Fig. 8), and the round keys of a key, one after the other, as its `Schedule` gives them.
+-- Assumes nothing.
+use mathlib.Core.Path.{_≡_, refl, sym, ap, ap₂, _∙_}
+use mathlib.Core.List.{List}
+use mathlib.Core.Bool.{Bool, true}
+use Prim.Native.Nat.{ℕ, suc, _+_, _-_, _*_, _^_, _<_, _≤_}
+use native.Mathlib.Nat.{zero-add}
+use native.Mathlib.Omega.{arith}
+use lib.Dec.{eqb}
+use lib.ListN.{length}
+use borrow.Author.Tests.{le-leb, lt-leb, eq-eqb, ne-eqb}
+use Rattle.fox_layers.proofs.Laws.Lists.{numbered-same}
+use Rattle.fox_key_mixing.specs.Padding.{mkey}
+use Rattle.fox_key_register.specs.Register.{LFSR}
+use Rattle.fox_key_mixing.specs.Diversification.{groups, dkey}
+use Rattle.fox_key_nonlinear.specs.Nonlinear.{NL64, NL64h, NL128}
+use Rattle.fox_key_nonlinear.proofs.Laws.Width.{NL128-lt}
+use Rattle.fox_key_nonlinear.specs.declared.nl128.Key128.{Key128}
+use Rattle.fox_key_schedule.specs.Schedule.{ek64, ek128, roundKeyAt64, roundKeyAt128, roundKey64, roundKey128, roundKey, roundKeys}
+use Rattle.fox_key_schedule.specs.Step.{roundKeyAt, steps, Scheduled, roundKeyOf, narrow, RoundKeyAt, roundKeysOf}
+use Rattle.fox_key_schedule.specs.declared.schedule.Schedule.{Schedule}
+use Rattle.fox_key_schedule.specs.declared.schedule.Schedule.the-variants.{Ks64, Ks64h, Ks128}
+
+-- KS64
+pub roundKeyAt64-ks64 : (key : List ℕ) (reg : ℕ) → length key ≤ 16
+    → roundKeyAt64 key reg ≡ NL64 (eqb (length key) 16) (dkey (mkey 16 key) reg)
+unfolding roundKeyAt64 ek64
+roundKeyAt64-ks64 key reg h = simp (le-leb _ _ h)
+
+-- KS64h
+pub roundKeyAt64-ks64h : (key : List ℕ) (reg : ℕ) → 16 < length key
+    → roundKeyAt64 key reg ≡ NL64h (eqb (length key) 32) (dkey (mkey 32 key) reg)
+unfolding roundKeyAt64 ek64
+roundKeyAt64-ks64h key reg h = simp (lt-leb _ _ h)
+
+pub groups-ks64 : (len : ℕ) → len ≤ 16 → groups (ek64 len) ≡ 6
+unfolding groups ek64
+groups-ks64 len h = simp (le-leb _ _ h)
+
+pub groups-ks64h : (len : ℕ) → 16 < len → groups (ek64 len) ≡ 11
+unfolding groups ek64
+groups-ks64h len h = simp (lt-leb _ _ h)
+
+pub roundKey-64 : (c r : ℕ) (key : List ℕ) (i : ℕ) → c ≡ 64 → roundKey c r key i ≡ roundKey64 r key i
+unfolding roundKey
+roundKey-64 c r key i e = simp (eq-eqb c 64 e)
+
+pub roundKey-128 : (c r : ℕ) (key : List ℕ) (i : ℕ) → (c ≡ 64 → ⊥) → roundKey c r key i ≡ roundKey128 r key i
+unfolding roundKey
+roundKey-128 c r key i n = simp (ne-eqb c 64 n)
+
+-- the round keys of FOX128 fit two words
+pub roundKey128-lt : (r : ℕ) (key : List ℕ) (i : ℕ) → roundKey128 r key i < 2 ^ 128
+unfolding roundKey128 roundKeyAt128
+roundKey128-lt r key i = NL128-lt _ _
+
+-- the schedule of a key gives the round keys of that key
+scheduled-key : (c r : ℕ) (key : List ℕ) (s : Schedule) → Scheduled c key s → (i : ℕ) → roundKey c r key i ≡ roundKeyOf s r i
+unfolding Scheduled roundKeyOf roundKeyAt steps roundKey64 roundKey128 roundKeyAt128 ek128 groups
+scheduled-key c r key (Ks64 m flip) is i =
+    roundKey-64 c r key i (is .0)
+    ∙ ap (λ (g : ℕ). roundKeyAt64 key (LFSR (i * g) r)) (groups-ks64 (length key) (is .1))
+    ∙ roundKeyAt64-ks64 key (LFSR (i * 6) r) (is .1)
+    ∙ ap₂ (λ (f : Bool) (ms : List ℕ). NL64 f (dkey ms (LFSR (i * 6) r))) (sym (is .3)) (sym (is .2))
+scheduled-key c r key (Ks64h m flip) is i =
+    roundKey-64 c r key i (is .0)
+    ∙ ap (λ (g : ℕ). roundKeyAt64 key (LFSR (i * g) r)) (groups-ks64h (length key) (is .1))
+    ∙ roundKeyAt64-ks64h key (LFSR (i * 11) r) (is .1)
+    ∙ ap₂ (λ (f : Bool) (ms : List ℕ). NL64h f (dkey ms (LFSR (i * 11) r))) (sym (is .3)) (sym (is .2))
+scheduled-key c r key (Ks128 m flip) is i =
+    roundKey-128 c r key i (is .0)
+    ∙ ap₂ (λ (f : Bool) (ms : List ℕ). NL128 f (dkey ms (LFSR (i * 11) r))) (sym (is .2)) (sym (is .1))
+
+-- all round keys of a key, in their order
+pub roundKeys-scheduled : (c r : ℕ) (key : List ℕ) (s : Schedule) → Scheduled c key s → roundKeys c r key ≡ roundKeysOf s r
+unfolding roundKeys
+roundKeys-scheduled c r key s is =
+    numbered-same (roundKey c r key) (roundKeyOf s r) r 0 (λ i h. scheduled-key c r key s is i)
+
+-- a round key of 64 bits is its right word; one of 128 bits has these halves
+pub right-roundKeyAt : {s : Schedule} {reg : ℕ} {k : Key128} → RoundKeyAt s reg k → narrow s ≡ true → k .right ≡ roundKeyAt s reg
+right-roundKeyAt {k = k} m e = sym (zero-add (k .right)) ∙ ap (λ (l : ℕ). l * 2 ^ 64 + k .right) (sym (m .short e)) ∙ m .whole
+
+-- the schedule of a key of FOX64 is narrow
+pub scheduled-narrow : (c : ℕ) (key : List ℕ) (s : Schedule) → Scheduled c key s → c ≡ 64 → narrow s ≡ true
+unfolding Scheduled narrow
+scheduled-narrow c key (Ks64 m flip) is e = refl
+scheduled-narrow c key (Ks64h m flip) is e = refl
+scheduled-narrow c key (Ks128 m flip) is e = absurd (is .0 e)

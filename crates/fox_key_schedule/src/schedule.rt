@@ -1,0 +1,97 @@
+// The key schedule of either cipher (001 §2.3.1 to §2.3.4): the mixed key, with whether the key has ek bytes. The card engine and the prepared key both take
+// round keys and register steps from here.
+ghost use mathlib.Core.Path.{_≡_};
+ghost use Prim.Native.Nat.{_^_, _<_, _≤_};
+ghost use lib.ListN.{length};
+ghost use Rattle.fox_key_schedule.specs.Step.{RoundKeyAt, steps, Scheduled, RegisterAt, RegisterNext};
+use fox_key_mixing::diversification::dkey16;
+use fox_key_mixing::diversification::dkey32;
+use fox_key_mixing::key_bytes::Key16;
+use fox_key_mixing::key_bytes::Key32;
+use fox_key_mixing::mixing::mkey16;
+use fox_key_mixing::mixing::mkey32;
+use fox_key_nonlinear::nl64::nl64;
+use fox_key_nonlinear::nl64h::nl64h;
+use fox_key_nonlinear::nl128::Key128;
+use fox_key_nonlinear::nl128::nl128;
+use fox_key_register::register::back;
+use fox_key_register::register::forward;
+use fox_key_register::register::seed;
+use fox_rounds::fox64::Fox64;
+use fox_rounds::fox128::Fox128;
+
+// KS64, KS64h or KS128, and whether the key has ek bytes.
+pub enum Schedule {
+    Ks64(Key16, bool),
+    Ks64h(Key32, bool),
+    Ks128(Key32, bool),
+}
+
+impl Schedule {
+    pub fn of(cipher: u32, key: &[u8]) -> Schedule
+        requires { ⌜ length (now key) ≤ 32 ⌝ }
+        ensures { λ s. ⌜ Scheduled cipher (now (key .entry)) s ⌝ }
+    {
+        if cipher != 64 {
+            return Schedule::Ks128(mkey32(key), key.len() == Fox128::EK);
+        }
+        if key.len() <= Fox64::EK {
+            Schedule::Ks64(mkey16(key), key.len() == Fox64::EK)
+        } else {
+            Schedule::Ks64h(mkey32(key), key.len() == Fox64::EK_LONG)
+        }
+    }
+
+    // Register steps from one round key to the next.
+    fn steps(self) -> u32
+        ensures { λ r. ⌜ r ≡ steps self ⌝ }
+    {
+        match self {
+            Schedule::Ks64(_, _) => Fox64::STEPS,
+            Schedule::Ks64h(_, _) => Fox64::STEPS_LONG,
+            Schedule::Ks128(_, _) => Fox128::STEPS,
+        }
+    }
+
+    // The round key at the register value reg; for FOX64 it is the right word, and the left word is 0.
+    pub fn round_key(self, reg: u32) -> Key128
+        requires { ⌜ reg < 2 ^ 24 ⌝ }
+        ensures { λ k. ⌜ RoundKeyAt self reg k ⌝ }
+    {
+        match self {
+            Schedule::Ks64(m, flip) => Key128 {
+                left: 0,
+                right: nl64(dkey16(m, reg), flip),
+            },
+            Schedule::Ks64h(m, flip) => Key128 {
+                left: 0,
+                right: nl64h(dkey32(m, reg), flip),
+            },
+            Schedule::Ks128(m, flip) => nl128(dkey32(m, reg), flip),
+        }
+    }
+
+    // The register's value for the first round: in sealing the seed, in opening the value for the last round key.
+    pub fn first(self, sealing: bool, rounds: u8) -> u32
+        requires { ⌜ 1 ≤ rounds ⌝ }
+        ensures { λ r. ⌜ RegisterAt self sealing rounds 0 r ⌝ }
+    {
+        let start = seed(rounds);
+        if sealing {
+            return start;
+        }
+        forward(start, ((rounds - 1) as u32) * self.steps())
+    }
+
+    // The register's value for the next round: forward in sealing, back in opening.
+    pub fn next(self, sealing: bool, reg: u32) -> u32
+        requires { ⌜ reg < 2 ^ 24 ⌝ }
+        ensures { λ r. ⌜ RegisterNext self sealing reg r ⌝ }
+    {
+        let steps = self.steps();
+        if sealing {
+            return forward(reg, steps);
+        }
+        back(reg, steps)
+    }
+}

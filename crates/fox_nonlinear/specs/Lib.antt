@@ -1,2 +1,0 @@
--- What the promises and laws of fox_nonlinear cite: 001's definitions, in its order.
-pub mod Nonlinear
