@@ -6,7 +6,7 @@ static const char *const texts[] = {
     [FOX_REFUSED_CIPHER] = "The cipher is neither 64 nor 128: give 64 for FOX64 or 128 for FOX128.",
     [FOX_REFUSED_ROUNDS] = "The rounds are below 12 or above 255: give 12 to 255, and as many to open as to seal.",
     [FOX_REFUSED_KEY] = "The key is longer than 32 bytes: give 0 to 32 bytes, which are 0 to 64 hex digits.",
-    [FOX_REFUSED_BLOCK] = "The block or counter is of the wrong size: give 8 bytes for FOX64, 16 bytes for FOX128.",
+    [FOX_REFUSED_BLOCK] = "The block or counter block is of the wrong size: give 8 bytes for FOX64, 16 bytes for FOX128.",
     [FOX_REFUSED_DATA] = "The data of one call is longer than 65,536 bytes: cut it into more calls, each at its own offset.",
     [FOX_REFUSED_OUTPUT] = "The output is not as long as the input: give both the same length.",
     [FOX_REFUSED_END] = "The stretch ends beyond the longest run: offset plus length is to be at most 1,073,741,824.",
@@ -15,7 +15,7 @@ static const char *const texts[] = {
 
 const char *fox_refusal_text(uint32_t number)
 {
-    if (number < sizeof texts / sizeof *texts)
+    if (number < sizeof texts / sizeof *texts && texts[number] != NULL)
         return texts[number];
     return "This number means nothing: a call answers 0 to 7, and the bench program 8 as well.";
 }

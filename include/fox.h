@@ -112,7 +112,8 @@ uint32_t fox_server_open_block(uint32_t cipher, uint32_t rounds, const uint8_t *
  *                               bytes for FOX64, 16 for FOX128. Its last four bytes, big-endian, count up by
  *                               one with each block of the run, and wrap; the other bytes stay. No counter
  *                               block may occur in two runs under one key, or anyone with both sealed runs
- *                               can XOR them and gets the XOR of the two plain texts
+ *                               can XOR them and gets the XOR of the two plain texts: give each run another
+ *                               value before those four bytes
  * offset                        the place in the run of the first byte of the data, counted from 0
  * data, data_len                0 to 65,536 bytes; offset + data_len is at most 1,073,741,824, and a length
  *                               of 0 is served at that very offset too

@@ -80,7 +80,7 @@ static void held(const char *what, uint32_t bits, long found, long limit)
 static void of_block(uint32_t bits, long limit)
 {
     long one = steps(again, bits, 1), two = steps(again, bits, 2), three = steps(again, bits, 3);
-    held("over lent tables and keys", bits, two - one > three - two ? two - one : three - two, limit);
+    held("alone", bits, two - one > three - two ? two - one : three - two, limit);
 }
 
 /* The longer of two runs less the shorter: preparing the key and all that a call does once cancel out, and what each

@@ -1,4 +1,4 @@
-// Exported functions whose instructions the gate counts (tests/instructions.sh, tests/measure.c), and the bench sheet for a fuzzer to call (tests/fuzz.sh).
+// Exported functions whose instructions the gate counts (tests/instructions.sh, tests/measure.sh), and the bench sheet for a fuzzer to call (tests/fuzz.sh).
 // No product uses this crate.
 ghost use mathlib.Core.Path.{_≡_};
 ghost use Rattle.fox_layers.specs.Tables.{picked};

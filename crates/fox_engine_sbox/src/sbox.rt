@@ -1,4 +1,4 @@
-// The S-box as a constant (001 Fig. 7).
+// The S-box of 001 §3.1 as a constant (Fig. 7, of which copies are damaged).
 ghost use mathlib.Core.Path.{_≡_};
 ghost use Rattle.fox_layers.specs.Tables.{sboxTable};
 

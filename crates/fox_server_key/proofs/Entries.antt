@@ -8,7 +8,6 @@ use native.Mathlib.Nat.{zero-add}
 use native.Mathlib.Omega.{arith}
 use lib.ListN.{length, getD}
 use Rattle.fox_rounds.specs.Rounds.{left, right}
-use Rattle.fox_layers.specs.Lists.{numbered}
 use Rattle.fox_rounds.proofs.Laws.Halves.{pair}
 use Rattle.fox_layers.proofs.Laws.Lists.{length-numbered, numbered-at}
 use Rattle.fox_key_schedule.specs.Schedule.{roundKey, roundKeys}

@@ -6,7 +6,7 @@ use mathlib.Core.Bool.{Bool}
 use mathlib.Core.List.{List}
 use Prim.Native.Nat.{ℕ, zero, suc, _*_}
 use lib.ListN.{length, getD, replicate}
-use Rattle.fox_refusals.specs.Refusals.{refusalOf, blockSize, wrongCipher, forKey, forBlock, Keyed}
+use Rattle.fox_refusals.specs.Refusals.{refusalOf, wrongCipher, forKey, forBlock, Keyed}
 use Rattle.fox_refusals.specs.declared.answer.Answer.{Answer}
 use Rattle.fox_refusals.proofs.Laws.Refusals.{keyed-served}
 use Rattle.fox_refusals.proofs.Laws.Reply.{chosen, passed-over}

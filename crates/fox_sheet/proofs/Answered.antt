@@ -1,7 +1,7 @@
 -- What a call that answers a sheet wrote, by the sheet: where a line is malformed, refusal 8 and the line, before all else; where the sheet is well-formed,
 -- the block's refusal alone, or the block. And two calls on one sheet write the same text.
 -- Assumes nothing.
-use mathlib.Core.Path.{_≡_, refl, sym, ap, _∙_}
+use mathlib.Core.Path.{_≡_, refl, sym, _∙_}
 use mathlib.Core.List.{List}
 use Prim.Native.Nat.{ℕ}
 use lib.ListN.{length, take}

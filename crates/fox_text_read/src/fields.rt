@@ -1,6 +1,5 @@
 // Reads a text's first line, which is to be a name and a value. A line of pairs that is not well-formed gives 0 bytes; a decimal line gives 0 where no
 // decimal follows the name.
-ghost use mathlib.Core.Path.{_≡_};
 ghost use Prim.Native.Nat.{_≤_};
 ghost use lib.ListN.{length};
 ghost use Rattle.fox_text.specs.Fields.{ReadsDecimal, ReadsPairs};

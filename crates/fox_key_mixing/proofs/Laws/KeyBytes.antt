@@ -1,6 +1,6 @@
 -- XOR of lists of bytes: it can be taken part by part where the parts have equal length, and ends with the shorter list.
 -- Assumes nothing.
-use mathlib.Core.Path.{_≡_, refl, sym, ap, _∙_}
+use mathlib.Core.Path.{_≡_, refl, sym, ap}
 use mathlib.Core.List.{List, [], _∷_, _++_, append-nil, append-assoc}
 use Prim.Native.Nat.{ℕ}
 use native.Mathlib.Nat.{suc-inj}

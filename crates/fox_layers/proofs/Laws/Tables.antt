@@ -8,10 +8,10 @@ use native.Mathlib.Nat.{zero-lt-suc, zero-add, div-div-eq-div-mul, div-add-mod'}
 use native.Mathlib.Omega.{arith}
 use lib.Bits.{xor-shifted}
 use lib.ListN.{length, getD, length-map}
-use Rattle.fox_layers.specs.Words.{_⊕_, joined, split, Bytes, xorEach, xorOver}
+use Rattle.fox_layers.specs.Words.{joined, split, Bytes, xorOver}
 use Rattle.fox_layers.specs.Field.{product}
 use Rattle.fox_layers.specs.Substitution.{S₁, S₂, S₃, halves, whole, or4, lmid4, lmor4, sbox, sigma}
-use Rattle.fox_layers.specs.Diffusion.{times, diffused, mu4Rows, mu8Rows, mu4, mu8}
+use Rattle.fox_layers.specs.Diffusion.{diffused, mu4Rows, mu8Rows, mu4, mu8}
 use Rattle.fox_layers.specs.Lists.{numbered}
 use Rattle.fox_layers.specs.Tables.{table, sboxTable, tables, TBS, column, scaled, tbsmEntry, TBSM, picked}
 use Rattle.fox_layers.proofs.Laws.Words.{length-split, split-bytes, split-above, split-joined, joined-xorEach, joined-lt, map-bytes}

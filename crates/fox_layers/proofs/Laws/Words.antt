@@ -1,6 +1,6 @@
 -- Joining and splitting undo each other, and XOR can be taken before or after either, for any number of bytes.
 -- Assumes nothing.
-use mathlib.Core.Path.{_≡_, refl, sym, ap, ap₂, _∙_}
+use mathlib.Core.Path.{_≡_, refl, sym, ap, _∙_}
 use mathlib.Core.List.{List, [], _∷_, _++_, map}
 use Prim.Native.Nat.{ℕ, zero, suc, _+_, _*_, _/_, _%_, _^_, _<_}
 use native.Mathlib.Nat.{add-comm, mul-suc, mul-add, mod-lt, mod-one, div-one, mod-eq-of-lt, zero-lt-suc, suc-inj, mul-add-div-right, mul-add-mod-self-right}

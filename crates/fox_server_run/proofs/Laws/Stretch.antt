@@ -11,7 +11,7 @@ use Rattle.fox_rounds.specs.declared.state.State.the-variants.{Of64, Of128}
 use Rattle.fox_rounds.specs.RoundKeys.{roundKeysIn64, roundKeysIn128}
 use Rattle.fox_refusals.specs.Refusals.{blockSize, Stretched}
 use Rattle.fox_block.specs.Block.{state64, state128}
-use Rattle.fox_block.proofs.Laws.Block.{size-64, size-128, state-64, state-128}
+use Rattle.fox_block.proofs.Laws.Block.{state-64, state-128}
 use Rattle.fox_server_key.specs.Prepared.{roundKeysIn}
 use Rattle.fox_server_key.specs.declared.prepared.Prepared.{Prepared}
 use Rattle.fox_server_key.proofs.Laws.RoundKeys.{roundKeysIn-64, roundKeysIn-128}

@@ -1,6 +1,5 @@
 -- `blocks::read` meets its contract: for either cipher it reads that cipher's state.
 -- Assumes nothing.
-use borrow.Author.Needs.{needs}
 use mathlib.Core.Path.{sym, ap, _∙_}
 use Rattle.fox_rounds.specs.declared.state.State.the-variants.{Of64, Of128}
 use Rattle.fox_block.proofs.Laws.Block.{size-64, size-128, state-64, state-128}

@@ -1,6 +1,6 @@
 -- `field::multiples_of` meets its contract: what it doubles, halves and XORs are the products, by a law that was computed over all bytes.
 -- Assumes nothing.
-use mathlib.Core.Path.{_≡_, sym, ap, ap₂, _∙_}
+use mathlib.Core.Path.{sym, ap, ap₂, _∙_}
 use Prim.Native.Nat.{ℕ}
 use Rattle.fox_layers.specs.Words.{_⊕_}
 use Rattle.fox_layers.specs.Field.{double, halve}

@@ -1,7 +1,6 @@
 -- `order::place` meets its contract: both cases are the definition's.
 -- Assumes nothing.
 use borrow.Author.Needs.{needs}
-use native.Mathlib.Omega.{arith}
 use Rattle.fox_rounds.specs.Skeleton.{place}
 use Rattle.fox_server_rounds.proofs.order.place.Statement.{statement}
 use Rattle.fox_server_rounds.proofs.order.place.Tie as tie

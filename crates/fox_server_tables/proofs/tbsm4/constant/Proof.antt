@@ -1,6 +1,6 @@
 -- `tbsm4::constant` meets its contract: each constant is the list that its rule gives, which the prover computes.
 -- Assumes nothing.
-use mathlib.Core.Path.{_≡_, refl}
+use mathlib.Core.Path.{refl}
 use native.Mathlib.Omega.{arith}
 use borrow.Author.Needs.{needs}
 use Rattle.fox_layers.specs.Words.{joined}

@@ -1,7 +1,7 @@
 -- `schedule::Schedule::next` meets its contract: it takes the schedule's steps, forward or back.
 -- Assumes nothing.
 use borrow.Author.Needs.{needs}
-use mathlib.Core.Path.{sym, ap, ap₂, _∙_}
+use mathlib.Core.Path.{sym, ap, _∙_}
 use mathlib.Core.Bool.{Bool}
 use Prim.Native.Nat.{ℕ}
 use Rattle.fox_key_register.specs.Register.{iterate, clocked, clockedBack}

@@ -1,7 +1,7 @@
 -- `state::State::round` meets its contract: for either cipher it is that cipher's round. A round of FOX64 depends on the lowest 64 bits of a round key alone.
 -- Assumes nothing.
-use mathlib.Core.Path.{_≡_, ap, sym, _∙_}
-use Prim.Native.Nat.{ℕ, _+_, _*_, _^_}
+use mathlib.Core.Path.{ap, sym, _∙_}
+use Prim.Native.Nat.{_+_, _*_, _^_}
 use borrow.Author.Needs.{needs}
 use Rattle.fox_rounds.specs.Skeleton.{round}
 use Rattle.fox_rounds.specs.declared.state.State.{State}
