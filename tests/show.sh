@@ -1,5 +1,5 @@
 #!/bin/sh
-# What `make run` shows: a block sealed by the bench program, a file sealed by the card's engine, and a stretch of it
+# What `make run` shows: a block sealed by the bench program, a file sealed by the card engine, and a stretch of it
 # opened by the server's. The exit status is 0 only where what was opened is what was sealed.
 set -u
 cd "$(dirname "$0")/.." || exit 2
@@ -29,7 +29,7 @@ prove() {
 
 bench() {
     echo
-    echo "The bench program seals one block by the card's engine. It reads a sheet of five lines, $sheet:"
+    echo "The bench program seals one block by the card engine. It reads a sheet of five lines, $sheet:"
     indented <"$sheet"
     shown "make bench <$sheet"
     sh tools/bench.sh <"$sheet" >build/bench.answer || stop "the bench program failed"
@@ -42,7 +42,7 @@ bench() {
 seal() {
     end=$(($(wc -c <"$plain") - 1))
     echo
-    echo "The card's engine seals a file, bytes 0 to $end of $plain, as a run in counter mode:"
+    echo "The card engine seals a file, bytes 0 to $end of $plain, as a run in counter mode:"
     shown "build/stretch --card 64 16 $key $counter 0 $end $plain >$sealed"
     ./build/stretch --card 64 16 "$key" "$counter" 0 "$end" "$plain" >"$sealed" || stop "the file was not sealed"
     echo "The sealed file begins:"
@@ -53,7 +53,7 @@ seal() {
 open_stretch() {
     first=$(head -n 6 "$plain" | wc -c) last=$(($(head -n 11 "$plain" | wc -c) - 1))
     echo
-    echo "The server's engine opens bytes $first to $last of it alone:"
+    echo "The server engine opens bytes $first to $last of it alone:"
     shown "build/stretch 64 16 $key $counter $first $last $sealed"
     ./build/stretch 64 16 "$key" "$counter" "$first" "$last" "$sealed" >"$opened" ||
         stop "the stretch was not opened"

@@ -104,5 +104,5 @@ check "stretch: over zeros come known vectors, for a key in either case and the 
 check "stretch: later bytes are those of the counter that is reached there" counts_on
 check "stretch: stretches by the server" all_stretches
 check "stretch: stretches by the card" card_stretches
-check "stretch: --card calls the card's engine, and else the server's is called" calls_its_engine
+check "stretch: --card calls the card engine, and else the server's is called" calls_its_engine
 check "stretch: the end of the longest run in files above 4 GiB" large_files
