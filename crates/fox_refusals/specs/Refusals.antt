@@ -6,6 +6,7 @@ use mathlib.Core.Logic.{_⊎_}
 use mathlib.Core.List.{List, [], _∷_, _++_}
 use mathlib.Core.Bool.{Bool, true, false, cond, not}
 use lib.Dec.{ltb, eqb}
+use lib.ListN.{length}
 
 pub record Refusal : Type 0 where
   pub number : ℕ
@@ -60,6 +61,25 @@ wrongOutputLength inputLen outLen = record { number = 6; applies = differs outLe
 unfoldable pub pastEnd : ℕ → ℕ → Refusal
 pastEnd offset inputLen = record { number = 7; applies = above 1073741824 (offset + inputLen) }
 
+-- 5, for tags: message above 1,073,741,824 bytes
+unfoldable pub longMessage : ℕ → Refusal
+longMessage messageLen = record { number = 5; applies = above 1073741824 messageLen }
+
+-- 6, where a tag is made: tag buffer is not B bytes; 9, where one is tested: stored tag is not B bytes
+unfoldable pub wrongTagLength : Bool → ℕ → ℕ → Refusal
+wrongTagLength making cipher tagLen = record { number = cond making 6 9; applies = differs tagLen (blockSize cipher) }
+
+-- the test whether two lists are the same
+unfoldable pub same : List ℕ → List ℕ → Bool
+same [] [] = true
+same [] (y ∷ ys) = false
+same (x ∷ xs) [] = false
+same (x ∷ xs) (y ∷ ys) = cond (eqb x y) (same xs ys) false
+
+-- 10: tag differs
+unfoldable pub otherTag : List ℕ → List ℕ → Refusal
+otherTag right stored = record { number = 10; applies = not (same right stored) }
+
 -- one more test in a chain of refusals: an earlier refusal stays, and where there is none this one is given if it applies
 unfoldable pub orElse : ℕ → Bool → ℕ → ℕ
 orElse refusal applies number = cond (eqb refusal 0) (cond applies number 0) refusal
@@ -82,6 +102,16 @@ forStretch cipher counterLen offset inputLen outLen =
 unfoldable pub forRun : ℕ → ℕ → ℕ → ℕ → ℕ → ℕ → ℕ → List Refusal
 forRun cipher rounds keyLen counterLen offset inputLen outLen = forKey cipher rounds keyLen ++ forStretch cipher counterLen offset inputLen outLen
 
+-- the refusals of a call that makes a tag, or tests one, but for 10
+unfoldable pub forTag : Bool → ℕ → ℕ → ℕ → ℕ → ℕ → List Refusal
+forTag making cipher rounds keyLen messageLen tagLen =
+    forKey cipher rounds keyLen ++ (longMessage messageLen ∷ wrongTagLength making cipher tagLen ∷ [])
+
+-- the refusals of a call that tests a stored tag, with the right one
+unfoldable pub forTagTest : ℕ → ℕ → ℕ → ℕ → List ℕ → List ℕ → List Refusal
+forTagTest cipher rounds keyLen messageLen right stored =
+    forTag false cipher rounds keyLen messageLen (length stored) ++ (otherTag right stored ∷ [])
+
 -- what holds where a call that prepares a key meets no refusal
 pub record Keyed (c r k : ℕ) : Type 0 where
   pub cipher : (c ≡ 64) ⊎ (c ≡ 128)
@@ -102,3 +132,9 @@ pub record Stretched (c r k b n d o : ℕ) : Type 0 where
   pub short : d ≤ 65536
   pub output : o ≡ d
   pub end : n + d ≤ 1073741824
+
+-- what holds where a call on a tag meets no refusal but 10
+pub record Tagged (c r k m t : ℕ) : Type 0 where
+  pub keyed : Keyed c r k
+  pub message : m ≤ 1073741824
+  pub tag : t ≡ blockSize c

@@ -2,3 +2,4 @@
 pub mod answer;
 pub mod refusals;
 pub mod stretch;
+pub mod tags;

@@ -1,5 +1,4 @@
 -- Laws on the definitions, which proofs cite in place of a definition's text.
-pub mod XorEach
 pub mod XorFrom
 pub mod Streams
 pub mod Loop

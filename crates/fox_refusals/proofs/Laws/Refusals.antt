@@ -1,17 +1,19 @@
 -- The first refusal of a list, test by test, and what holds where none applies. A list's number is 0 exactly where every test of it is false, since no
 -- refusal has the number 0; and each test is true exactly where its fact fails.
 -- Assumes nothing.
-use mathlib.Core.Path.{_≡_, refl, sym, ap, _∙_}
+use mathlib.Core.Path.{_≡_, refl, sym, ap, ap₂, _∙_}
 use mathlib.Core.Logic.{_⊎_, inl, inr, ⊎-elim}
 use mathlib.Core.Bool.{Bool, true, false, cond, not, true≢false}
 use mathlib.Core.List.{List, [], _∷_, _++_}
-use Prim.Native.Nat.{ℕ, _+_}
+use Prim.Native.Nat.{ℕ, _+_, _≤_}
+use native.Mathlib.Omega.{arith}
 use lib.Dec.{ltb, eqb}
+use lib.ListN.{length}
 use borrow.Author.Tests.{ltb-false, eqb-true, eqb-false, le-ltb, eq-eqb, ne-eqb, not-false}
 use Rattle.fox_layers.proofs.Laws.Lists.{by-test}
 use Rattle.fox_refusals.specs.Refusals.{Refusal, refusalOf, First, here, later, orElse, differs, blockSize, wrongCipher, wrongRounds, longKey}
 use Rattle.fox_refusals.specs.Refusals.{wrongBlockLength, longData, wrongOutputLength, pastEnd, forKey, forBlock, forStretch, forRun, Keyed}
-use Rattle.fox_refusals.specs.Refusals.{Blocked, Stretched}
+use Rattle.fox_refusals.specs.Refusals.{Blocked, Stretched, longMessage, wrongTagLength, same, otherTag, forTag, forTagTest, Tagged}
 
 -- no test of the list applies
 unfoldable pub Passed : List Refusal → Type 0
@@ -199,3 +201,112 @@ stretched c r k b n d o e =
       output = differs-known o d (q .1 .1 .0);
       end = ltb-false 1073741824 (n + d) (q .1 .1 .1 .0);
     }
+
+-- a tag
+
+numbered-tag : (making : Bool) (c r k m t : ℕ) → numbered (forTag making c r k m t) ≡ true
+unfolding numbered forKey forTag wrongCipher wrongRounds longKey longMessage wrongTagLength
+numbered-tag true c r k m t = refl
+numbered-tag false c r k m t = refl
+
+tagged-passed : (making : Bool) {c r k m t : ℕ} → Tagged c r k m t → Passed (forTag making c r k m t)
+unfolding Passed forKey forTag longMessage wrongTagLength
+tagged-passed making {c} {r} {k} {m} {t} h =
+    let p = keyed-passed (h .keyed) in
+    (p .0, (p .1 .0, (p .1 .1 .0, (le-ltb 1073741824 m (h .message), (differs-passed t (blockSize c) (h .tag), tt)))))
+
+pub tagged-served : (making : Bool) {c r k m t : ℕ} → Tagged c r k m t → refusalOf (forTag making c r k m t) ≡ 0
+tagged-served making {c} {r} {k} {m} {t} h = passed-served (forTag making c r k m t) (tagged-passed making h)
+
+pub tagged : (making : Bool) (c r k m t : ℕ) → refusalOf (forTag making c r k m t) ≡ 0 → Tagged c r k m t
+unfolding Passed forKey forTag longMessage wrongTagLength
+tagged making c r k m t e =
+    let p = served-passed (forTag making c r k m t) (numbered-tag making c r k m t) e in
+    let q = p .1 .1 .1 in
+    record {
+      keyed = passed-keyed c r k (p .0) (p .1 .0) (p .1 .1 .0);
+      message = ltb-false 1073741824 m (q .0);
+      tag = differs-known t (blockSize c) (q .1 .0);
+    }
+
+-- whether the stored tag is the right one
+
+pub same-refl : (xs : List ℕ) → same xs xs ≡ true
+unfolding same
+same-refl [] = refl
+same-refl (x ∷ xs) = rw (eq-eqb x x refl, same-refl xs)
+
+pub same-known : (xs ys : List ℕ) → same xs ys ≡ true → xs ≡ ys
+unfolding same
+same-known [] [] e = refl
+same-known [] (y ∷ ys) e = absurd (true≢false (sym e))
+same-known (x ∷ xs) [] e = absurd (true≢false (sym e))
+same-known (x ∷ xs) (y ∷ ys) e =
+    by-test (eqb x y) (λ t. ap₂ (λ (z : ℕ) (zs : List ℕ). z ∷ zs) (eqb-true x y t) (same-known xs ys (sym (ap (λ (b : Bool). cond b (same xs ys) false) t) ∙ e)))
+    (λ t. absurd (true≢false (sym (sym (ap (λ (b : Bool). cond b (same xs ys) false) t) ∙ e))))
+
+-- a test of a stored tag goes on, past the other refusals, with 10: given where the tag differs
+pub tag-tested : (c r k m : ℕ) (right stored : List ℕ)
+    → orElse (refusalOf (forTag false c r k m (length stored))) (not (same right stored)) 10 ≡ refusalOf (forTagTest c r k m right stored)
+unfolding numbered chain forKey forTag forTagTest wrongCipher wrongRounds longKey longMessage wrongTagLength otherTag
+tag-tested c r k m right stored = chained (forTag false c r k m (length stored)) (otherTag right stored ∷ []) refl
+
+-- where no other refusal applies, the stored tag decides
+pub tag-verdict : {c r k m : ℕ} (right stored : List ℕ) → Tagged c r k m (length stored)
+    → refusalOf (forTagTest c r k m right stored) ≡ cond (same right stored) 0 10
+unfolding orElse
+tag-verdict {c} {r} {k} {m} right stored h =
+    sym (tag-tested c r k m right stored)
+    ∙ ap (λ (n : ℕ). cond (eqb n 0) (cond (not (same right stored)) 10 0) n) (tagged-served false h)
+    ∙ turned-round (same right stored)
+  where
+    turned-round : (t : Bool) → _≡_ {A = ℕ} (cond (not t) 10 0) (cond t 0 10)
+    turned-round true = refl
+    turned-round false = refl
+
+-- a test that answers 0 found the right tag, and nothing else to refuse
+pub test-passed : (c r k m : ℕ) (right stored : List ℕ) → refusalOf (forTagTest c r k m right stored) ≡ 0 → Tagged c r k m (length stored) × (right ≡ stored)
+unfolding orElse
+test-passed c r k m right stored e =
+    let n = refusalOf (forTag false c r k m (length stored)) in
+    let whole = tag-tested c r k m right stored ∙ e in
+    by-test (eqb n 0)
+    (λ t.
+    let known = tagged false c r k m (length stored) (eqb-true n 0 t) in
+    let verdict = sym (tag-verdict right stored known) ∙ e in
+    by-test (same right stored) (λ s. (known, same-known right stored s))
+    (λ s. let z : _≡_ {A = ℕ} 10 0 = sym (ap (λ (b : Bool). cond b 0 10) s) ∙ verdict in absurd (omega arith)))
+    (λ t. absurd (eqb-false n 0 t (sym (ap (λ (b : Bool). cond b (cond (not (same right stored)) 10 0) n) t) ∙ whole)))
+
+-- no number of a list is above n; this is computed
+unfoldable atMost : ℕ → List Refusal → Bool
+atMost n [] = true
+atMost n (x ∷ xs) = cond (ltb n (x .number)) false (atMost n xs)
+
+at-most : (n : ℕ) (xs : List Refusal) → atMost n xs ≡ true → refusalOf xs ≤ n
+unfolding atMost refusalOf
+at-most n [] e = omega arith
+at-most n (x ∷ xs) e =
+    let h = first-numbered (ltb n (x .number)) (atMost n xs) e in
+    by-test (x .applies) (λ t. rw t (ltb-false n (x .number) (h .0))) (λ t. rw t (at-most n xs (h .1)))
+
+-- a test that answers 10 found another tag, and nothing else to refuse
+pub test-differs : (c r k m : ℕ) (right stored : List ℕ) → refusalOf (forTagTest c r k m right stored) ≡ 10
+    → Tagged c r k m (length stored) × (right ≡ stored → ⊥)
+unfolding orElse atMost forKey forTag wrongCipher wrongRounds longKey longMessage wrongTagLength
+test-differs c r k m right stored e =
+    let n = refusalOf (forTag false c r k m (length stored)) in
+    let few : n ≤ 9 = at-most 9 (forTag false c r k m (length stored)) refl in
+    let whole = tag-tested c r k m right stored ∙ e in
+    by-test (eqb n 0)
+    (λ t.
+    let known = tagged false c r k m (length stored) (eqb-true n 0 t) in
+    let verdict = sym (tag-verdict right stored known) ∙ e in
+    (known,
+    λ q.
+    let z : _≡_ {A = ℕ} 0 10 =
+    sym (ap (λ (b : Bool). cond b 0 10) (ap (same right) (sym q) ∙ same-refl right)) ∙ verdict in
+    omega arith))
+    (λ t.
+    let z : n ≡ 10 = sym (ap (λ (b : Bool). cond b (cond (not (same right stored)) 10 0) n) t) ∙ whole in
+    absurd (omega arith))

@@ -8,7 +8,7 @@ use lib.Dec.{eqb}
 use lib.ListN.{length}
 use borrow.Author.Tests.{eq-eqb, ne-eqb}
 use Rattle.fox_refusals.specs.Refusals.{Refusal, refusalOf, First}
-use Rattle.fox_refusals.specs.Reply.{Reply, Served, Refused, Same}
+use Rattle.fox_refusals.specs.Reply.{Reply, Verdict, Served, Refused, Same}
 use Rattle.fox_refusals.specs.Handed.{Handed, answer}
 use Rattle.fox_refusals.specs.declared.answer.Answer.{Answer}
 use Rattle.fox_refusals.proofs.Laws.Refusals.{first-given, given-first}
@@ -68,6 +68,14 @@ module _ {rs : List Refusal} {value before after : List ℕ} {r : Answer} (call 
   -- and a call that is refused with a number is refused with that of the first refusal that applies
   pub refused-first : (r .refusal ≡ 0 → ⊥) → First (r .refusal) rs
   refused-first isnt = given-first (r .refusal) rs (sym (call .refusal)) isnt
+
+-- a call that writes nothing returns a number other than 0 exactly when it is that of the first refusal that applies
+module _ {rs : List Refusal} {r : Answer} (call : Verdict rs r) where
+  pub verdict-by : {n : ℕ} → First n rs → r .refusal ≡ n
+  verdict-by f = call .refusal ∙ first-given f
+
+  pub verdict-first : (r .refusal ≡ 0 → ⊥) → First (r .refusal) rs
+  verdict-first isnt = given-first (r .refusal) rs (sym (call .refusal)) isnt
 
 -- two calls with the same refusals, the same value and outputs of one length, of any engines and whatever the outputs held
 pub same : {rs₁ rs₂ : List Refusal} {value before₁ before₂ after₁ after₂ : List ℕ} {r₁ r₂ : Answer} → rs₁ ≡ rs₂ → length before₁ ≡ length before₂

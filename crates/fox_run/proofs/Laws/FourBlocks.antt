@@ -11,7 +11,7 @@ use lib.ListN.{length, take, drop}
 use Rattle.fox_layers.specs.Words.{xorEach}
 use Rattle.fox_run.specs.Run.{streamed, xorFrom}
 use Rattle.fox_run.specs.Parts.{XoredTo}
-use Rattle.fox_run.proofs.Laws.XorEach.{length-xorEach-min, xorEach-append, xoredTo-after}
+use Rattle.fox_bytes.proofs.Laws.XorEach.{length-xorEach-min, xorEach-append, xoredTo-after}
 use Rattle.fox_run.proofs.Laws.Streams.{blocksFrom, whole-blocks}
 use Rattle.fox_run.proofs.Laws.Loop.{part-end}
 

@@ -21,7 +21,7 @@ use Rattle.fox_block.proofs.Laws.Block.{state-size, turned-size, length-bytes}
 use Rattle.fox_run.specs.Counter.{counterBlock}
 use Rattle.fox_run.specs.Run.{streamed, xorFrom, keyStream, runWith}
 use Rattle.fox_run.specs.States.{counted64, counted128, counted, sealed, stream}
-use Rattle.fox_run.proofs.Laws.XorEach.{length-xorEach-min, take-xorEach}
+use Rattle.fox_bytes.proofs.Laws.XorEach.{length-xorEach-min, take-xorEach}
 use Rattle.fox_run.proofs.Laws.XorFrom.{xorFrom-same}
 
 -- the bytes of a stream from its byte n on are those of a list, up to the end of the list

@@ -9,7 +9,7 @@ use lib.ListN.{length, take, drop, set, length-set}
 use lib.Seq.{take-all}
 use borrow.Author.Needs.{needs}
 use Rattle.fox_layers.specs.Words.{xorEach}
-use Rattle.fox_run.proofs.Laws.XorEach.{getD-xorEach, shorter-xorEach, written-next}
+use Rattle.fox_bytes.proofs.Laws.XorEach.{getD-xorEach, shorter-xorEach, written-next}
 use Rattle.fox_engine_run.proofs.key_stream.xor_bytes.Statement.{statement}
 use Rattle.fox_engine_run.proofs.key_stream.xor_bytes.Tie as tie
 

@@ -10,7 +10,7 @@ use lib.Seq.{take-all}
 use Rattle.fox_layers.specs.Words.{split, xorEach}
 use Rattle.fox_layers.proofs.Laws.Words.{length-split}
 use Rattle.fox_block.specs.Block.{bytes128}
-use Rattle.fox_run.proofs.Laws.XorEach.{length-xorEach-min, xorEach-append, xoredTo-after}
+use Rattle.fox_bytes.proofs.Laws.XorEach.{length-xorEach-min, xorEach-append, xoredTo-after}
 use borrow.Author.Needs.{needs}
 use Rattle.fox_engine_run.proofs.key_stream.xor_whole128.Statement.{statement}
 use Rattle.fox_engine_run.proofs.key_stream.xor_whole128.Tie as tie

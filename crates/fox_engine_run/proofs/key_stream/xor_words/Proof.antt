@@ -9,7 +9,7 @@ use borrow.Rule.Slice.PartMut.{midOf}
 use lib.ListN.{length, drop}
 use Rattle.fox_layers.specs.Words.{Bytes, split, xorEach}
 use Rattle.fox_layers.proofs.Laws.Words.{length-split}
-use Rattle.fox_run.proofs.Laws.XorEach.{length-xorEach-min, xorEach-append, word-xored, xoredTo-after}
+use Rattle.fox_bytes.proofs.Laws.XorEach.{length-xorEach-min, xorEach-append, word-xored, xoredTo-after}
 use borrow.Author.Needs.{needs}
 use Rattle.fox_engine_run.proofs.key_stream.xor_words.Statement.{statement}
 use Rattle.fox_engine_run.proofs.key_stream.xor_words.Tie as tie

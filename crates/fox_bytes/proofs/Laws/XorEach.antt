@@ -4,15 +4,15 @@ use mathlib.Core.Path.{_≡_, refl, sym, ap, ap₂, _∙_}
 use mathlib.Core.Logic.{_⊎_, inl, inr}
 use mathlib.Core.List.{List, [], _∷_, _++_, append-assoc}
 use Prim.Native.Nat.{ℕ, zero, suc, _+_, _-_, _≤_, _<_, min}
-use native.Mathlib.Nat.{not-suc-le-zero, le-of-suc-le-suc}
+use native.Mathlib.Nat.{add-zero, not-suc-le-zero, le-of-suc-le-suc}
 use native.Mathlib.Numerals.{add-one}
 use native.Mathlib.Omega.{arith}
 use borrow.Rule.Slice.PartMut.{midOf, putMid}
 use lib.ListN.{length, take, drop, getD, set, length-drop}
-use lib.Seq.{take-suc, drop-cons, set-at, length-take-le, append-snoc, take-all, take-at, drop-at, drop-drop}
+use lib.Seq.{take-suc, drop-cons, set-at, length-take-le, append-snoc, take-all, take-at, drop-at, drop-drop, getD-append-add, getD-drop}
 use Rattle.fox_layers.specs.Words.{_⊕_, joined, split, Bytes, xorEach}
 use Rattle.fox_layers.proofs.Laws.Words.{split-joined, split-xor, take-bytes, drop-bytes}
 use Rattle.fox_bytes.proofs.Laws.WordsInBytes.{put-end}
 
 pub length-xorEach-min : (xs ys : List ℕ) → length (xorEach xs ys) ≡ min (length xs) (length ys)
 unfolding xorEach
@@ -87,3 +87,13 @@ xoredTo-after a b xs ys os l p n e f =
     ∙ ap₂ (λ (m q : List ℕ). m ++ q) (ap (λ (m : List ℕ). take a m) e ∙ take-at xs (drop a os) a n)
     (f ∙ ap (λ (m : List ℕ). ys ++ m) (ap (λ (m : List ℕ). drop b m) mid ∙ drop-drop b a os))
     ∙ sym (append-assoc xs ys (drop (a + b) os))
+
+-- what is not written over yet is as it was
+pub written-not-yet : (s os now : List ℕ) (i : ℕ) → i ≤ length s → now ≡ take i s ++ drop i os → getD now i 0 ≡ getD os i 0
+written-not-yet s os now i h e =
+    let here : length (take i s) + 0 ≡ i = omega (arith, length-take-le i s h) in
+    ap (λ (l : List ℕ). getD l i 0) e
+    ∙ ap (λ (j : ℕ). getD (take i s ++ drop i os) j 0) (sym here)
+    ∙ getD-append-add (take i s) (drop i os) 0 0
+    ∙ getD-drop i os 0 0
+    ∙ ap (λ (j : ℕ). getD os j 0) (add-zero i)
