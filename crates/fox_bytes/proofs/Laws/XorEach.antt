@@ -4,12 +4,13 @@ use mathlib.Core.Path.{_≡_, refl, sym, ap, ap₂, _∙_}
 use mathlib.Core.Logic.{_⊎_, inl, inr}
 use mathlib.Core.List.{List, [], _∷_, _++_, append-assoc}
 use Prim.Native.Nat.{ℕ, zero, suc, _+_, _-_, _≤_, _<_, min}
-use native.Mathlib.Nat.{add-zero, not-suc-le-zero, le-of-suc-le-suc}
+use native.Mathlib.Nat.{not-suc-le-zero, le-of-suc-le-suc}
 use native.Mathlib.Numerals.{add-one}
 use native.Mathlib.Omega.{arith}
 use borrow.Rule.Slice.PartMut.{midOf, putMid}
-use lib.ListN.{length, take, drop, getD, set, length-drop}
-use lib.Seq.{take-suc, drop-cons, set-at, length-take-le, append-snoc, take-all, take-at, drop-at, drop-drop, getD-append-add, getD-drop}
+use lib.ListN.{length, take, drop, getD, set, length-drop, drop-of-length-le}
+use lib.Seq.{take-suc, drop-cons, set-at, length-take-le, append-snoc, take-all, take-at, drop-at, drop-drop}
+use lib.Seq.{getD-append-add, getD-drop, set-split}
 use Rattle.fox_layers.specs.Words.{_⊕_, joined, split, Bytes, xorEach}
 use Rattle.fox_layers.proofs.Laws.Words.{split-joined, split-xor, take-bytes, drop-bytes}
 use Rattle.fox_bytes.proofs.Laws.WordsInBytes.{put-end}
@@ -89,11 +90,18 @@ xoredTo-after a b xs ys os l p n e f =
     ∙ sym (append-assoc xs ys (drop (a + b) os))
 
 -- what is not written over yet is as it was
-pub written-not-yet : (s os now : List ℕ) (i : ℕ) → i ≤ length s → now ≡ take i s ++ drop i os → getD now i 0 ≡ getD os i 0
-written-not-yet s os now i h e =
-    let here : length (take i s) + 0 ≡ i = omega (arith, length-take-le i s h) in
-    ap (λ (l : List ℕ). getD l i 0) e
-    ∙ ap (λ (j : ℕ). getD (take i s ++ drop i os) j 0) (sym here)
-    ∙ getD-append-add (take i s) (drop i os) 0 0
-    ∙ getD-drop i os 0 0
-    ∙ ap (λ (j : ℕ). getD os j 0) (add-zero i)
+pub written-not-yet : (s os now : List ℕ) (i k : ℕ) → i ≤ length s → now ≡ take i s ++ drop i os → getD now (i + k) 0 ≡ getD os (i + k) 0
+written-not-yet s os now i k h e =
+    ap (λ (l : List ℕ). getD l (i + k) 0) e
+    ∙ ap (λ (j : ℕ). getD (take i s ++ drop i os) (j + k) 0) (sym (length-take-le i s h))
+    ∙ getD-append-add (take i s) (drop i os) k 0
+    ∙ getD-drop i os k 0
+
+-- the last place, written over with any number
+pub written-last : (s os now : List ℕ) (n v : ℕ) → length s ≡ suc n → length os ≡ suc n → now ≡ take n s ++ drop n os → set now n v ≡ set s n v
+written-last s os now n v es eo e =
+    let end : (l : List ℕ) → length l ≡ suc n → drop (suc n) l ≡ [] = λ l m. drop-of-length-le l {i = suc n} (omega arith) in
+    ap (λ (l : List ℕ). set l n v) (e ∙ ap (λ (l : List ℕ). take n s ++ l) (drop-cons os n 0 (omega arith)))
+    ∙ set-at (take n s) (getD os n 0) (drop (suc n) os) v n (length-take-le n s (omega arith))
+    ∙ ap (λ (l : List ℕ). take n s ++ v ∷ l) (end os eo ∙ sym (end s es))
+    ∙ sym (set-split s n v (omega arith))

@@ -1,0 +1,67 @@
+// Blocks of a message (SP 800-38B §6.1, §6.2): how many stand before the last, a block XORed with bytes, and the last one with its subkey. All of it works on
+// bytes in place and serves every block size.
+ghost use mathlib.Core.Path.{_≡_};
+ghost use mathlib.Core.List.{_++_};
+ghost use Prim.Native.Nat.{_*_, _≤_, _<_};
+ghost use lib.ListN.{length, drop};
+ghost use Rattle.fox_layers.specs.Words.{xorEach};
+ghost use Rattle.fox_tag.specs.Cmac.{reduction, doubled, before, keyedBlock};
+
+// How many blocks of a message stand before its last one, which may be empty.
+pub fn before(message: &[u8], size: usize) -> usize
+    requires { ⌜ 1 ≤ size ⌝ }
+    ensures { λ r. ⌜ r ≡ before size (now (message .entry)) ⌝ }
+{
+    if message.len() == 0 {
+        return 0;
+    }
+    (message.len() - 1) / size
+}
+
+// XORs bytes into the front of a block.
+pub fn xor_into(block: &mut [u8], part: &[u8])
+    requires { ⌜ length (now part) ≤ length (now block) ⌝ }
+    ensures { λ _. ⌜ now (block .exit)
+        ≡ xorEach (now (block .entry)) (now (part .entry)) ++ drop (length (now (part .entry))) (now (block .entry)) ⌝ }
+{
+    for i in 0..part.len() {
+        block[i] = block[i] ^ part[i];
+    }
+}
+
+// What doubling XORs into the last byte: 1B or 87 where the top bit is set, and nothing where it is not.
+fn reduced(size: usize, top: u8) -> u8
+    requires { ⌜ top < 2 ⌝ }
+    ensures { λ r. ⌜ r ≡ top * reduction size ⌝ }
+{
+    if size == 8 { top * 0x1B } else { top * 0x87 }
+}
+
+// Doubles a block: every byte moves left by one bit and takes the top bit of the next.
+fn double(block: &mut [u8])
+    requires { ⌜ 1 ≤ length (now block) ⌝ }
+    ensures { λ _. ⌜ now (block .exit) ≡ doubled (length (now (block .entry))) (now (block .entry)) ⌝ }
+{
+    let last = block.len() - 1;
+    let top = block[0] / 128;
+    for i in 0..last {
+        block[i] = (block[i] % 128) * 2 + block[i + 1] / 128;
+    }
+    block[last] = ((block[last] % 128) * 2) ^ reduced(block.len(), top);
+}
+
+// Makes the last block with its subkey of the sealed zero block, which the block holds when the call is made; `part` is what the last block has of the message.
+pub fn last_block(block: &mut [u8], part: &[u8])
+    requires { ⌜ (1 ≤ length (now block)) × (length (now part) ≤ length (now block)) ⌝ }
+    ensures { λ _. ⌜ now (block .exit) ≡ keyedBlock (length (now (block .entry))) (now (block .entry)) (now (part .entry)) ⌝ }
+{
+    double(block);
+    if part.len() == block.len() {
+        xor_into(block, part);
+        return;
+    }
+    double(block);
+    xor_into(block, part);
+    let end = part.len();
+    block[end] = block[end] ^ 0x80;
+}
