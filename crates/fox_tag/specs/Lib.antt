@@ -2,3 +2,4 @@
 pub mod Cmac
 pub mod Tag
 pub mod Promise
+pub mod States
