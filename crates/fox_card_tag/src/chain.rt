@@ -26,11 +26,10 @@ fn chain(cipher: u32, s: Schedule, rounds: u8, message: &[u8], n: usize) -> Stat
 {
     let size = block_size(cipher);
     let mut y = zero(cipher);
-    let mut at = 0;
-    for _i in 0..n {
+    for i in 0..n {
+        let at = i * size;
         let end = at + size;
         y = turned(true, s, rounds, xored(y, read(cipher, &message[at..end])));
-        at = end;
     }
     y
 }

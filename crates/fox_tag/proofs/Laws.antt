@@ -2,3 +2,5 @@
 pub mod Chain
 pub mod Doubling
 pub mod States
+pub mod ByStates
+pub mod Answers

@@ -1,11 +1,12 @@
 -- What a call on a tag promises, whole, for all inputs: making one, refusal number, count and every byte of the output; testing one, the refusal number, and
 -- count 0. Every engine's call cites it.
 -- Assumes nothing.
+use mathlib.Core.Path.{_≡_}
 use Prim.Native.Nat.{ℕ}
-use mathlib.Core.Bool.{true}
+use mathlib.Core.Bool.{true, cond}
 use mathlib.Core.List.{List}
 use lib.ListN.{length}
-use Rattle.fox_refusals.specs.Refusals.{forTag, forTagTest}
+use Rattle.fox_refusals.specs.Refusals.{same, forTag, forTagTest}
 use Rattle.fox_refusals.specs.Reply.{Reply, Verdict}
 use Rattle.fox_refusals.specs.declared.answer.Answer.{Answer}
 use Rattle.fox_key_schedule.specs.Schedule.{roundKeys}
@@ -27,3 +28,8 @@ MakesTag cipher rounds key = MakesTagWith cipher rounds (length key) (roundKeys 
 
 abbrev pub TestsTag : ℕ → ℕ → List ℕ → List ℕ → List ℕ → Answer → Type 0
 TestsTag cipher rounds key = TestsTagWith cipher rounds (length key) (roundKeys cipher rounds key)
+
+-- a stored tag compared with the right one: 0 where they are the same, else 10, and count 0
+pub record Compared (right stored : List ℕ) (r : Answer) : Type 0 where
+  pub refusal : r .refusal ≡ cond (same right stored) 0 10
+  pub count : r .count ≡ 0

@@ -97,7 +97,7 @@ pub sealed-block : (c : ℕ) (rks block : List ℕ) → BlockOf c (sealWith c rk
 unfolding turnWith
 sealed-block c rks block = record { size = length-turned true c rks block; bytes = bytes-bytes (turned true rks (state c block)) }
 
-zeros-bytes : (n : ℕ) → Bytes (replicate n 0)
+pub zeros-bytes : (n : ℕ) → Bytes (replicate n 0)
 zeros-bytes zero i = zero-lt-suc 255
 zeros-bytes (suc n) zero = zero-lt-suc 255
 zeros-bytes (suc n) (suc i) = zeros-bytes n i
