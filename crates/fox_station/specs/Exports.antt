@@ -1,16 +1,17 @@
 -- What the station's exports promise: the refusal number and every byte of the output, for all inputs. The count follows from the number.
 -- Assumes nothing.
 use mathlib.Core.Path.{_≡_}
-use mathlib.Core.Bool.{Bool, cond}
+use mathlib.Core.Bool.{Bool, true, cond}
 use mathlib.Core.List.{List}
 use Prim.Native.Nat.{ℕ}
 use lib.Dec.{eqb}
 use lib.ListN.{length}
-use Rattle.fox_refusals.specs.Refusals.{forBlock, forRun}
+use Rattle.fox_refusals.specs.Refusals.{refusalOf, forBlock, forRun, forTag, forTagTest}
 use Rattle.fox_refusals.specs.Handed.{Handed}
 use Rattle.fox_refusals.specs.declared.answer.Answer.{Answer}
 use Rattle.fox_block.specs.Block.{turnBlock}
 use Rattle.fox_run.specs.Run.{run}
+use Rattle.fox_tag.specs.Tag.{tag}
 
 -- one block sealed or opened, from cipher, rounds, key bytes and block, with the output before and after
 abbrev pub TurnHanded : Bool → ℕ → ℕ → List ℕ → List ℕ → List ℕ → List ℕ → ℕ → Type 0
@@ -22,6 +23,16 @@ abbrev pub RunHanded : ℕ → ℕ → List ℕ → List ℕ → ℕ → List �
 RunHanded cipher rounds key counter offset input before after r =
     Handed (forRun cipher rounds (length key) (length counter) offset (length input) (length before)) (run cipher rounds key counter offset input) before
     after r
+
+-- the tag of a message made, from cipher, rounds, key bytes and message, with the output before and after
+abbrev pub MakeTagHanded : ℕ → ℕ → List ℕ → List ℕ → List ℕ → List ℕ → ℕ → Type 0
+MakeTagHanded cipher rounds key message before after r =
+    Handed (forTag true cipher rounds (length key) (length message) (length before)) (tag cipher rounds key message) before after r
+
+-- a stored tag tested, from cipher, rounds, key bytes, message and the stored tag; nothing is written
+abbrev pub TestTagHanded : ℕ → ℕ → List ℕ → List ℕ → List ℕ → ℕ → Type 0
+TestTagHanded cipher rounds key message stored r =
+    r ≡ refusalOf (forTagTest cipher rounds (length key) (length message) (tag cipher rounds key message) stored)
 
 -- a call on a stretch as a call with an answer: the number that is returned, and the count that follows from it
 pub record RunExport (cipher rounds : ℕ) (key counter : List ℕ) (offset : ℕ) (input before after : List ℕ) (r : Answer) : Type 0 where
