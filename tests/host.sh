@@ -8,7 +8,7 @@ mkdir -p "$OUT" target/log
 # The second implementation; what programs stand on that do not call the library; what those do that call it, and those
 # that see besides where a call faults, and what lies beside its buffers.
 c=tests/common s=tests/second
-second="$s/second.c $s/schedule.c $s/rounds.c $s/matrix.c $s/box.c $s/field.c"
+second="$s/second.c $s/cmac.c $s/schedule.c $s/rounds.c $s/matrix.c $s/box.c $s/field.c"
 helpers="$c/chance.c $c/hex.c $c/tally.c"
 engines="$c/call.c $c/engines.c $c/hex.c $c/tally.c"
 guarded="$engines $c/answers.c $c/chance.c $c/faults.c $c/laid.c"

@@ -1,25 +1,33 @@
-/* One block and a stretch of a run, with 01's refusals before them. */
+/* One block, a stretch of a run, and a tag, with the refusals of 01 and 02 before them. */
 #include "second.h"
+#include "cmac.h"
 #include "parts.h"
 
 #include <string.h>
 
-enum { MOST_DATA = 65536, RUN_END = 1073741824 };
+enum { MOST_DATA = 65536, RUN_END = 1073741824, MOST_MESSAGE = 1073741824 };
 
 static size_t block_size(uint32_t cipher)
 {
     return cipher / 8;
 }
 
-/* Refusals 1 to 4, which a block and a run have in common. */
-static uint32_t early_refusal(uint32_t cipher, uint32_t rounds, size_t key_len, size_t block_len)
+/* Refusals 1 to 3, which all calls have in common. */
+static uint32_t key_refusal(uint32_t cipher, uint32_t rounds, size_t key_len)
 {
     if (cipher != 64 && cipher != 128)
         return 1;
     if (rounds < 12 || rounds > MOST_ROUNDS)
         return 2;
-    if (key_len > MOST_KEY)
-        return 3;
+    return key_len > MOST_KEY ? 3 : 0;
+}
+
+/* Refusals 1 to 4, which a block and a run have in common. */
+static uint32_t early_refusal(uint32_t cipher, uint32_t rounds, size_t key_len, size_t block_len)
+{
+    uint32_t refusal = key_refusal(cipher, rounds, key_len);
+    if (refusal != 0)
+        return refusal;
     return block_len != block_size(cipher) ? 4 : 0;
 }
 
@@ -84,4 +92,55 @@ uint32_t second_run(uint32_t cipher, uint32_t rounds, const uint8_t *key, size_t
         out[i] = data[i] ^ stream[place % counter_len];
     }
     return 0;
+}
+
+/* `other_length` is what a tag of another length than the block's is refused with. */
+static uint32_t tag_refusal(uint32_t cipher, uint32_t rounds, size_t key_len, size_t message_len, size_t tag_len,
+                            uint32_t other_length)
+{
+    uint32_t refusal = key_refusal(cipher, rounds, key_len);
+    if (refusal != 0)
+        return refusal;
+    if (message_len > MOST_MESSAGE)
+        return 5;
+    return tag_len != block_size(cipher) ? other_length : 0;
+}
+
+struct round_keys {
+    uint8_t keys[MOST_ROUNDS * MOST_BLOCK];
+    size_t block, rounds;
+};
+
+static void seal(const void *context, uint8_t *x)
+{
+    const struct round_keys *k = context;
+    second_seal_rounds(x, k->block, k->keys, k->rounds);
+}
+
+static void right_tag(uint8_t *tag, uint32_t cipher, uint32_t rounds, const uint8_t *key, size_t key_len,
+                      const uint8_t *message, size_t message_len)
+{
+    struct round_keys k = {.block = block_size(cipher), .rounds = rounds};
+    second_round_keys(k.keys, k.block, rounds, key, key_len);
+    second_cmac(tag, k.block, seal, &k, message, message_len);
+}
+
+uint32_t second_make_tag(uint32_t cipher, uint32_t rounds, const uint8_t *key, size_t key_len, const uint8_t *message,
+                         size_t message_len, uint8_t *tag, size_t tag_len)
+{
+    uint32_t refusal = tag_refusal(cipher, rounds, key_len, message_len, tag_len, 6);
+    if (refusal == 0)
+        right_tag(tag, cipher, rounds, key, key_len, message, message_len);
+    return refusal;
+}
+
+uint32_t second_test_tag(uint32_t cipher, uint32_t rounds, const uint8_t *key, size_t key_len, const uint8_t *message,
+                         size_t message_len, const uint8_t *tag, size_t tag_len)
+{
+    uint8_t right[MOST_BLOCK];
+    uint32_t refusal = tag_refusal(cipher, rounds, key_len, message_len, tag_len, 9);
+    if (refusal != 0)
+        return refusal;
+    right_tag(right, cipher, rounds, key, key_len, message, message_len);
+    return memcmp(tag, right, tag_len) != 0 ? 10 : 0;
 }

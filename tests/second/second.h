@@ -1,6 +1,6 @@
-/* The second implementation of FOX64 and FOX128: written from 001 and 01 alone, on arrays of bytes, to be compared with
- * the proved library. Both calls answer with the first refusal of 01's table that applies, or with 0; `out` is written
- * only where the answer is 0. */
+/* The second implementation of FOX64 and FOX128: written from 001, 01, 02 and SP 800-38B alone, on arrays of bytes, to
+ * be compared with the proved library. Each call answers with the first refusal that applies, or with 0; `out` and the
+ * tag that is made are written only where the answer is 0. */
 #ifndef SECOND_H
 #define SECOND_H
 
@@ -15,5 +15,11 @@ uint32_t second_block(int opening, uint32_t cipher, uint32_t rounds, const uint8
 uint32_t second_run(uint32_t cipher, uint32_t rounds, const uint8_t *key, size_t key_len, const uint8_t *counter,
                     size_t counter_len, uint64_t offset, const uint8_t *data, size_t data_len,
                     uint8_t *out, size_t out_len);
+
+/* A tag over a message, made, or a stored one tested. */
+uint32_t second_make_tag(uint32_t cipher, uint32_t rounds, const uint8_t *key, size_t key_len, const uint8_t *message,
+                         size_t message_len, uint8_t *tag, size_t tag_len);
+uint32_t second_test_tag(uint32_t cipher, uint32_t rounds, const uint8_t *key, size_t key_len, const uint8_t *message,
+                         size_t message_len, const uint8_t *tag, size_t tag_len);
 
 #endif
