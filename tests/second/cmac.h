@@ -9,7 +9,7 @@
 /* Seals the block in place, under the key that `context` stands for. */
 typedef void seal_function(const void *context, uint8_t *x);
 
-/* §5.3: a block as one big-endian number, times 2 in the field of as many bits. */
+/* §6.1, steps 2 and 3: the block as one big-endian number is doubled, and 1B or 87 added where its top bit leaves. */
 void second_double(uint8_t *x, size_t block);
 
 /* §6.1 */

@@ -1,5 +1,6 @@
-/* The second implementation by itself: 001's vectors, 01's known values and sheet, and the rows of two files.
- * Usage: vectors BLOCKS RUNS. Last line: 'N passed, M failed', where each group of cases counts as one. */
+/* The second implementation by itself: 001's vectors, 01's known values and sheet, tags, and the rows of three files.
+ * Usage: vectors BLOCKS RUNS TAGS. Last line: 'N passed, M failed', where each group of cases counts as one. */
+#include "check.h"
 #include "count.h"
 #include "hex.h"
 #include "parts.h"
@@ -7,30 +8,11 @@
 #include "sheet.h"
 #include "tally.h"
 
-#include <errno.h>
-#include <inttypes.h>
 #include <stdio.h>
 #include <stdlib.h>
 #include <string.h>
 
-enum { MOST_ROW = 2048, RUN_END = 1073741824 };
-
-static void same_bytes(const uint8_t *found, const uint8_t *expected, size_t len, const char *what)
-{
-    if (case_wrong(memcmp(found, expected, len) == 0)) {
-        printf("%s: found ", what);
-        hex_print(found, len);
-        printf(", expected ");
-        hex_print(expected, len);
-        printf("\n");
-    }
-}
-
-static void same_number(uint32_t found, uint32_t expected, const char *what)
-{
-    if (case_wrong(found == expected))
-        printf("%s: found %" PRIu32 ", expected %" PRIu32 "\n", what, found, expected);
-}
+enum { RUN_END = 1073741824 };
 
 /* A block in hex is sealed, and what comes of it opened. */
 static void both_ways_round(uint32_t cipher, uint32_t rounds, const char *key_text, const char *plain_text,
@@ -231,25 +213,6 @@ static void sheets(void)
     group_end();
 }
 
-/* Cuts a row at its commas, in place; answers with the number of its fields. */
-static size_t cut_row(char *row, char **fields, size_t room)
-{
-    size_t count = 0;
-    row[strcspn(row, "\r\n")] = '\0';
-    for (char *at = row; at != NULL && count < room; count++) {
-        fields[count] = at;
-        at = strchr(at, ',');
-        if (at != NULL)
-            *at++ = '\0';
-    }
-    return count;
-}
-
-static uint32_t number(const char *text)
-{
-    return (uint32_t)strtoul(text, NULL, 10);
-}
-
 static void block_row(char **fields)
 {
     both_ways_round(number(fields[0]), number(fields[1]), fields[2], fields[3], fields[4]);
@@ -269,40 +232,10 @@ static void run_row(char **fields)
     same_bytes(out, data, len, "opened run");
 }
 
-/* The first row names the fields. Answers with the number of rows after it. */
-static uint32_t all_rows(FILE *file, size_t width, void (*check_row)(char **fields))
-{
-    char row[MOST_ROW], *fields[8];
-    uint32_t count = 0;
-    for (int named = 0; fgets(row, sizeof row, file) != NULL; named = 1) {
-        size_t found = cut_row(row, fields, COUNT(fields));
-        same_number((uint32_t)found, (uint32_t)width, "fields of a row");
-        if (named && found == width) {
-            check_row(fields);
-            count++;
-        }
-    }
-    return count;
-}
-
-/* `expected` is the number of rows, so that a file cut short is noticed. */
-static void rows(const char *path, size_t width, uint32_t expected, void (*check_row)(char **fields))
-{
-    FILE *file = fopen(path, "r");
-    group_begin("%s", path);
-    if (file != NULL) {
-        same_number(all_rows(file, width, check_row), expected, "rows");
-        fclose(file);
-    } else if (case_wrong(0)) {
-        printf("%s\n", strerror(errno));
-    }
-    group_end();
-}
-
 int main(int count, char **words)
 {
-    if (count != 3) {
-        fprintf(stderr, "usage: vectors BLOCKS RUNS\n");
+    if (count != 4) {
+        fprintf(stderr, "usage: vectors BLOCKS RUNS TAGS\n");
         return 2;
     }
     tally_begin("second");
@@ -316,5 +249,6 @@ int main(int count, char **words)
     sheets();
     rows(words[1], 5, 252, block_row);
     rows(words[2], 7, 112, run_row);
+    check_tags(words[3]);
     return tally_end();
 }
