@@ -12,7 +12,7 @@ void check_answer(const struct engine *engine, enum verb verb, const struct call
     uint32_t answer = make_caught(engine, verb, c);
     if (!case_wrong(answer == right))
         return;
-    printf("%s %s, cipher %" PRIu32 ", rounds %" PRIu32 ", key of %zu, message of %zu, stored tag of %zu, room of %zu: ",
+    printf("%s %s, cipher %" PRIu32 ", rounds %" PRIu32 ", key of %zu, message of %zu, tag of %zu, room of %zu bytes: ",
            engine->name, verbs[verb].name, c->cipher, c->rounds, c->key_len, c->data_len, c->first_len, c->out_len);
     if (answer == FAULTED)
         printf("faulted at %p, and is to answer %" PRIu32 "\n", (const void *)fault_place(), right);
