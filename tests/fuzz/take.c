@@ -135,15 +135,16 @@ static void take_data(const struct input *in, uint8_t *data, size_t len)
         data[i] = in->left == 0 ? (uint8_t)(i * 29) : (uint8_t)(in->at[i % in->left] + i / in->left);
 }
 
-/* The message's own tag by the second implementation most often, or that with one bit changed; the others stay as they
- * were taken. */
+/* The message's own tag by the second implementation most often, or that with one bit changed, in every other case of
+ * its last byte; the rest stay as they were taken. */
 static void take_stored(struct choice c, const struct call *test, uint8_t *stored)
 {
     struct call make = *test;
     make.out = stored;
     make.out_len = block_of(test->cipher);
-    if (c.kind < ODDER && second_answer(MAKE_TAG, &make) == FOX_SERVED && c.kind >= 128)
-        stored[c.number / 8 % make.out_len] ^= (uint8_t)(1 << c.number % 8);
+    if (c.kind >= ODDER || second_answer(MAKE_TAG, &make) != FOX_SERVED || c.kind < 96)
+        return;
+    stored[c.kind % 2 == 0 ? make.out_len - 1 : c.number / 8 % make.out_len] ^= (uint8_t)(1 << c.number % 8);
 }
 
 size_t data_behind(const struct call *c)
