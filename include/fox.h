@@ -11,8 +11,8 @@
  *   counter block  CTR's initial counter block; the run's later blocks take the counter blocks after it
  *   key stream     the encrypted counter blocks, one after the other, with which the run is XORed
  *   message        the bytes that a tag is made over, such as the sealed bytes of a run
- *   tag            the CMAC of a message (NIST SP 800-38B), as long as the block; it shows that the message
- *                  was changed
+ *   tag            the CMAC of a message (NIST SP 800-38B), as long as the block, by which whoever has the key
+ *                  sees whether the message was changed
  *   engine         an implementation: card, with little memory, and server, with much
  *   prepared key   the expanded key, which is all round keys; the server engine makes it in each call
  *   refusal        an error number from 1 on; 0 is success
@@ -62,7 +62,7 @@
  *
  * Left out: protection against timing measurement. Both engines branch on secret bytes or use them as table
  * indices. Nor does opening detect a wrong key or sealed bytes that were changed: it then gives other bytes.
- * A tag over the sealed bytes tells, where one was made and is tested before they are opened. */
+ * That sealed bytes were changed, a tag over them tells, where one was made and is tested before opening. */
 #ifndef FOX_H
 #define FOX_H
 
