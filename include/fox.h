@@ -11,8 +11,8 @@
  *   counter block  CTR's initial counter block; the run's later blocks take the counter blocks after it
  *   key stream     the encrypted counter blocks, one after the other, with which the run is XORed
  *   message        the bytes that a tag is made over, such as the sealed bytes of a run
- *   tag            the CMAC of a message (NIST SP 800-38B), as long as the block, by which whoever has the key
- *                  sees whether the message was changed
+ *   tag            the CMAC of a message (NIST SP 800-38B), as long as the block: whoever has the key sees by
+ *                  it whether the message was changed
  *   engine         an implementation: card, with little memory, and server, with much
  *   prepared key   the expanded key, which is all round keys; the server engine makes it in each call
  *   refusal        an error number from 1 on; 0 is success
@@ -143,9 +143,9 @@ uint32_t fox_server_run(uint32_t cipher, uint32_t rounds, const uint8_t *key, si
  * two begin to differ.
  *
  * To tag a run, make the tag over all of its sealed bytes, store it beside them, and test it before opening
- * any of them. It covers these bytes alone: another cipher, other rounds, another counter block or another
- * file's name goes unseen unless these stand in the message as well. Give tags a key of their own: under one
- * key, sealed counter blocks, which whoever knows a run's plain bytes has, can be of use in forging a tag.
+ * any of them. It covers these bytes alone: a change of the cipher, rounds or counter block to open with, or
+ * of the file's name, goes unseen unless these stand in the message as well. Give tags a key of their own:
+ * under one key, sealed counter blocks, which whoever knows a run's plain bytes has, can help to forge a tag.
  *
  * cipher, rounds, key, key_len  as for a block
  * message, message_len          0 to 1,073,741,824 bytes, the whole message in one call; of a longer one no
