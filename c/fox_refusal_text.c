@@ -2,20 +2,22 @@
 #include "fox.h"
 
 static const char *const texts[] = {
-    [FOX_SERVED] = "Served: the whole output was written.",
+    [FOX_SERVED] = "Served: the whole output was written, or the tag that was tested is right.",
     [FOX_REFUSED_CIPHER] = "The cipher is neither 64 nor 128: give 64 for FOX64 or 128 for FOX128.",
     [FOX_REFUSED_ROUNDS] = "The rounds are below 12 or above 255: give 12 to 255, and as many to open as to seal.",
     [FOX_REFUSED_KEY] = "The key is longer than 32 bytes: give 0 to 32 bytes, which are 0 to 64 hex digits.",
     [FOX_REFUSED_BLOCK] = "The block or counter block is of the wrong size: give 8 bytes for FOX64, 16 bytes for FOX128.",
-    [FOX_REFUSED_DATA] = "The data of one call is longer than 65,536 bytes: cut it into more calls, each at its own offset.",
-    [FOX_REFUSED_OUTPUT] = "The output is not as long as the input: give both the same length.",
+    [FOX_REFUSED_DATA] = "A call's data is above 65,536 bytes, or its message above 1,073,741,824: cut a run into more calls.",
+    [FOX_REFUSED_OUTPUT] = "The output is of the wrong size: give that of the input, and for a tag 8 (FOX64) or 16 (FOX128) bytes.",
     [FOX_REFUSED_END] = "The stretch ends beyond the longest run: offset plus length is to be at most 1,073,741,824.",
     [FOX_REFUSED_SHEET] = "The bench sheet is malformed: mend the line that the answer names, 6 being text after the fifth.",
+    [FOX_REFUSED_TAG_LENGTH] = "The stored tag is of the wrong size: give 8 bytes for FOX64, 16 bytes for FOX128.",
+    [FOX_REFUSED_TAG] = "The stored tag differs: message, tag, key, cipher or rounds are not those of the tag that was made.",
 };
 
 const char *fox_refusal_text(uint32_t number)
 {
     if (number < sizeof texts / sizeof *texts && texts[number] != NULL)
         return texts[number];
-    return "This number means nothing: a call answers 0 to 7, and the bench program 8 as well.";
+    return "This number means nothing: a call answers 0 to 7, 9 or 10, and the bench program 8 as well.";
 }

@@ -31,7 +31,7 @@ part() { # WHAT sheet|calls
                 "$second $engines $c/answers.c $c/chance.c"
             ;;
         wrapped-sheet) echo fox_probe_sheet ;;
-        wrapped-calls) echo fox_card_open_block fox_server_run ;;
+        wrapped-calls) echo fox_card_open_block fox_server_run fox_server_make_tag fox_card_test_tag ;;
         words-sheet) echo "-dict=$t/sheet.dict -max_len=400" ;;
         words-calls) echo "-max_len=256 -len_control=0 -entropic_scale_per_exec_time=1" ;;
     esac
@@ -91,13 +91,13 @@ seed_sheet() { # FOLDER: right sheets of all kinds
 }
 
 # The choices that tests/fuzz/take.h lists, each of a kind and of four bytes that these leave aside.
-seed_calls() { # FOLDER: a served call of each verb, undone by each engine, and runs of the most data
+seed_calls() { # FOLDER: a served call of each verb, taken back by each engine, and long runs and messages
     n='\000\000\000\000' verbs=$(grep -c "^uint32_t fox_$(engine_names | head -n 1)_" include/fox.h)
     for which in $(seq 0 $((verbs * $(engine_names | wc -l) - 1))); do
         first="\\$(printf %03o "$which")$n"
         for choices in 0.021 1.021 0.370 1.370; do
             cipher="\\00${choices%.*}$n" data="\\${choices#*.}$n"
-            printf "$first$cipher\\004$n\\020$n\\000$n$data\\000$n\\000$n\\000$n%s" \
+            printf "$first$cipher\\004$n\\020$n\\000$n$data\\000$n\\000$n\\000$n\\000$n%s" \
                 0123456789abcdefghijklmnopqrstuvwxyzABCDEF >"$1/$which.$choices"
         done
     done

@@ -5,5 +5,5 @@ set -u
 cd "$(dirname "$0")/.." || exit 2
 . tests/host.sh
 made run libfox.a
-built run run tests/run/*.c $guarded "$OUT/libfox.a"
+built run run tests/run/*.c $c/rows.c $guarded "$OUT/libfox.a"
 run_host "./$OUT/run" tests/vectors/run.csv "$@"

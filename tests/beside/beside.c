@@ -37,9 +37,10 @@ static const char *wrong_answer(enum verb verb, const struct call *c, const stru
     int at_end = (int)below(2);
     struct call theirs = *c;
     theirs.out = answer;
+    theirs.out_len = verbs[verb].out == NULL ? 0 : c->out_len;
     uint32_t right = second_answer(verb, &theirs);
     count_answer(right);
-    theirs.out = right == 0 ? other_than(answer, c->out_len) : paint();
+    theirs.out = right == 0 ? other_than(answer, theirs.out_len) : paint();
     for (size_t i = 0; wrong == NULL && i < ENGINES; i++) {
         *engine = &engines[i];
         wrong = laid_wrong(*engine, verb, &theirs, at_end, right, right == 0 ? answer : theirs.out);
@@ -69,4 +70,9 @@ void try_block(const struct call *c)
 void try_run(const struct call *c)
 {
     try((const enum verb[]){RUN}, 1, c);
+}
+
+void try_tag(const struct call *c)
+{
+    try((const enum verb[]){MAKE_TAG, TEST_TAG}, 2, c);
 }

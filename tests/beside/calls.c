@@ -1,5 +1,6 @@
 /* Calls by chance, right ones and damaged ones. */
 #include "calls.h"
+#include "beside.h"
 #include "chance.h"
 #include "count.h"
 #include "fox.h"
@@ -8,9 +9,14 @@
 
 struct given given;
 
+uint32_t cipher_by(size_t number)
+{
+    return number % 2 == 0 ? FOX64 : FOX128;
+}
+
 uint32_t some_cipher(void)
 {
-    return below(2) == 0 ? FOX64 : FOX128;
+    return cipher_by(below(2));
 }
 
 const uint32_t wrong_ciphers[WRONG_CIPHERS] = {
@@ -68,6 +74,22 @@ struct call right_run(uint32_t cipher, size_t data_len, uint64_t offset)
     fill(given.data, data_len <= FOX_MOST_DATA ? data_len : SHORT_ROOM);
     c.offset = offset;
     c.data_len = c.out_len = data_len;
+    return c;
+}
+
+void store_tag(const struct call *c)
+{
+    struct call make = *c;
+    make.out = given.first;
+    second_answer(MAKE_TAG, &make);
+}
+
+struct call right_tag(uint32_t cipher, size_t message_len)
+{
+    struct call c = right_block(cipher);
+    fill(given.data, message_len);
+    c.data_len = message_len;
+    store_tag(&c);
     return c;
 }
 
@@ -139,6 +161,23 @@ void damage_run(struct call *c)
         break;
     case 3:
         exchange(&c->data_len, below(2) == 0 ? &c->first_len : &c->key_len);
+        break;
+    default:
+        damage_block(c);
+    }
+}
+
+void damage_tag(struct call *c)
+{
+    switch (below(8)) {
+    case 0:
+        c->data_len = one_off(c->data_len);
+        break;
+    case 1:
+        exchange(&c->data_len, below(2) == 0 ? &c->first_len : &c->key_len);
+        break;
+    case 2:
+        given.first[below(block_of(c->cipher))] ^= (uint8_t)(1 << below(8));
         break;
     default:
         damage_block(c);

@@ -15,11 +15,6 @@
 #include <stdio.h>
 #include <string.h>
 
-static uint32_t cipher_by(size_t number)
-{
-    return number % 2 == 0 ? FOX64 : FOX128;
-}
-
 static void keys(void)
 {
     group_begin("blocks: keys of 0 to 33 bytes");
@@ -73,6 +68,7 @@ static void ciphers(void)
         try_run(&c);
         c.out_len = c.first_len;
         try_block(&c);
+        try_tag(&c);
     }
     for (int i = 0; i < 2000; i++) {
         struct call c = right_block(some_cipher());
@@ -217,8 +213,10 @@ static void changed_bits(void)
 /* What was compared so far had every answer of a call among it. */
 static void every_answer(void)
 {
-    static const uint32_t answers[] = {FOX_SERVED,        FOX_REFUSED_CIPHER, FOX_REFUSED_ROUNDS, FOX_REFUSED_KEY,
-                                       FOX_REFUSED_BLOCK, FOX_REFUSED_DATA,   FOX_REFUSED_OUTPUT, FOX_REFUSED_END};
+    static const uint32_t answers[] = {
+        FOX_SERVED,       FOX_REFUSED_CIPHER, FOX_REFUSED_ROUNDS, FOX_REFUSED_KEY,        FOX_REFUSED_BLOCK,
+        FOX_REFUSED_DATA, FOX_REFUSED_OUTPUT, FOX_REFUSED_END,    FOX_REFUSED_TAG_LENGTH, FOX_REFUSED_TAG,
+    };
     group_begin("every answer was tried");
     for (size_t i = 0; i < COUNT(answers); i++)
         if (case_wrong(times_answered(answers[i]) > 0))
@@ -229,8 +227,8 @@ static void every_answer(void)
 int main(int count, char **words)
 {
     static void (*const groups[])(void) = {
-        keys,           rounds,       block_lengths, ciphers,      runs,   counters,      long_runs,
-        damaged_blocks, damaged_runs, mixtures,      changed_bits, across, large_lengths, every_answer,
+        keys,         rounds,   block_lengths, ciphers, runs,   counters,      long_runs,    damaged_blocks,
+        damaged_runs, mixtures, changed_bits,  tags,    across, large_lengths, every_answer,
     };
     if (count > 2) {
         fprintf(stderr, "usage: compare [SEED]\n");

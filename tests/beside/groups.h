@@ -2,10 +2,13 @@
 #ifndef BESIDE_GROUPS_H
 #define BESIDE_GROUPS_H
 
-/* Lengths of 4 GiB and more. */
+/* Tags, made and tested. */
+void tags(void);
+
+/* Lengths above a message's limit, and of 4 GiB and more. */
 void large_lengths(void);
 
-/* What one engine seals another one opens. */
+/* What one engine seals another one opens, and a tag that one makes another one tests. */
 void across(void);
 
 #endif

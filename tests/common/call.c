@@ -1,4 +1,4 @@
-/* What the verbs are, and a call shown. */
+/* What the verbs are, how they go together, and a call shown. */
 #include "call.h"
 #include "fox.h"
 #include "hex.h"
@@ -9,14 +9,49 @@
 enum { SHOWN = 160 };
 
 const struct verb_kind verbs[VERBS] = {
-    [SEAL] = {"seal_block", 0, OPEN},
-    [OPEN] = {"open_block", 0, SEAL},
-    [RUN] = {"run", 1, RUN},
+    [SEAL] = {"seal_block", "block", NULL, "output", 0, OPEN},
+    [OPEN] = {"open_block", "block", NULL, "output", 0, SEAL},
+    [RUN] = {"run", "counter", "data", "output", 1, RUN},
+    [MAKE_TAG] = {"make_tag", NULL, "message", "tag", 0, TEST_TAG},
+    [TEST_TAG] = {"test_tag", "stored tag", "message", NULL, 0, NO_VERB},
 };
 
 size_t block_of(uint32_t cipher)
 {
     return cipher == FOX64 ? FOX64_BLOCK : FOX128_BLOCK;
+}
+
+size_t right_out_len(enum verb verb, const struct call *c)
+{
+    switch (verb) {
+    case RUN:
+        return c->data_len;
+    case MAKE_TAG:
+        return block_of(c->cipher);
+    case TEST_TAG:
+        return 0;
+    default:
+        return c->first_len;
+    }
+}
+
+struct call back_call(enum verb verb, const struct call *c, uint8_t *out)
+{
+    struct call back = *c;
+    if (verb == RUN) {
+        back.data = c->out;
+    } else {
+        back.first = c->out;
+        back.first_len = c->out_len;
+    }
+    back.out = out;
+    back.out_len = right_out_len(verbs[verb].back, &back);
+    return back;
+}
+
+const uint8_t *went_in(enum verb verb, const struct call *c)
+{
+    return verb == RUN ? c->data : c->first;
 }
 
 static void show_buffer(const char *name, const uint8_t *bytes, size_t len)
@@ -28,12 +63,15 @@ static void show_buffer(const char *name, const uint8_t *bytes, size_t len)
 
 void show_call(enum verb verb, const struct call *c)
 {
+    const struct verb_kind *kind = &verbs[verb];
     printf("cipher %" PRIu32 ", rounds %" PRIu32, c->cipher, c->rounds);
     show_buffer("key", c->key, c->key_len);
-    show_buffer(verbs[verb].over_data ? "counter" : "block", c->first, c->first_len);
-    if (verbs[verb].over_data) {
+    if (kind->first != NULL)
+        show_buffer(kind->first, c->first, c->first_len);
+    if (kind->at_offset)
         printf(", offset %" PRIu64, c->offset);
-        show_buffer("data", c->data, c->data_len);
-    }
-    printf(", output of %zu bytes", c->out_len);
+    if (kind->data != NULL)
+        show_buffer(kind->data, c->data, c->data_len);
+    if (kind->out != NULL)
+        printf(", %s of %zu bytes", kind->out, c->out_len);
 }

@@ -4,19 +4,20 @@
 
 #include "engines.h"
 
-enum verb { SEAL, OPEN, RUN, VERBS };
+enum verb { SEAL, OPEN, RUN, MAKE_TAG, TEST_TAG, VERBS, NO_VERB };
 
-/* `name` is that of fox.h, as in fox_card_NAME. With `over_data` the call takes an offset and data. What a call has put
- * out goes into `undone_by`, which puts out what went in. */
+/* `name` is that of fox.h, as in fox_card_NAME. `first`, `data` and `out` say what the buffers of that name in a call
+ * are, and are NULL for those that the verb has no use for. What a call has put out goes into a call of the verb
+ * `back`, which is NO_VERB where nothing is put out. */
 struct verb_kind {
-    const char *name;
-    int over_data;
-    enum verb undone_by;
+    const char *name, *first, *data, *out;
+    int at_offset;
+    enum verb back;
 };
 
 extern const struct verb_kind verbs[VERBS];
 
-/* `first` is the block, or a run's counter block. */
+/* A verb looks only at what it has a use for. */
 struct call {
     uint32_t cipher, rounds;
     const uint8_t *key;
@@ -37,12 +38,27 @@ static inline uint32_t make_call(const struct engine *engine, enum verb verb, co
     if (verb == RUN)
         return engine->run(c->cipher, c->rounds, c->key, c->key_len, c->first, c->first_len, c->offset, c->data,
                            c->data_len, c->out, c->out_len);
+    if (verb == MAKE_TAG)
+        return engine->make_tag(c->cipher, c->rounds, c->key, c->key_len, c->data, c->data_len, c->out, c->out_len);
+    if (verb == TEST_TAG)
+        return engine->test_tag(c->cipher, c->rounds, c->key, c->key_len, c->data, c->data_len, c->first,
+                                c->first_len);
     block_call *made = verb == OPEN ? engine->open : engine->seal;
     return made(c->cipher, c->rounds, c->key, c->key_len, c->first, c->first_len, c->out, c->out_len);
 }
 
 /* The bytes of the cipher's block. */
 size_t block_of(uint32_t cipher);
+
+/* The length of the output with which such a call is served; 0 where nothing is put out. */
+size_t right_out_len(enum verb verb, const struct call *c);
+
+/* The call that takes what `c` has put out, and puts its own output at `out`. It is served; a block or a run then comes
+ * back as it went in, and of a tag, which is tested, nothing comes out. */
+struct call back_call(enum verb verb, const struct call *c, uint8_t *out);
+
+/* What went in, which is what comes back: as many bytes as back_call puts out. */
+const uint8_t *went_in(enum verb verb, const struct call *c);
 
 /* Prints the call, so that it can be made again, but for all after the first bytes of a long buffer. */
 void show_call(enum verb verb, const struct call *c);

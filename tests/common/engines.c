@@ -2,8 +2,9 @@
 #include "engines.h"
 #include "fox.h"
 
-#define ENGINE(name, stack, work) \
-    {#name, fox_##name##_seal_block, fox_##name##_open_block, fox_##name##_run, stack, work},
+#define ENGINE(name, stack, work)                                                     \
+    {#name, fox_##name##_seal_block, fox_##name##_open_block, fox_##name##_run,       \
+     fox_##name##_make_tag, fox_##name##_test_tag, stack, work},
 const struct engine engines[ENGINES] = {
 #include "engines.def"
 };

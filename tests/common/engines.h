@@ -10,12 +10,18 @@ typedef uint32_t block_call(uint32_t cipher, uint32_t rounds, const uint8_t *key
 typedef uint32_t run_call(uint32_t cipher, uint32_t rounds, const uint8_t *key, size_t key_len, const uint8_t *counter,
                           size_t counter_len, uint64_t offset, const uint8_t *data, size_t data_len,
                           uint8_t *out, size_t out_len);
+typedef uint32_t make_tag_call(uint32_t cipher, uint32_t rounds, const uint8_t *key, size_t key_len,
+                               const uint8_t *message, size_t message_len, uint8_t *tag, size_t tag_len);
+typedef uint32_t test_tag_call(uint32_t cipher, uint32_t rounds, const uint8_t *key, size_t key_len,
+                               const uint8_t *message, size_t message_len, const uint8_t *tag, size_t tag_len);
 
 /* `stack` and `work` are what engines.def says of them. */
 struct engine {
     const char *name;
     block_call *seal, *open;
     run_call *run;
+    make_tag_call *make_tag;
+    test_tag_call *test_tag;
     size_t stack, work;
 };
 

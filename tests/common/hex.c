@@ -22,6 +22,12 @@ size_t hex_read(const char *text, uint8_t *bytes, size_t room)
     return len;
 }
 
+int hex_read_all(const char *text, uint8_t *bytes, size_t room, size_t *len)
+{
+    *len = hex_read(text, bytes, room);
+    return strlen(text) == 2 * *len;
+}
+
 void hex_print(const uint8_t *bytes, size_t len)
 {
     for (size_t i = 0; i < len; i++)

@@ -9,6 +9,9 @@
  * their number. */
 size_t hex_read(const char *text, uint8_t *bytes, size_t room);
 
+/* Whether `text` is nothing but pairs, and no more of them than there is room for; their number is put at `len`. */
+int hex_read_all(const char *text, uint8_t *bytes, size_t room, size_t *len);
+
 void hex_print(const uint8_t *bytes, size_t len);
 
 #endif

@@ -13,7 +13,7 @@
 enum { GUARD = 65536, EDGE = 64, ROOM = MOST_LAID + GUARD, PAINT = 0xA5 };
 enum { KEY, FIRST, DATA, OUTPUT, BUFFERS };
 
-static const char *const names[BUFFERS] = {"key", "block or counter", "data", "output"};
+static const char *const names[BUFFERS] = {"key", "block, counter or stored tag", "data or message", "output or tag"};
 static uint8_t *rooms[BUFFERS];
 
 static void make_rooms(void)

@@ -1,5 +1,5 @@
 /* A fuzzer's input as one call of the library: the answer of every engine beside that of the second implementation, the
- * refusal and every byte, and that what is served is undone again by one of them. Stops the program where anything
+ * refusal and every byte, and that what is served is taken back by one of them. Stops the program where anything
  * differs. */
 #include "answers.h"
 #include "beside.h"
@@ -20,7 +20,7 @@ int LLVMFuzzerTestOneInput(const uint8_t *bytes, size_t len);
 static struct lent lend(const struct call *c)
 {
     return (struct lent){exact_copy(c->key, c->key_len), exact_copy(c->first, c->first_len),
-                         exact_copy(c->data, c->data_len), exact_room(c->out_len)};
+                         exact_copy(c->data, data_behind(c)), exact_room(c->out_len)};
 }
 
 static void take_back(struct lent *l)
@@ -36,7 +36,7 @@ static const char *difference(const struct call *c, const struct lent *l, const 
     if (!exact_holds(&l->out, expected, count))
         return count == 0 ? "has written though it refused" : "has written another byte, or left one out";
     if (!exact_holds(&l->key, c->key, c->key_len) || !exact_holds(&l->first, c->first, c->first_len) ||
-        !exact_holds(&l->data, c->data, c->data_len))
+        !exact_holds(&l->data, c->data, data_behind(c)))
         return "has changed what was lent for reading";
     return NULL;
 }
@@ -62,16 +62,11 @@ static void hold(const struct engine *engine, enum verb verb, const struct call 
     take_back(&l);
 }
 
-/* What came out goes into the call that undoes it, and what went in is to come out. */
-static void hold_undone(const struct job *job, const uint8_t *out)
+/* What came out goes into the call that takes it back, and what went in is to come out. */
+static void hold_back(const struct job *job)
 {
-    struct call back = job->call;
-    if (verbs[job->verb].over_data)
-        back.data = out;
-    else
-        back.first = out;
-    hold(job->undoes, verbs[job->verb].undone_by, &back, 0,
-         verbs[job->verb].over_data ? job->call.data : job->call.first);
+    struct call back = back_call(job->verb, &job->call, NULL);
+    hold(job->back, verbs[job->verb].back, &back, 0, went_in(job->verb, &job->call));
 }
 
 int LLVMFuzzerTestOneInput(const uint8_t *bytes, size_t len)
@@ -83,7 +78,7 @@ int LLVMFuzzerTestOneInput(const uint8_t *bytes, size_t len)
     count_answer(right);
     for (size_t i = 0; i < ENGINES; i++)
         hold(&engines[i], job.verb, &job.call, right, expected);
-    if (right == 0)
-        hold_undone(&job, expected);
+    if (right == 0 && verbs[job.verb].back != NO_VERB)
+        hold_back(&job);
     return 0;
 }

@@ -1,6 +1,7 @@
 /* A fuzzer's input taken apart into a call. A choice of a kind below USUAL makes an argument that is served, and one
  * above it an odd one. */
 #include "take.h"
+#include "beside.h"
 #include "fox.h"
 
 enum { USUAL = 240, ODDER = 248, MANY_ROUNDS = 32 };
@@ -94,6 +95,16 @@ static size_t data_len_of(struct choice c, uint32_t rounds)
     return FOX_MOST_DATA + 1 + c.number % 4;
 }
 
+/* As for data, but for the longest ones; above the limit at its edge, and at that of 64 bits. */
+static size_t message_len_of(struct choice c, uint32_t rounds)
+{
+    if (c.kind < ODDER)
+        return data_len_of(c, rounds);
+    if (c.kind < ODDER + 2 && rounds < MANY_ROUNDS)
+        return FOX_MOST_DATA + 2 - c.number % 4;
+    return c.kind % 2 == 0 ? (size_t)FOX_MOST_MESSAGE + 1 + c.number % 4 : SIZE_MAX - c.number;
+}
+
 /* The edges are the run's end, and those of 32 and 64 bits, from where a sum with the length would wrap. */
 static uint64_t offset_of(struct choice low, struct choice high, size_t data_len)
 {
@@ -124,6 +135,23 @@ static void take_data(const struct input *in, uint8_t *data, size_t len)
         data[i] = in->left == 0 ? (uint8_t)(i * 29) : (uint8_t)(in->at[i % in->left] + i / in->left);
 }
 
+/* The message's own tag by the second implementation most often, or that with one bit changed, in every other case of
+ * its last byte; the rest stay as they were taken. */
+static void take_stored(struct choice c, const struct call *test, uint8_t *stored)
+{
+    struct call make = *test;
+    make.out = stored;
+    make.out_len = block_of(test->cipher);
+    if (c.kind >= ODDER || second_answer(MAKE_TAG, &make) != FOX_SERVED || c.kind < 96)
+        return;
+    stored[c.kind % 2 == 0 ? make.out_len - 1 : c.number / 8 % make.out_len] ^= (uint8_t)(1 << c.number % 8);
+}
+
+size_t data_behind(const struct call *c)
+{
+    return c->data_len <= LONG_ROOM ? c->data_len : 0;
+}
+
 struct job take_job(const uint8_t *bytes, size_t len)
 {
     static uint8_t key[SHORT_ROOM], first[SHORT_ROOM], data[LONG_ROOM];
@@ -133,20 +161,25 @@ struct job take_job(const uint8_t *bytes, size_t len)
         made[i] = take_choice(&in);
     struct job job = {.verb = (enum verb)(made[WHICH].kind % VERBS)};
     struct call *c = &job.call;
+    const struct verb_kind *kind = &verbs[job.verb];
     c->key = key, c->first = first, c->data = data;
-    int over_data = verbs[job.verb].over_data;
-    job.undoes = &engines[made[WHICH].kind / VERBS % ENGINES];
+    job.back = &engines[made[WHICH].kind / VERBS % ENGINES];
     c->cipher = cipher_of(made[CIPHER]);
     c->rounds = rounds_of(made[ROUNDS]);
     c->key_len = key_len_of(made[KEY_LEN]);
-    c->first_len = first_len_of(made[FIRST_LEN], c->cipher);
-    if (over_data) {
-        c->data_len = data_len_of(made[DATA_LEN], c->rounds);
+    if (kind->first != NULL)
+        c->first_len = first_len_of(made[FIRST_LEN], c->cipher);
+    if (kind->data != NULL)
+        c->data_len = job.verb == RUN ? data_len_of(made[DATA_LEN], c->rounds)
+                                      : message_len_of(made[DATA_LEN], c->rounds);
+    if (kind->at_offset)
         c->offset = offset_of(made[OFFSET], made[OFFSET_HIGH], c->data_len);
-    }
-    c->out_len = out_len_of(made[OUT_LEN], over_data ? c->data_len : c->first_len);
+    if (kind->out != NULL)
+        c->out_len = out_len_of(made[OUT_LEN], right_out_len(job.verb, c));
     take_bytes(&in, key, c->key_len);
     take_bytes(&in, first, c->first_len);
-    take_data(&in, data, c->data_len);
+    take_data(&in, data, data_behind(c));
+    if (job.verb == TEST_TAG)
+        take_stored(made[STORED], c, first);
     return job;
 }

@@ -1,4 +1,4 @@
-/* Stands before two of the station's exports, by the linker's --wrap, and puts the one fault named by FAULT into
+/* Stands before some of the station's exports, by the linker's --wrap, and puts the one fault named by FAULT into
  * them, so that one sees whether the fuzzer finds it. */
 #include "fox.h"
 
@@ -13,7 +13,9 @@ enum {
     CIPHER_CUT,
     MOST_ROUNDS_WRONG,
     REFUSED_WRITES,
-    KEY_READ_AFTER
+    KEY_READ_AFTER,
+    MESSAGE_CUT,
+    LAST_BYTE_UNTESTED
 };
 
 uint32_t __real_fox_server_run(uint32_t cipher, uint32_t rounds, const uint8_t *key, size_t key_len,
@@ -26,6 +28,14 @@ uint32_t __real_fox_card_open_block(uint32_t cipher, uint32_t rounds, const uint
                                     const uint8_t *block, size_t block_len, uint8_t *out, size_t out_len);
 uint32_t __wrap_fox_card_open_block(uint32_t cipher, uint32_t rounds, const uint8_t *key, size_t key_len,
                                     const uint8_t *block, size_t block_len, uint8_t *out, size_t out_len);
+uint32_t __real_fox_server_make_tag(uint32_t cipher, uint32_t rounds, const uint8_t *key, size_t key_len,
+                                    const uint8_t *message, size_t message_len, uint8_t *tag, size_t tag_len);
+uint32_t __wrap_fox_server_make_tag(uint32_t cipher, uint32_t rounds, const uint8_t *key, size_t key_len,
+                                    const uint8_t *message, size_t message_len, uint8_t *tag, size_t tag_len);
+uint32_t __real_fox_card_test_tag(uint32_t cipher, uint32_t rounds, const uint8_t *key, size_t key_len,
+                                  const uint8_t *message, size_t message_len, const uint8_t *tag, size_t tag_len);
+uint32_t __wrap_fox_card_test_tag(uint32_t cipher, uint32_t rounds, const uint8_t *key, size_t key_len,
+                                  const uint8_t *message, size_t message_len, const uint8_t *tag, size_t tag_len);
 
 /* Whether the counting bytes of the counter wrap before the last byte of a run. */
 static int wraps(const uint8_t *counter, size_t counter_len, uint64_t last)
@@ -73,4 +83,23 @@ uint32_t __wrap_fox_card_open_block(uint32_t cipher, uint32_t rounds, const uint
     if (FAULT == KEY_READ_AFTER && answer == FOX_SERVED && key[key_len] == 0x77)
         out[0] = 0;
     return answer;
+}
+
+uint32_t __wrap_fox_server_make_tag(uint32_t cipher, uint32_t rounds, const uint8_t *key, size_t key_len,
+                                    const uint8_t *message, size_t message_len, uint8_t *tag, size_t tag_len)
+{
+    int cut = FAULT == MESSAGE_CUT && message_len <= FOX_MOST_MESSAGE;
+    return __real_fox_server_make_tag(cipher, rounds, key, key_len, message, cut ? message_len & 0xFFFF : message_len,
+                                      tag, tag_len);
+}
+
+uint32_t __wrap_fox_card_test_tag(uint32_t cipher, uint32_t rounds, const uint8_t *key, size_t key_len,
+                                  const uint8_t *message, size_t message_len, const uint8_t *tag, size_t tag_len)
+{
+    uint8_t right[FOX128_BLOCK];
+    uint32_t answer = __real_fox_card_test_tag(cipher, rounds, key, key_len, message, message_len, tag, tag_len);
+    if (FAULT != LAST_BYTE_UNTESTED || answer != FOX_REFUSED_TAG)
+        return answer;
+    fox_card_make_tag(cipher, rounds, key, key_len, message, message_len, right, tag_len);
+    return memcmp(right, tag, tag_len - 1) == 0 ? FOX_SERVED : answer;
 }

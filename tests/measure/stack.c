@@ -12,8 +12,9 @@
 
 enum { PAINTED = 1 << 17, PAINT = 0x77 };
 
-/* Part of a block, whole blocks, and part of a block. */
-enum { OFFSET = 3, LENGTH = 150 };
+/* Part of a block, whole blocks, and part of a block; a message of WHOLE bytes ends with a whole block of either
+ * cipher. */
+enum { OFFSET = 3, LENGTH = 150, WHOLE = 144 };
 
 static _Alignas(64) uint8_t painted[PAINTED];
 static uint8_t key[FOX_MOST_KEY], first[FOX128_BLOCK], data[LENGTH], out[LENGTH];
@@ -45,19 +46,35 @@ static size_t written(void)
     return sizeof painted - i;
 }
 
-/* The most over both ciphers and keys of either schedule, whole and padded; PAINTED where a call was refused. */
+/* The tag that is tested is one that the engine makes itself. */
+static void store_tag(void)
+{
+    struct call make = call;
+    make.out = first;
+    make.out_len = right_out_len(MAKE_TAG, &call);
+    make_call(engine, MAKE_TAG, &make);
+}
+
+/* PAINTED where the call was refused. */
+static size_t written_by(uint32_t cipher, size_t key_len, size_t data_len)
+{
+    call = (struct call){cipher, FOX_MOST_ROUNDS, key, key_len, first, block_of(cipher), OFFSET, data, data_len,
+                         out, 0};
+    call.out_len = right_out_len(verb, &call);
+    if (verb == TEST_TAG)
+        store_tag();
+    size_t used = written();
+    return answer == FOX_SERVED ? used : PAINTED;
+}
+
+/* The most over both ciphers, keys of either schedule, whole and padded, and data that is none, whole and not. */
 static size_t most_written(void)
 {
-    static const size_t lengths[] = {0, 15, 16, 17, FOX_MOST_KEY};
+    static const size_t key_lens[] = {0, 15, 16, 17, FOX_MOST_KEY}, data_lens[] = {0, WHOLE, LENGTH};
     size_t most = 0;
     for (uint32_t cipher = FOX64; cipher <= FOX128; cipher += FOX64)
-        for (size_t i = 0; i < COUNT(lengths); i++) {
-            size_t block = block_of(cipher), out_len = verbs[verb].over_data ? LENGTH : block;
-            call = (struct call){cipher, FOX_MOST_ROUNDS, key, lengths[i], first, block, OFFSET, data, LENGTH,
-                                 out, out_len};
-            size_t used = written();
-            if (answer != FOX_SERVED)
-                return PAINTED;
+        for (size_t i = 0; i < COUNT(key_lens) * COUNT(data_lens); i++) {
+            size_t used = written_by(cipher, key_lens[i / COUNT(data_lens)], data_lens[i % COUNT(data_lens)]);
             most = used > most ? used : most;
         }
     return most;

@@ -1,9 +1,10 @@
-/* Makes every call that fox.h declares for an engine: two of the specification's vectors, a refusal of each number
- * that the call gives, and the limits at which it still serves. Usage: calls, or calls names, which prints the calls'
- * names. */
+/* Makes every call that fox.h declares for an engine: two of the specification's vectors, or rows of tags, a refusal of
+ * each number that the call gives, and the limits at which it still serves. Usage: calls, or calls names, which prints
+ * the calls' names. */
 #include "call.h"
 #include "count.h"
 #include "fox.h"
+#include "hex.h"
 #include "tally.h"
 
 #include <stdio.h>
@@ -16,6 +17,16 @@ static const uint8_t block[32] = {0x01, 0x23, 0x45, 0x67, 0x89, 0xAB, 0xCD, 0xEF
 static const uint8_t sealed64[] = {0xB8, 0x5D, 0x6B, 0x76, 0x6D, 0xCE, 0x95, 0x2E};
 static const uint8_t sealed128[] = {0x84, 0x9E, 0x0F, 0x06, 0x82, 0xF5, 0x0C, 0xD5,
                                     0x88, 0xAE, 0x07, 0x30, 0x06, 0xA1, 0x0B, 0xEE};
+static const struct tagged {
+    uint32_t cipher;
+    const char *key, *message, *tag;
+} tagged[] = {
+    {FOX64, "5F4C28FD51ACAE46BAECBB5916D904B8", "", "BBDD26DB66E0A7BC"},
+    {FOX64, "3E700616F5284E9D5AED932C4CF550FF", "4CF0539E1DA8D44D", "91D02F4C7302892F"},
+    {FOX128, "7EB3F964CA436E801FB1E603942E57C8", "", "E2C3C856F6521065E686E7CE66CA7BE5"},
+    {FOX128, "A695DF641BF33A4385FA8BEDFC10304D", "5539EA2E26B2242F4A319763E04B8F92",
+     "631813D5EA756ED3475E6C2E1230C780"},
+};
 static const uint8_t zeros[FOX_MOST_DATA + 1];
 static uint8_t out[FOX_MOST_DATA + 1];
 
@@ -44,7 +55,7 @@ static uint32_t made(struct one one, const struct call *c)
 }
 
 /* A run over zeros is the sealed counter itself, so its first block is a vector too, and so is every part of it. */
-static void vectors(struct one one, uint32_t cipher)
+static void sealed_vector(struct one one, uint32_t cipher)
 {
     size_t size = block_of(cipher);
     struct call c = call_of(cipher, 16, 16, size, 0, size, size);
@@ -53,32 +64,82 @@ static void vectors(struct one one, uint32_t cipher)
     memset(out, 0x77, sizeof out);
     hold(made(one, &c) == FOX_SERVED, "the vector is refused");
     hold(memcmp(out, answer, c.out_len) == 0 && out[c.out_len] == 0x77, "the vector comes out wrong");
-    if (!verbs[one.verb].over_data)
+    if (one.verb != RUN)
         return;
     c.offset = 5, c.data_len = c.out_len = 3;
     hold(made(one, &c) == FOX_SERVED, "bytes 5 to 7 are refused");
     hold(memcmp(out, sealed + 5, 3) == 0, "bytes 5 to 7 come out wrong");
 }
 
+static void tag_made(struct one one, const struct call *c, const uint8_t *tag)
+{
+    memset(out, 0x77, sizeof out);
+    hold(made(one, c) == FOX_SERVED, "a row is refused");
+    hold(memcmp(out, tag, c->out_len) == 0 && out[c->out_len] == 0x77, "a row's tag comes out wrong");
+}
+
+static void tag_tested(struct one one, struct call c, const uint8_t *tag)
+{
+    uint8_t other[FOX128_BLOCK];
+    memcpy(other, tag, c.first_len);
+    other[c.first_len - 1] ^= 1;
+    c.first = tag;
+    hold(made(one, &c) == FOX_SERVED, "a row's tag is refused");
+    c.first = other;
+    hold(made(one, &c) == FOX_REFUSED_TAG, "another tag than a row's is served");
+}
+
+static void tag_row(struct one one, const struct tagged *row)
+{
+    uint8_t row_key[FOX_MOST_KEY], message[FOX128_BLOCK], tag[FOX128_BLOCK];
+    size_t size = block_of(row->cipher);
+    struct call c = call_of(row->cipher, 16, hex_read(row->key, row_key, sizeof row_key), size, 0,
+                            hex_read(row->message, message, sizeof message), size);
+    hex_read(row->tag, tag, sizeof tag);
+    c.key = row_key, c.data = message;
+    if (one.verb == MAKE_TAG)
+        tag_made(one, &c, tag);
+    else
+        tag_tested(one, c, tag);
+}
+
+static void vectors(struct one one)
+{
+    if (one.verb == MAKE_TAG || one.verb == TEST_TAG) {
+        for (size_t i = 0; i < COUNT(tagged); i++)
+            tag_row(one, &tagged[i]);
+    } else {
+        sealed_vector(one, FOX64);
+        sealed_vector(one, FOX128);
+    }
+}
+
+/* Of the message that is too long no byte is read. The stored tag is a block that is not the zeros' tag. */
 static void refusals(struct one one)
 {
+    enum { RUNS = 1 << RUN, SEALS = 1 << SEAL | 1 << OPEN | RUNS, MAKES = 1 << MAKE_TAG, TESTS = 1 << TEST_TAG };
+    enum { ALL = SEALS | MAKES | TESTS };
     const struct {
         uint32_t number;
-        int over_data;
+        unsigned given_by;
         struct call c;
     } spoilt[] = {
-        {FOX_REFUSED_CIPHER, 0, call_of(FOX64 + 1, 16, 16, 8, 0, 8, 8)},
-        {FOX_REFUSED_ROUNDS, 0, call_of(FOX64, FOX_LEAST_ROUNDS - 1, 16, 8, 0, 8, 8)},
-        {FOX_REFUSED_ROUNDS, 0, call_of(FOX64, FOX_MOST_ROUNDS + 1, 16, 8, 0, 8, 8)},
-        {FOX_REFUSED_KEY, 0, call_of(FOX64, 16, FOX_MOST_KEY + 1, 8, 0, 8, 8)},
-        {FOX_REFUSED_BLOCK, 0, call_of(FOX64, 16, 16, FOX128_BLOCK, 0, 8, 8)},
-        {FOX_REFUSED_BLOCK, 0, call_of(FOX128, 16, 16, FOX64_BLOCK, 0, 8, 8)},
-        {FOX_REFUSED_DATA, 1, call_of(FOX64, 16, 16, 8, 0, FOX_MOST_DATA + 1, FOX_MOST_DATA + 1)},
-        {FOX_REFUSED_OUTPUT, 0, call_of(FOX64, 16, 16, 8, 0, 8, 9)},
-        {FOX_REFUSED_END, 1, call_of(FOX64, 16, 16, 8, FOX_RUN_END - 7, 8, 8)},
+        {FOX_REFUSED_CIPHER, ALL, call_of(FOX64 + 1, 16, 16, 8, 0, 8, 8)},
+        {FOX_REFUSED_ROUNDS, ALL, call_of(FOX64, FOX_LEAST_ROUNDS - 1, 16, 8, 0, 8, 8)},
+        {FOX_REFUSED_ROUNDS, ALL, call_of(FOX64, FOX_MOST_ROUNDS + 1, 16, 8, 0, 8, 8)},
+        {FOX_REFUSED_KEY, ALL, call_of(FOX64, 16, FOX_MOST_KEY + 1, 8, 0, 8, 8)},
+        {FOX_REFUSED_BLOCK, SEALS, call_of(FOX64, 16, 16, FOX128_BLOCK, 0, 8, 8)},
+        {FOX_REFUSED_BLOCK, SEALS, call_of(FOX128, 16, 16, FOX64_BLOCK, 0, 8, 8)},
+        {FOX_REFUSED_DATA, RUNS, call_of(FOX64, 16, 16, 8, 0, FOX_MOST_DATA + 1, FOX_MOST_DATA + 1)},
+        {FOX_REFUSED_DATA, MAKES | TESTS, call_of(FOX64, 16, 16, 8, 0, (size_t)FOX_MOST_MESSAGE + 1, 8)},
+        {FOX_REFUSED_OUTPUT, SEALS | MAKES, call_of(FOX64, 16, 16, 8, 0, 8, 9)},
+        {FOX_REFUSED_END, RUNS, call_of(FOX64, 16, 16, 8, FOX_RUN_END - 7, 8, 8)},
+        {FOX_REFUSED_TAG_LENGTH, TESTS, call_of(FOX64, 16, 16, FOX128_BLOCK, 0, 8, 8)},
+        {FOX_REFUSED_TAG_LENGTH, TESTS, call_of(FOX128, 16, 16, FOX64_BLOCK, 0, 8, 8)},
+        {FOX_REFUSED_TAG, TESTS, call_of(FOX64, 16, 16, 8, 0, 8, 8)},
     };
     for (size_t i = 0; i < COUNT(spoilt); i++)
-        if (verbs[one.verb].over_data || !spoilt[i].over_data) {
+        if ((spoilt[i].given_by >> one.verb & 1) != 0) {
             memset(out, 0x77, sizeof out);
             uint32_t answer = made(one, &spoilt[i].c);
             int same = out[0] == 0x77 && memcmp(out, out + 1, sizeof out - 1) == 0;
@@ -87,25 +148,34 @@ static void refusals(struct one one)
         }
 }
 
+/* The tag that is tested is one that the engine makes itself. */
+static void within(struct one one, struct call c)
+{
+    uint8_t stored[FOX128_BLOCK];
+    struct call make = c;
+    make.out = stored, make.out_len = block_of(c.cipher);
+    if (one.verb == TEST_TAG) {
+        hold(made((struct one){one.engine, MAKE_TAG}, &make) == FOX_SERVED, "no tag to test");
+        c.first = stored;
+    }
+    c.out_len = right_out_len(one.verb, &c);
+    hold(made(one, &c) == FOX_SERVED, "refused within the limits");
+}
+
 static void limits(struct one one)
 {
-    const struct call within[] = {
-        call_of(FOX64, FOX_LEAST_ROUNDS, 0, FOX64_BLOCK, FOX_RUN_END - 8, 8, 8),
-        call_of(FOX64, FOX_MOST_ROUNDS, FOX_MOST_KEY, FOX64_BLOCK, 0, 8, 8),
-        call_of(FOX128, FOX_LEAST_ROUNDS, FOX_MOST_KEY, FOX128_BLOCK, 0, 16, 16),
-        call_of(FOX64, FOX_LEAST_ROUNDS, 16, FOX64_BLOCK, 0, FOX_MOST_DATA, FOX_MOST_DATA),
-        call_of(FOX128, FOX_LEAST_ROUNDS, 16, FOX128_BLOCK, FOX_RUN_END, 0, 0),
-    };
-    for (size_t i = 0; i < (verbs[one.verb].over_data ? COUNT(within) : 3); i++)
-        hold(made(one, &within[i]) == FOX_SERVED, "refused within the limits");
+    within(one, call_of(FOX64, FOX_LEAST_ROUNDS, 0, FOX64_BLOCK, FOX_RUN_END - 8, 8, 0));
+    within(one, call_of(FOX64, FOX_MOST_ROUNDS, FOX_MOST_KEY, FOX64_BLOCK, 0, 8, 0));
+    within(one, call_of(FOX128, FOX_LEAST_ROUNDS, FOX_MOST_KEY, FOX128_BLOCK, 0, 16, 0));
+    within(one, call_of(FOX64, FOX_LEAST_ROUNDS, 16, FOX64_BLOCK, 0, FOX_MOST_DATA, 0));
+    within(one, call_of(FOX128, FOX_LEAST_ROUNDS, 16, FOX128_BLOCK, FOX_RUN_END, 0, 0));
 }
 
 /* A group of its own. */
 static void try(struct one one)
 {
     group_begin("fox_%s_%s", one.engine->name, verbs[one.verb].name);
-    vectors(one, FOX64);
-    vectors(one, FOX128);
+    vectors(one);
     refusals(one);
     limits(one);
     group_end();

@@ -30,17 +30,28 @@ static void set(struct caller *c, int number)
     memset(c->data, number, sizeof c->data);
 }
 
-/* Every call of the engine, each into an output of its own; answers with 0 where one was refused. */
+/* The call, and the one that takes back what it has put out. */
+static int there_and_back(const struct caller *c, const struct engine *engine, enum verb verb, uint8_t *out)
+{
+    uint8_t again[LENGTH];
+    struct call call = {c->cipher, c->rounds, c->key, c->key_len, c->first, block_of(c->cipher), c->offset, c->data,
+                        LENGTH, out, 0};
+    call.out_len = right_out_len(verb, &call);
+    struct call taking = back_call(verb, &call, again);
+    return make_call(engine, verb, &call) == FOX_SERVED &&
+           make_call(engine, verbs[verb].back, &taking) == FOX_SERVED &&
+           memcmp(again, went_in(verb, &call), taking.out_len) == 0;
+}
+
+/* Every call of the engine, each into an output of its own; answers with 0 where one was refused, or what it has put
+ * out does not come back. */
 static int called(const struct caller *c, const struct engine *engine, uint8_t out[VERBS][LENGTH])
 {
-    int served = 1;
-    for (enum verb verb = 0; verb < VERBS; verb++) {
-        size_t block = block_of(c->cipher), len = verbs[verb].over_data ? LENGTH : block;
-        struct call call = {c->cipher, c->rounds, c->key, c->key_len, c->first, block, c->offset, c->data, LENGTH,
-                            out[verb], len};
-        served = served && make_call(engine, verb, &call) == FOX_SERVED;
-    }
-    return served;
+    int right = 1;
+    for (enum verb verb = 0; verb < VERBS; verb++)
+        if (verbs[verb].back != NO_VERB)
+            right = right && there_and_back(c, engine, verb, out[verb]);
+    return right;
 }
 
 static int again(const struct caller *c, const struct engine *engine)
@@ -76,7 +87,7 @@ int main(void)
     for (int i = 0; i < THREADS; i++) {
         set(&callers[i], i);
         if (!prepared(&callers[i]))
-            return puts("alone, two engines differ, or one refuses"), 1;
+            return puts("alone, two engines differ, or one refuses or does not take back what it has put out"), 1;
     }
     for (int i = 0; i < THREADS; i++)
         if (pthread_create(&threads[i], NULL, call_often, &callers[i]) != 0)
