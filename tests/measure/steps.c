@@ -1,4 +1,4 @@
-/* Counts the instructions that one more block takes by the server, alone and in a run, by running a child one
+/* Counts the instructions that one more block takes by the server, alone, in a run and in a tag, by running a child one
  * instruction at a time, where the system lets it be stepped through. */
 #define _GNU_SOURCE
 #include "count.h"
@@ -19,11 +19,14 @@ uint32_t fox_probe_again128(const uint64_t *keys, uint32_t blocks, uint32_t a, u
 enum { INSTRUCTIONS_64 = 1500, INSTRUCTIONS_128 = 3000 };
 #ifdef __aarch64__
 enum { RUN_INSTRUCTIONS_64 = 740, RUN_INSTRUCTIONS_128 = 1600 };
+enum { TAG_INSTRUCTIONS_64 = 750, TAG_INSTRUCTIONS_128 = 1520 };
 #else
 enum { RUN_INSTRUCTIONS_64 = 720, RUN_INSTRUCTIONS_128 = 1440 };
+enum { TAG_INSTRUCTIONS_64 = 690, TAG_INSTRUCTIONS_128 = 1550 };
 #endif
 
-/* What a child is stepped through: a block sealed so many times over lent keys, and so many bytes of a run. */
+/* What a child is stepped through: a block sealed so many times over lent keys, and so many bytes of a run or of a
+ * message. */
 
 typedef uint32_t work(uint32_t bits, uint32_t amount);
 
@@ -39,12 +42,17 @@ static uint32_t nothing(uint32_t bits, uint32_t amount)
     return bits + amount;
 }
 
-enum { SHORT_RUN = 256, LONG_RUN = 768 };
-static uint8_t run_key[FOX_MOST_KEY], run_counter[FOX128_BLOCK], run_input[LONG_RUN], run_out[LONG_RUN];
+enum { SHORT = 256, LONG = 768 };
+static uint8_t key[FOX_MOST_KEY], counter[FOX128_BLOCK], input[LONG], out[LONG];
 
 static uint32_t server_run(uint32_t bits, uint32_t bytes)
 {
-    return fox_server_run(bits, 16, run_key, 16, run_counter, bits / 8, 0, run_input, bytes, run_out, bytes);
+    return fox_server_run(bits, 16, key, 16, counter, bits / 8, 0, input, bytes, out, bytes);
+}
+
+static uint32_t server_tag(uint32_t bits, uint32_t bytes)
+{
+    return fox_server_make_tag(bits, 16, key, 16, input, bytes, out, bits / 8);
 }
 
 /* The instructions of a child that does the job; -1 where a child cannot be stepped through. */
@@ -83,33 +91,35 @@ static void of_block(uint32_t bits, long limit)
     held("alone", bits, two - one > three - two ? two - one : three - two, limit);
 }
 
-/* The longer of two runs less the shorter: preparing the key and all that a call does once cancel out, and what each
- * four blocks do stays, so a table or a key that they copied would show. A call that is refused does neither, so it
- * is seen to be served first. */
-static void of_run(uint32_t bits, long limit)
+/* The longer of two runs, or messages, less the shorter: preparing the key and all that a call does once cancel out,
+ * and what each block or each four of them do stays, so a table or a key that they copied would show. A call that is
+ * refused does neither, so it is seen to be served first. */
+static void of_bytes(work *job, const char *where, uint32_t bits, long limit)
 {
-    if (server_run(bits, SHORT_RUN) != FOX_SERVED || server_run(bits, LONG_RUN) != FOX_SERVED) {
-        figure(0, "a run of FOX%u was refused", (unsigned)bits);
+    if (job(bits, SHORT) != FOX_SERVED || job(bits, LONG) != FOX_SERVED) {
+        figure(0, "a call on FOX%u blocks %s was refused", (unsigned)bits, where);
         return;
     }
-    long less = steps(server_run, bits, SHORT_RUN), more = steps(server_run, bits, LONG_RUN);
-    long blocks = (LONG_RUN - SHORT_RUN) / (bits / 8);
-    held("in the server's run", bits, (more - less + blocks - 1) / blocks, limit);
+    long less = steps(job, bits, SHORT), more = steps(job, bits, LONG);
+    long blocks = (LONG - SHORT) / (bits / 8);
+    held(where, bits, (more - less + blocks - 1) / blocks, limit);
 }
 
 void instructions(void)
 {
     for (size_t i = 0; i < COUNT(keys); i++)
         keys[i] = 0x9E3779B97F4A7C15u * (i + 1);
-    memset(run_key, 0x5A, sizeof run_key);
-    memset(run_counter, 0xA5, sizeof run_counter);
-    memset(run_input, 0xC3, sizeof run_input);
+    memset(key, 0x5A, sizeof key);
+    memset(counter, 0xA5, sizeof counter);
+    memset(input, 0xC3, sizeof input);
     if (steps(nothing, 0, 0) <= 0) {
         printf("measure: left out: instructions of a block, since a child cannot be stepped through here\n");
         return;
     }
     of_block(FOX64, INSTRUCTIONS_64);
     of_block(FOX128, INSTRUCTIONS_128);
-    of_run(FOX64, RUN_INSTRUCTIONS_64);
-    of_run(FOX128, RUN_INSTRUCTIONS_128);
+    of_bytes(server_run, "in the server's run", FOX64, RUN_INSTRUCTIONS_64);
+    of_bytes(server_run, "in the server's run", FOX128, RUN_INSTRUCTIONS_128);
+    of_bytes(server_tag, "in the server's tag", FOX64, TAG_INSTRUCTIONS_64);
+    of_bytes(server_tag, "in the server's tag", FOX128, TAG_INSTRUCTIONS_128);
 }

@@ -1,4 +1,5 @@
-/* FOX64 and FOX128 in counter mode in plain C: by tables one block at a time and four at a time, and by small boxes. */
+/* FOX64 and FOX128 in plain C: in counter mode by tables one block at a time and four at a time, and by small boxes;
+ * tags (CMAC) by tables and by small boxes. */
 #include "plain.h"
 #include <string.h>
 
@@ -599,4 +600,157 @@ void plain_run_small(uint32_t cipher, uint32_t rounds, const uint8_t *key, size_
             small_part64(&m, &p);
         else
             small_part128(&m, &p);
+}
+
+/* Tags: CMAC (SP 800-38B). A message is chained from its first block to its last, so no two blocks go side by side. */
+
+static inline void take64(struct state64 *s, const uint8_t *block)
+{
+    s->l ^= load4(block);
+    s->r ^= load4(block + 4);
+}
+
+static inline void take128(struct state128 *s, const uint8_t *block)
+{
+    s->a ^= load4(block);
+    s->b ^= load4(block + 4);
+    s->c ^= load4(block + 8);
+    s->d ^= load4(block + 12);
+}
+
+static void double64(struct state64 *s)
+{
+    uint32_t carry = s->l >> 31;
+    s->l = s->l << 1 | s->r >> 31;
+    s->r = s->r << 1 ^ carry * 0x1B;
+}
+
+static void double128(struct state128 *s)
+{
+    uint32_t carry = s->a >> 31;
+    s->a = s->a << 1 | s->b >> 31;
+    s->b = s->b << 1 | s->c >> 31;
+    s->c = s->c << 1 | s->d >> 31;
+    s->d = s->d << 1 ^ carry * 0x87;
+}
+
+/* The last block of a message, of which `len` bytes are left: as it is where it is whole, otherwise padded. */
+static void pad_last(uint8_t *last, size_t block, const uint8_t *message, size_t len)
+{
+    memset(last, 0, block);
+    memcpy(last, message, len);
+    if (len < block)
+        last[len] = 0x80;
+}
+
+/* Takes in the last block with its subkey. `zero` is the zero block sealed: doubled once it is the subkey of a whole
+ * block, doubled twice that of a padded one. */
+static void take_last64(struct state64 *s, struct state64 zero, const uint8_t *message, size_t len)
+{
+    uint8_t last[8];
+    pad_last(last, sizeof last, message, len);
+    double64(&zero);
+    if (len < sizeof last)
+        double64(&zero);
+    take64(s, last);
+    s->l ^= zero.l;
+    s->r ^= zero.r;
+}
+
+static void take_last128(struct state128 *s, struct state128 zero, const uint8_t *message, size_t len)
+{
+    uint8_t last[16];
+    pad_last(last, sizeof last, message, len);
+    double128(&zero);
+    if (len < sizeof last)
+        double128(&zero);
+    take128(s, last);
+    s->a ^= zero.a;
+    s->b ^= zero.b;
+    s->c ^= zero.c;
+    s->d ^= zero.d;
+}
+
+static void write64(const struct state64 *s, uint8_t *out)
+{
+    store4(out, s->l);
+    store4(out + 4, s->r);
+}
+
+static void write128(const struct state128 *s, uint8_t *out)
+{
+    store4(out, s->a);
+    store4(out + 4, s->b);
+    store4(out + 8, s->c);
+    store4(out + 12, s->d);
+}
+
+static void tag64(const struct plain_key *k, const uint8_t *message, size_t len, uint8_t *tag)
+{
+    struct state64 zero = {0, 0}, s = {0, 0};
+    seal64(k, &zero);
+    for (; len > 8; message += 8, len -= 8) {
+        take64(&s, message);
+        seal64(k, &s);
+    }
+    take_last64(&s, zero, message, len);
+    seal64(k, &s);
+    write64(&s, tag);
+}
+
+static void tag128(const struct plain_key *k, const uint8_t *message, size_t len, uint8_t *tag)
+{
+    struct state128 zero = {0, 0, 0, 0}, s = {0, 0, 0, 0};
+    seal128(k, &zero);
+    for (; len > 16; message += 16, len -= 16) {
+        take128(&s, message);
+        seal128(k, &s);
+    }
+    take_last128(&s, zero, message, len);
+    seal128(k, &s);
+    write128(&s, tag);
+}
+
+void plain_tag(const struct plain_key *prepared, const uint8_t *message, size_t len, uint8_t *tag)
+{
+    if (prepared->cipher == 64)
+        tag64(prepared, message, len, tag);
+    else
+        tag128(prepared, message, len, tag);
+}
+
+static void small_tag64(const struct mixed *m, const uint8_t *message, size_t len, uint8_t *tag)
+{
+    struct state64 zero = {0, 0}, s = {0, 0};
+    seal64_small(m, &zero);
+    for (; len > 8; message += 8, len -= 8) {
+        take64(&s, message);
+        seal64_small(m, &s);
+    }
+    take_last64(&s, zero, message, len);
+    seal64_small(m, &s);
+    write64(&s, tag);
+}
+
+static void small_tag128(const struct mixed *m, const uint8_t *message, size_t len, uint8_t *tag)
+{
+    struct state128 zero = {0, 0, 0, 0}, s = {0, 0, 0, 0};
+    seal128_small(m, &zero);
+    for (; len > 16; message += 16, len -= 16) {
+        take128(&s, message);
+        seal128_small(m, &s);
+    }
+    take_last128(&s, zero, message, len);
+    seal128_small(m, &s);
+    write128(&s, tag);
+}
+
+void plain_tag_small(uint32_t cipher, uint32_t rounds, const uint8_t *key, size_t key_len, const uint8_t *message,
+                     size_t len, uint8_t *tag)
+{
+    struct mixed m = mixed_of(cipher, rounds, key, key_len);
+    if (cipher == 64)
+        small_tag64(&m, message, len, tag);
+    else
+        small_tag128(&m, message, len, tag);
 }

@@ -1,5 +1,5 @@
-/* Plain C code for FOX in counter mode, to compare the library's speed with. It checks nothing: a caller hands over
- * what the library would serve. */
+/* Plain C code for FOX in counter mode and for tags (CMAC), to compare the library's speed with. It checks nothing: a
+ * caller hands over what the library would serve. */
 #ifndef SPEED_PLAIN_H
 #define SPEED_PLAIN_H
 
@@ -28,5 +28,11 @@ void plain_run_four(const struct plain_key *prepared, const uint8_t *counter, ui
 /* By small boxes and products worked out, each round key made anew for each block. */
 void plain_run_small(uint32_t cipher, uint32_t rounds, const uint8_t *key, size_t key_len, const uint8_t *counter,
                         uint64_t offset, const uint8_t *input, size_t len, uint8_t *out);
+
+/* The tag of a message, as long as a block: by tables and a prepared key, and by small boxes, each round key made anew
+ * for each block. */
+void plain_tag(const struct plain_key *prepared, const uint8_t *message, size_t len, uint8_t *tag);
+void plain_tag_small(uint32_t cipher, uint32_t rounds, const uint8_t *key, size_t key_len, const uint8_t *message,
+                     size_t len, uint8_t *tag);
 
 #endif

@@ -1,5 +1,5 @@
-/* The speed of the library's runs beside that of plain C code, side by side in one process. The C code and every
- * engine are first held to the server's answers, and nothing is measured where they differ. Figures are asked on
+/* The speed of the library's runs and tags beside that of plain C code, side by side in one process. The C code and
+ * every engine are first held to the server's answers, and nothing is measured where they differ. Figures are asked on
  * x86-64 alone; one that is missed is said and is no error. */
 #define _GNU_SOURCE
 #include "chance.h"
@@ -15,20 +15,27 @@
 
 enum { STRETCH = FOX_MOST_DATA, SHORT_STRETCH = 2048, ROUNDS = 16, PAIRS = 41, HIGH = FOX_RUN_END - STRETCH };
 
-/* What is timed, and how many times as fast as the C code for one block the server is to be. */
+/* A long message takes a good part of a second, so it is timed in fewer pairs. */
+enum { LONG_MESSAGE = 1 << 24, LONG_PAIRS = 11 };
+
+/* What is timed, and how many times as fast as the C code for one block the server is to be in a run. */
 static const struct setting {
     uint32_t cipher;
     size_t key_len;
     double asked;
 } settings[] = {{FOX64, 16, 2.0}, {FOX64, 32, 2.0}, {FOX128, 16, 1.8}};
 
-static uint8_t key[FOX_MOST_KEY], counter[FOX128_BLOCK], input[STRETCH], out[STRETCH], answer[STRETCH];
+/* The same for a tag, in every setting. The blocks of a message cannot go side by side, so C is hard to outrun. */
+static const double tag_asked = 0.9;
+
+static uint8_t key[FOX_MOST_KEY], counter[FOX128_BLOCK], input[LONG_MESSAGE], out[STRETCH], answer[STRETCH];
 static uint32_t cipher, rounds = ROUNDS;
 static size_t key_len;
 static struct plain_key prepared;
 static volatile uint32_t sink;
 
-/* What is compared. Each works on the first `len` bytes of the input; the prepared key is ready. */
+/* What is compared. Each works on the first `len` bytes of the input; the prepared key is ready. Tags take no notice of
+ * the offset. */
 
 typedef uint32_t work(uint64_t offset, size_t len);
 
@@ -65,6 +72,37 @@ static uint32_t small(uint64_t offset, size_t len)
     return 0;
 }
 
+static uint32_t tag_by_engine(const struct engine *engine, size_t len)
+{
+    return engine->make_tag(cipher, rounds, key, key_len, input, len, out, cipher / 8);
+}
+
+static uint32_t server_tag(uint64_t offset, size_t len)
+{
+    (void)offset;
+    return tag_by_engine(&engines[ENGINE_server], len);
+}
+
+static uint32_t card_tag(uint64_t offset, size_t len)
+{
+    (void)offset;
+    return tag_by_engine(&engines[ENGINE_card], len);
+}
+
+static uint32_t table_tag(uint64_t offset, size_t len)
+{
+    (void)offset;
+    plain_tag(&prepared, input, len, out);
+    return 0;
+}
+
+static uint32_t small_tag(uint64_t offset, size_t len)
+{
+    (void)offset;
+    plain_tag_small(cipher, rounds, key, key_len, input, len, out);
+    return 0;
+}
+
 static void set(uint32_t new_cipher, uint32_t new_rounds, size_t new_key_len)
 {
     cipher = new_cipher;
@@ -73,13 +111,23 @@ static void set(uint32_t new_cipher, uint32_t new_rounds, size_t new_key_len)
     plain_prepare(&prepared, cipher, rounds, key, key_len);
 }
 
-static int same(const char *name, uint32_t refusal, uint64_t offset, size_t len)
+/* Keeps the server's answer, for others to be held to, and clears it, so that each has to write its own. */
+static int kept(uint32_t refusal, size_t out_len)
 {
-    int right = refusal == FOX_SERVED && memcmp(out, answer, len) == 0;
+    if (refusal != FOX_SERVED)
+        printf("speed: the server refused\n");
+    memcpy(answer, out, out_len);
+    memset(out, 0, out_len);
+    return refusal == FOX_SERVED;
+}
+
+static int same(const char *name, uint32_t refusal, uint64_t offset, size_t len, size_t out_len)
+{
+    int right = refusal == FOX_SERVED && memcmp(out, answer, out_len) == 0;
     if (!right)
-        printf("speed: FOX%u, %u rounds, key of %zu, offset %llu, %zu bytes: %s differs from the server\n", cipher,
-               rounds, key_len, (unsigned long long)offset, len, name);
-    memset(out, 0, len);
+        printf("speed: FOX%u, %u rounds, key of %zu, offset %llu, %zu bytes in, %zu out: %s differs from the server\n",
+               cipher, rounds, key_len, (unsigned long long)offset, len, out_len, name);
+    memset(out, 0, out_len);
     return right;
 }
 
@@ -90,15 +138,24 @@ static int agrees(uint64_t offset, size_t len)
         const char *name;
         work *work;
     } kinds[] = {{"one block at a time", one}, {"four blocks at a time", four}, {"small boxes", small}};
-    int right = server(offset, len) == FOX_SERVED;
-    if (!right)
-        printf("speed: the server refused\n");
-    memcpy(answer, out, len);
+    int right = kept(server(offset, len), len);
     for (size_t i = 0; right && i < ENGINES; i++)
-        right = same(engines[i].name, by_engine(&engines[i], offset, len), offset, len);
+        right = same(engines[i].name, by_engine(&engines[i], offset, len), offset, len, len);
     for (size_t i = 0; right && i < COUNT(kinds); i++)
-        right = same(kinds[i].name, kinds[i].work(offset, len), offset, len);
+        right = same(kinds[i].name, kinds[i].work(offset, len), offset, len, len);
     return right;
+}
+
+/* The same for tags. Over a long message only what is timed there and the C code by tables, since others are slow. */
+static int tags_agree(size_t len)
+{
+    size_t tag_len = cipher / 8;
+    int right = kept(server_tag(0, len), tag_len) && same("tag by tables", table_tag(0, len), 0, len, tag_len);
+    if (len == LONG_MESSAGE)
+        return right;
+    for (size_t i = 0; right && i < ENGINES; i++)
+        right = same(engines[i].name, tag_by_engine(&engines[i], len), 0, len, tag_len);
+    return right && same("tag by small boxes", small_tag(0, len), 0, len, tag_len);
 }
 
 /* Bytes that are the same in every run of this program. */
@@ -118,7 +175,7 @@ static int timed_agree(void)
 {
     for (size_t i = 0; i < COUNT(settings); i++) {
         set_timed(&settings[i]);
-        if (!agrees(0, STRETCH) || !agrees(HIGH, STRETCH))
+        if (!agrees(0, STRETCH) || !agrees(HIGH, STRETCH) || !tags_agree(STRETCH) || !tags_agree(LONG_MESSAGE))
             return 0;
     }
     return 1;
@@ -135,6 +192,9 @@ static int others_agree(void)
             memset(counter + c / 8 - 4, 0xFF, k % 4);
             for (size_t i = 0; i < COUNT(offsets); i++)
                 if (!agrees(offsets[i], 0) || !agrees(offsets[i], 1) || !agrees(offsets[i], 333))
+                    return 0;
+            for (size_t len = 0; len <= 3 * FOX128_BLOCK; len++)
+                if (!tags_agree(len))
                     return 0;
         }
     return 1;
@@ -191,22 +251,22 @@ struct side {
     size_t len;
 };
 
-/* Nanoseconds of one of so many calls. */
+/* Nanoseconds of one byte in so many calls. */
 static double timed(const struct side *s, int calls)
 {
     double began = spent();
     for (int i = 0; i < calls; i++) {
         sink += s->work(s->offset, s->len);
-        sink += out[s->len - 1];
+        sink += out[0];
     }
-    return (spent() - began) / calls;
+    return (spent() - began) / calls / (double)s->len;
 }
 
 /* As many calls as take some milliseconds, beside which reading the clock is nothing. */
 static int calls_of(const struct side *s)
 {
     int calls = 1;
-    while (timed(s, calls) * calls < 4e6 && calls < 1 << 20)
+    while (timed(s, calls) * calls * (double)s->len < 4e6 && calls < 1 << 20)
         calls *= 2;
     return calls;
 }
@@ -215,13 +275,13 @@ struct figure {
     double ratio, low, high, a, b;
 };
 
-/* How many times as fast a is as b: in each pair both are timed one after the other, so that what slows the machine
- * for a while slows both. */
+/* How many times as fast a is as b, by the byte, since they may differ in length. In each pair both are timed one after
+ * the other, so that what slows the machine for a while slows both. */
 static struct figure compared(const struct side *a, const struct side *b)
 {
     static double ratios[PAIRS], as[PAIRS], bs[PAIRS];
-    int calls_a = calls_of(a), calls_b = calls_of(b);
-    for (int i = 0; i < PAIRS; i++) {
+    int calls_a = calls_of(a), calls_b = calls_of(b), pairs = a->len == LONG_MESSAGE ? LONG_PAIRS : PAIRS;
+    for (int i = 0; i < pairs; i++) {
         if (i % 2 == 0) {
             as[i] = timed(a, calls_a);
             bs[i] = timed(b, calls_b);
@@ -231,11 +291,11 @@ static struct figure compared(const struct side *a, const struct side *b)
         }
         ratios[i] = bs[i] / as[i];
     }
-    qsort(ratios, PAIRS, sizeof *ratios, ascending);
-    qsort(as, PAIRS, sizeof *as, ascending);
-    qsort(bs, PAIRS, sizeof *bs, ascending);
-    return (struct figure){ratios[PAIRS / 2], ratios[PAIRS / 4], ratios[PAIRS - 1 - PAIRS / 4], as[PAIRS / 2],
-                           bs[PAIRS / 2]};
+    qsort(ratios, pairs, sizeof *ratios, ascending);
+    qsort(as, pairs, sizeof *as, ascending);
+    qsort(bs, pairs, sizeof *bs, ascending);
+    return (struct figure){ratios[pairs / 2], ratios[pairs / 4], ratios[pairs - 1 - pairs / 4], as[pairs / 2],
+                           bs[pairs / 2]};
 }
 
 static double rate;
@@ -254,15 +314,14 @@ static void show(const struct side *a, const struct side *b, double asked)
 {
     char what[64], verdict[32] = "-";
     struct figure f = compared(a, b);
-    double bytes = (double)a->len;
     snprintf(what, sizeof what, "%s / %s", a->name, b->name);
     if (asked > 0)
         snprintf(verdict, sizeof verdict, "%.1f %s", asked, verdict_of(f.ratio, asked));
     printf("FOX%-4u %3zu  %-36s %6.2f  %6.2f %6.2f  %8.2f %8.2f  %7.1f %7.1f  %s\n", cipher, key_len, what, f.ratio,
-           f.low, f.high, bytes * 1e3 / f.a, bytes * 1e3 / f.b, f.a * rate / bytes, f.b * rate / bytes, verdict);
+           f.low, f.high, 1e3 / f.a, 1e3 / f.b, f.a * rate, f.b * rate, verdict);
 }
 
-static void show_all(const struct setting *s)
+static void show_runs(double asked)
 {
     const struct side from_start = {"server", server, 0, STRETCH};
     const struct side high = {"server, high offset", server, HIGH, STRETCH};
@@ -270,10 +329,21 @@ static void show_all(const struct setting *s)
     const struct side by_four = {"C, four blocks", four, 0, STRETCH};
     const struct side by_card = {"card", card, 0, SHORT_STRETCH};
     const struct side by_small = {"C, small boxes", small, 0, SHORT_STRETCH};
-    set_timed(s);
-    show(&from_start, &by_one, s->asked);
+    show(&from_start, &by_one, asked);
     show(&from_start, &by_four, 0);
     show(&high, &from_start, 0);
+    show(&by_card, &by_small, 0);
+}
+
+static void show_tags(void)
+{
+    const struct side by_server = {"server tag", server_tag, 0, STRETCH};
+    const struct side of_long = {"server tag, 16 MiB", server_tag, 0, LONG_MESSAGE};
+    const struct side by_tables = {"C tag", table_tag, 0, STRETCH};
+    const struct side by_card = {"card tag", card_tag, 0, SHORT_STRETCH};
+    const struct side by_small = {"C tag, small boxes", small_tag, 0, SHORT_STRETCH};
+    show(&by_server, &by_tables, tag_asked);
+    show(&of_long, &by_server, 0);
     show(&by_card, &by_small, 0);
 }
 
@@ -285,16 +355,19 @@ int main(void)
     plain_tables();
     if (!others_agree() || !timed_agree())
         return 1;
-    printf("speed: the C code answers as the library does; %d bytes (card: %d), %d rounds, medians of %d pairs, "
-           "processor time\n",
-           STRETCH, SHORT_STRETCH, ROUNDS, PAIRS);
+    printf("speed: the C code answers as the library does; %d bytes (card: %d), %d rounds, medians of %d pairs "
+           "(16 MiB: %d), processor time\n",
+           STRETCH, SHORT_STRETCH, ROUNDS, PAIRS, LONG_PAIRS);
     printf("speed: the server's time is from key bytes, while the C code by tables has its round keys prepared\n");
     printf("speed: a ratio says how many times as fast the first is as the second; "
            "lower and upper are its quartiles\n");
     rate = tick_rate();
     printf("%-7s %3s  %-36s %6s  %6s %6s  %8s %8s  %7s %7s  %s\n", "cipher", "key", "what", "ratio", "lower", "upper",
            "MB/s", "other's", "ticks/B", "other's", "asked");
-    for (size_t i = 0; i < COUNT(settings); i++)
-        show_all(&settings[i]);
+    for (size_t i = 0; i < COUNT(settings); i++) {
+        set_timed(&settings[i]);
+        show_runs(settings[i].asked);
+        show_tags();
+    }
     return 0;
 }
