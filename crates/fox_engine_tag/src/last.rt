@@ -51,7 +51,7 @@ fn double(block: &mut [u8])
 }
 
 // Makes the last block with its subkey of the sealed zero block, which the block holds when the call is made; `part` is what the last block has of the message.
-pub(crate) fn last_block(block: &mut [u8], part: &[u8])
+pub fn last_block(block: &mut [u8], part: &[u8])
     requires { ⌜ (1 ≤ length (now block)) × (length (now part) ≤ length (now block)) ⌝ }
     ensures { λ _. ⌜ now (block .exit) ≡ keyedBlock (length (now (block .entry))) (now (block .entry)) (now (part .entry)) ⌝ }
 {

@@ -1,13 +1,11 @@
-// Blocks of a tag as states: the zero block, two blocks XORed, and the last block with its subkey, for each cipher, and for a state of either.
+// Blocks of a tag as states: the zero block, two blocks XORed, and the last block with its subkey.
 ghost use mathlib.Core.Path.{_≡_};
 ghost use Prim.Native.Nat.{_≤_};
 ghost use lib.ListN.{length, replicate};
-ghost use Rattle.fox_rounds.specs.Skeleton.{size};
-ghost use Rattle.fox_rounds.specs.declared.state.State.the-variants.{Of64, Of128};
 ghost use Rattle.fox_refusals.specs.Refusals.{blockSize};
-ghost use Rattle.fox_block.specs.Block.{state64, state128, state, bytes64, bytes128, bytes};
+ghost use Rattle.fox_block.specs.Block.{state64, state128, state, bytes64, bytes128};
 ghost use Rattle.fox_tag.specs.Cmac.{keyedBlock};
-ghost use Rattle.fox_tag.specs.States.{xor64, xor128, xorStates, keyedState};
+ghost use Rattle.fox_tag.specs.States.{xor64, xor128, xorStates};
 use crate::last::last_block;
 use fox_engine_block::blocks::read64;
 use fox_engine_block::blocks::read128;
@@ -82,14 +80,4 @@ pub fn last128(x: Fox128, part: &[u8]) -> Fox128
     write128(&mut block, x);
     last_block(&mut block, part);
     read128(&block)
-}
-
-pub fn last(x: State, part: &[u8]) -> State
-    requires { ⌜ length (now part) ≤ size x ⌝ }
-    ensures { λ r. ⌜ r ≡ keyedState x (now (part .entry)) ⌝ }
-{
-    match x {
-        State::Of64(y) => State::Of64(last64(y, part)),
-        State::Of128(y) => State::Of128(last128(y, part)),
-    }
 }

@@ -25,7 +25,8 @@ fn differ(right: &[u8], stored: &[u8]) -> bool
     bits != 0
 }
 
-fn compared(right: &[u8], stored: &[u8]) -> Answer
+// From the bytes of the right tag.
+pub fn compared(right: &[u8], stored: &[u8]) -> Answer
     requires { ⌜ length (now right) ≡ length (now stored) ⌝ }
     ensures { λ r. ⌜ Compared (now (right .entry)) (now (stored .entry)) r ⌝ }
 {

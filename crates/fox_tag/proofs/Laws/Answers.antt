@@ -48,12 +48,12 @@ module _ (c rounds keyLen : ℕ) (rks message stored : List ℕ) {r : Answer} wh
       }
 
   -- a test that compares
-  pub test-compared : {y : State} → Tagged c rounds keyLen (length message) (length stored) → y ≡ state c (tagWith c rks message)
-      → Compared (bytes y) stored r → TestsTagWith c rounds keyLen rks message stored r
+  pub test-compared : {right : List ℕ} → Tagged c rounds keyLen (length message) (length stored) → right ≡ tagWith c rks message
+      → Compared right stored r → TestsTagWith c rounds keyLen rks message stored r
   test-compared h is call =
       record {
         refusal = call .refusal
-            ∙ ap (λ (l : List ℕ). cond (same l stored) 0 10) (tag-bytes c rks message is)
+            ∙ ap (λ (l : List ℕ). cond (same l stored) 0 10) is
             ∙ sym (tag-verdict (tagWith c rks message) stored h);
         count = call .count;
       }

@@ -3,34 +3,38 @@
 use mathlib.Core.Path.{_≡_, refl, sym, ap, ap₂, _∙_, subst}
 use mathlib.Core.Bool.{Bool, true, false, cond}
 use mathlib.Core.List.{List, [], _∷_, _++_}
-use Prim.Native.Nat.{ℕ, zero, suc, _+_, _-_, _*_, _/_, _≤_, _<_}
-use native.Mathlib.Nat.{zero-lt-suc, div-add-mod', mod-lt, mul-le-mul-right, le-trans}
+use Prim.Native.Nat.{ℕ, zero, suc, _+_, _-_, _*_, _/_, _^_, _≤_, _<_}
+use native.Mathlib.Nat.{zero-lt-suc, div-add-mod', mod-lt, mul-le-mul-right, le-trans, div-le-self}
 use native.Mathlib.Omega.{arith}
-use lib.Dec.{eqb, lit≤}
+use lib.Dec.{eqb, ltb, lit≤}
 use lib.ListN.{length, take, drop, getD, replicate, length-append, length-drop, length-take, length-replicate}
 use lib.Seq.{length-take-le, take-all}
-use borrow.Author.Tests.{eqb-true, eqb-false}
+use borrow.Author.Tests.{eqb-true, eqb-false, ltb-true, lt-ltb, le-ltb}
 use Rattle.fox_layers.specs.Words.{Bytes, xorEach}
 use Rattle.fox_layers.specs.Lists.{numbered}
-use Rattle.fox_layers.proofs.Laws.Lists.{by-test}
+use Rattle.fox_layers.proofs.Laws.Lists.{by-test, numbered-same}
 use Rattle.fox_layers.proofs.Laws.Words.{split-bytes, length-xorEach, xorEach-bytes, append-bytes, take-bytes, drop-bytes}
 use Rattle.fox_rounds.specs.Skeleton.{turned}
 use Rattle.fox_rounds.specs.declared.state.State.{State}
-use Rattle.fox_rounds.specs.declared.state.State.the-variants.{Of64, Of128}
 use Rattle.fox_refusals.specs.Refusals.{blockSize}
-use Rattle.fox_block.specs.Block.{state64, state128, bytes64, bytes128, state, bytes, sealWith, BlockOf}
-use Rattle.fox_block.proofs.Laws.States.{bytes-state}
+use Rattle.fox_block.specs.Block.{state, sealWith, BlockOf}
 use Rattle.fox_tag.specs.Cmac.{doubled, before, blockAt, lastAt, filled, chained, keyedBlock}
-use Rattle.fox_tag.specs.Tag.{tagWith}
-use Rattle.fox_tag.specs.States.{xorStates, keyedState}
-use Rattle.fox_tag.proofs.Laws.Chain.{ChainedTo, chainedTo-first, chainedTo-on, chainedTo-tag}
+use Rattle.fox_tag.specs.Tag.{tagWith, chainOf}
+use Rattle.fox_tag.specs.States.{xorStates}
+use Rattle.fox_tag.proofs.Laws.Chain.{chainedTo-first, chainedTo-on, chainedTo-tag}
 use Rattle.fox_tag.proofs.Laws.Doubling.{length-doubled}
-use Rattle.fox_tag.proofs.Laws.States.{sealed-block, zero-block, zeros-bytes, chained-block, sealed-state, absorbed}
+use Rattle.fox_tag.proofs.Laws.States.{zero-block, zeros-bytes, chained-block, absorbed}
 
 -- a block before the last is whole
 pub block-size : (B : ℕ) (message : List ℕ) (i : ℕ) → suc i * B ≤ length message → length (blockAt B message i) ≡ B
 unfolding blockAt
 block-size B message i h = length-take-le B (drop (i * B) message) (rw (length-drop (i * B) message) (omega arith))
+
+pub block-of : (c : ℕ) (message : List ℕ) (i : ℕ) → Bytes message → suc i * blockSize c ≤ length message → BlockOf c (blockAt (blockSize c) message i)
+unfolding blockAt
+block-of c message i h room =
+    let B = blockSize c in
+    record { size = block-size B message i room; bytes = take-bytes B (drop (i * B) message) (drop-bytes (i * B) message h) }
 
 -- the part of a message that code reads for block number i, the first n of which lie within it
 module _ (B : ℕ) (message : List ℕ) (n i size : ℕ) (is : size ≡ B) (here : i < n) (within : n * B ≤ length message) where
@@ -51,6 +55,14 @@ unfolding blockSize
 size-some c = both (eqb c 64)
   where
     both : (t : Bool) → 1 ≤ cond t 8 16
+    both true = lit≤ tt
+    both false = lit≤ tt
+
+pub size-most : (c : ℕ) → blockSize c ≤ 16
+unfolding blockSize
+size-most c = both (eqb c 64)
+  where
+    both : (t : Bool) → cond t 8 16 ≤ 16
     both true = lit≤ tt
     both false = lit≤ tt
 
@@ -85,6 +97,11 @@ module _ (B : ℕ) (message : List ℕ) (n size : ℕ) (some : 1 ≤ B) (is : si
   last-few =
       rw last-part (rw (length-take B (drop (before B message * B) message)) (omega arith))
 
+  -- one more than the blocks before the last fits where the message's length does
+  pub one-more : length message < 2 ^ 64 → n + 1 < 2 ^ 64
+  unfolding before
+  one-more fits = omega (arith, div-le-self (length message - 1) size)
+
   pub chain-room : n * B ≤ length message
   chain-room = rw is at last-start
 
@@ -118,47 +135,59 @@ keyed-block c zeros part h few =
       bytes = xorEach-bytes (doubled B (doubled B zeros)) fill (split-bytes B _) (append-bytes part _ h (padding-bytes (B - 1 - length part)));
     }))
 
--- the state of the last block with its subkey
-keyed-state : (c : ℕ) (zeros part : List ℕ) → BlockOf c zeros → keyedState (state c zeros) part ≡ state c (keyedBlock (blockSize c) zeros part)
-unfolding state bytes blockSize keyedState
-keyed-state c zeros part b = there (eqb c 64) (bytes-state c zeros b)
-  where
-    there : (t : Bool) → bytes (cond t (Of64 (state64 zeros)) (Of128 (state128 zeros))) ≡ zeros
-        → keyedState (cond t (Of64 (state64 zeros)) (Of128 (state128 zeros))) part
-        ≡ cond t (Of64 (state64 (keyedBlock (cond t 8 16) zeros part))) (Of128 (state128 (keyedBlock (cond t 8 16) zeros part)))
-    there true e = ap (λ (l : List ℕ). Of64 (state64 (keyedBlock 8 l part))) e
-    there false e = ap (λ (l : List ℕ). Of128 (state128 (keyedBlock 16 l part))) e
-
-module _ (c : ℕ) (rks message : List ℕ) where
-  -- a state is that of the chain over the first i blocks
+module _ (c : ℕ) (rks : List ℕ) (f : ℕ → List ℕ) where
+  -- a state is that of the chain over the first i of some blocks
   abbrev pub ChainedState : ℕ → State → Type 0
-  ChainedState i y =
-      y ≡ state c (chained (sealWith c rks) (replicate (blockSize c) 0) (numbered (blockAt (blockSize c) message) i 0))
+  ChainedState i y = y ≡ state c (chained (sealWith c rks) (replicate (blockSize c) 0) (numbered f i 0))
 
   pub chainedState-first : {y : State} → y ≡ state c (replicate (blockSize c) 0) → ChainedState 0 y
-  chainedState-first e = e ∙ ap (state c) (chainedTo-first (blockSize c) (sealWith c rks) message)
+  chainedState-first e = e ∙ ap (state c) (chainedTo-first (blockSize c) (sealWith c rks) f)
 
+  pub chainedState-on : (i : ℕ) {x y z : State} → BlockOf c (f i) → ChainedState i y → x ≡ state c (f i) → z ≡ turned true rks (xorStates y x)
+      → ChainedState (i + 1) z
+  chainedState-on i b done ex ez =
+      absorbed c rks _ (f i) (chained-block c rks _ _ (zero-block c)) b done ex ez
+      ∙ ap (state c) (chainedTo-on (blockSize c) (sealWith c rks) f i refl refl)
+
+-- the last block with its subkey, chained after all others: the tag
+module _ (c : ℕ) (rks message : List ℕ) where
+  pub last-chained : sealWith c rks (xorEach (chainOf c rks message (before (blockSize c) message))
+      (keyedBlock (blockSize c) (sealWith c rks (replicate (blockSize c) 0)) (lastAt (blockSize c) message)))
+      ≡ tagWith c rks message
+  unfolding tagWith
+  last-chained = chainedTo-tag (blockSize c) (sealWith c rks) message refl refl refl
+
+  -- the same by states
   module _ (h : Bytes message) where
-    pub chainedState-on : (i : ℕ) {m : List ℕ} {x y z : State} → suc i * blockSize c ≤ length message → ChainedState i y → m ≡ blockAt (blockSize c) message i
-        → x ≡ state c m → z ≡ turned true rks (xorStates y x) → ChainedState (i + 1) z
+    pub tag-state : {part : List ℕ} {last y z : State} → y ≡ state c (chainOf c rks message (before (blockSize c) message))
+        → part ≡ lastAt (blockSize c) message → length part ≤ blockSize c
+        → last ≡ state c (keyedBlock (blockSize c) (sealWith c rks (replicate (blockSize c) 0)) part) → z ≡ turned true rks (xorStates y last)
+        → z ≡ state c (tagWith c rks message)
     unfolding blockAt
-    chainedState-on i {m} room done here ex ez =
-        let B = blockSize c in
-        let block : BlockOf c (blockAt B message i) =
-        record { size = block-size B message i room; bytes = take-bytes B (drop (i * B) message) (drop-bytes (i * B) message h) } in
-        absorbed c rks _ (blockAt B message i) (chained-block c rks _ _ (zero-block c)) block done (ex ∙ ap (state c) here) ez
-        ∙ ap (state c) (chainedTo-on B (sealWith c rks) message i refl refl)
-
-    pub chainedState-tag : {part : List ℕ} {zero seal last y z : State} → ChainedState (before (blockSize c) message) y
-        → zero ≡ state c (replicate (blockSize c) 0) → seal ≡ turned true rks zero → part ≡ lastAt (blockSize c) message → length part ≤ blockSize c
-        → last ≡ keyedState seal part → z ≡ turned true rks (xorStates y last) → z ≡ state c (tagWith c rks message)
-    unfolding tagWith blockAt
-    chainedState-tag {part} done ez es here few el e =
+    tag-state {part} done here few el e =
         let B = blockSize c in
         let L = sealWith c rks (replicate B 0) in
-        let b = sealed-block c rks (replicate B 0) in
-        let sealed = es ∙ ap (turned true rks) ez ∙ sealed-state c rks (replicate B 0) (zero-block c) in
         let bytes-of : Bytes part = subst Bytes (sym here) (take-bytes B (drop (before B message * B) message) (drop-bytes (before B message * B) message h)) in
-        absorbed c rks _ (keyedBlock B L part) (chained-block c rks _ _ (zero-block c)) (keyed-block c L part bytes-of few) done
-        (el ∙ ap (λ (x : State). keyedState x part) sealed ∙ keyed-state c L part b) e
-        ∙ ap (state c) (chainedTo-tag B (sealWith c rks) message refl (ap (keyedBlock B L) here) refl)
+        absorbed c rks _ (keyedBlock B L part) (chained-block c rks _ _ (zero-block c)) (keyed-block c L part bytes-of few) done el e
+        ∙ ap (λ (l : List ℕ). state c (sealWith c rks (xorEach (chainOf c rks message (before B message)) (keyedBlock B L l)))) here
+        ∙ ap (state c) last-chained
+
+-- the blocks of a message, with another in place of its last, chained
+module _ (c : ℕ) (rks message last : List ℕ) (n : ℕ) where
+  abbrev pub withLast : ℕ → List ℕ
+  withLast i = cond (ltb i n) (blockAt (blockSize c) message i) last
+
+  pub all-chained : chained (sealWith c rks) (replicate (blockSize c) 0) (numbered withLast (n + 1) 0) ≡ sealWith c rks (xorEach (chainOf c rks message n) last)
+  all-chained =
+      let B = blockSize c in
+      let same : numbered withLast n 0 ≡ numbered (blockAt B message) n 0 =
+      numbered-same withLast (blockAt B message) n 0 (λ j h. ap (λ (t : Bool). cond t (blockAt B message j) last) (lt-ltb j n (omega arith))) in
+      sym (chainedTo-on B (sealWith c rks) withLast n refl refl)
+      ∙ ap₂ (λ (ms : List (List ℕ)) (l : List ℕ). sealWith c rks (xorEach (chained (sealWith c rks) (replicate B 0) ms) l)) same
+      (ap (λ (t : Bool). cond t (blockAt B message n) last) (le-ltb n n (omega arith)))
+
+  pub withLast-block : (i : ℕ) → Bytes message → n * blockSize c ≤ length message → BlockOf c last → BlockOf c (withLast i)
+  withLast-block i h room b =
+      by-test (ltb i n)
+      (λ t. rw t (block-of c message i h (block-room (blockSize c) message n i (blockSize c) refl (ltb-true i n t) room)))
+      (λ t. rw t b)

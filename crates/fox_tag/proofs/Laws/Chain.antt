@@ -24,23 +24,26 @@ keyedLast-snoc k [] m = refl
 keyedLast-snoc k (l ∷ []) m = refl
 keyedLast-snoc k (l ∷ n ∷ ms) m = ap (λ (xs : List (List ℕ)). l ∷ xs) (keyedLast-snoc k (n ∷ ms) m)
 
-module _ (B : ℕ) (E : List ℕ → List ℕ) (message : List ℕ) where
+-- blocks of any kind, numbered from 0
+module _ (B : ℕ) (E : List ℕ → List ℕ) (f : ℕ → List ℕ) where
   -- the chain over the first i blocks
   abbrev pub ChainedTo : ℕ → List ℕ → Type 0
-  ChainedTo i c = c ≡ chained E (replicate B 0) (numbered (blockAt B message) i 0)
+  ChainedTo i c = c ≡ chained E (replicate B 0) (numbered f i 0)
 
   pub chainedTo-first : ChainedTo 0 (replicate B 0)
   unfolding chained numbered
   chainedTo-first = refl
 
-  pub chainedTo-on : (i : ℕ) {c d : List ℕ} → ChainedTo i c → d ≡ E (xorEach c (blockAt B message i)) → ChainedTo (i + 1) d
+  pub chainedTo-on : (i : ℕ) {c d : List ℕ} → ChainedTo i c → d ≡ E (xorEach c (f i)) → ChainedTo (i + 1) d
   chainedTo-on i {c} {d} done e =
       e
-      ∙ ap₂ (λ (x m : List ℕ). E (xorEach x m)) done (ap (blockAt B message) (sym (zero-add i)))
-      ∙ sym (chained-snoc E (replicate B 0) (numbered (blockAt B message) i 0) (blockAt B message (0 + i)))
-      ∙ ap (chained E (replicate B 0)) (sym (numbered-snoc (blockAt B message) i 0))
-      ∙ ap (λ (n : ℕ). chained E (replicate B 0) (numbered (blockAt B message) n 0)) (sym (add-one i))
+      ∙ ap₂ (λ (x m : List ℕ). E (xorEach x m)) done (ap f (sym (zero-add i)))
+      ∙ sym (chained-snoc E (replicate B 0) (numbered f i 0) (f (0 + i)))
+      ∙ ap (chained E (replicate B 0)) (sym (numbered-snoc f i 0))
+      ∙ ap (λ (n : ℕ). chained E (replicate B 0) (numbered f n 0)) (sym (add-one i))
 
+-- the blocks of a message
+module _ (B : ℕ) (E : List ℕ → List ℕ) (message : List ℕ) where
   -- the last block with its subkey, from its parts
   keyed-last : (t : Bool) (zeros part : List ℕ)
       → cond t (xorEach (doubled B zeros) part) (xorEach (doubled B (doubled B zeros)) (filled B part))
@@ -49,7 +52,7 @@ module _ (B : ℕ) (E : List ℕ → List ℕ) (message : List ℕ) where
   keyed-last false zeros part = refl
 
   -- the chain over all blocks before the last, then the last block with its subkey: the tag
-  pub chainedTo-tag : {c last tag : List ℕ} → ChainedTo (before B message) c → last ≡ keyedBlock B (E (replicate B 0)) (lastAt B message)
+  pub chainedTo-tag : {c last tag : List ℕ} → ChainedTo B E (blockAt B message) (before B message) c → last ≡ keyedBlock B (E (replicate B 0)) (lastAt B message)
       → tag ≡ E (xorEach c last) → tag ≡ cmac B E message
   unfolding cmac blocks subkey subkey1 subkey2 whole keyedBlock
   chainedTo-tag {c} {last} {tag} done key e =

@@ -1,0 +1,1 @@
+-- The theorems on a tag with a prepared key.

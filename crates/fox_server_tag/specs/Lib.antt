@@ -1,0 +1,2 @@
+-- The round keys in an array, by the cipher.
+pub mod Held
