@@ -1,1 +1,3 @@
--- The theorems on a tag with a prepared key.
+-- The laws that the proofs of both ciphers share, and the theorems on a tag with a prepared key.
+pub mod Laws
+pub mod ByPrepared

@@ -7,8 +7,8 @@ use Prim.Native.Nat.{ℕ, _+_, _/_, _%_, _≤_, _<_}
 use lib.Dec.{eqb}
 use lib.ListN.{length, getD, take, drop}
 use Rattle.fox_layers.specs.Words.{_⊕_}
-use Rattle.fox_refusals.specs.Refusals.{Refusal, First, blockSize, Keyed, Stretched}
-use Rattle.fox_refusals.specs.Reply.{Served, Refused, Same}
+use Rattle.fox_refusals.specs.Refusals.{Refusal, refusalOf, First, blockSize, Keyed, Stretched, Tagged}
+use Rattle.fox_refusals.specs.Reply.{Verdict, Served, Refused, Same}
 use Rattle.fox_refusals.specs.Handed.{Handed, answer}
 use Rattle.fox_refusals.specs.declared.answer.Answer.{Answer}
 use Rattle.fox_refusals.proofs.Laws.Refusals.{first-given, given-first}
@@ -25,7 +25,9 @@ use Rattle.fox_run.proofs.Laws.Served.{call-served}
 use Rattle.fox_run.proofs.Bytes.{call-byte}
 use Rattle.fox_run.proofs.Runs.{opened-sealed, runs-same}
 use Rattle.fox_run.proofs.Stretches.{stretch-opened-alone, cuts-joined, cuts-agree, cuts-undone, cuts-opened, stretch-of-cuts}
-use Rattle.fox_station.specs.Exports.{TurnHanded, RunHanded, RunExport}
+use Rattle.fox_tag.specs.Tag.{tag}
+use Rattle.fox_tag.proofs.Tags.{tag-made, right-passes, other-told, passed-right, told-other, made-passes, tags-same}
+use Rattle.fox_station.specs.Exports.{TurnHanded, RunHanded, RunExport, MakeTagHanded, TestTagHanded}
 
 -- a refused export leaves the output as it was, and its count is 0
 pub export-refused : {rs : List Refusal} {value before after : List ℕ} {n : ℕ} → Handed rs value before after n → (n ≡ 0 → ⊥)
@@ -133,3 +135,55 @@ module _ (c rounds : ℕ) (key counter : List ℕ) where
         → CutOf (RunExport c rounds key counter) 0 whole outputs → at + m ≤ length whole → m ≤ 65536 → length before ≡ m
         → RunExport c rounds key counter at (take m (drop at whole)) before after r → Served m (take m (drop at outputs)) after r
     stretch-of-exports = stretch-of-cuts c rounds (length key) (roundKeys c rounds key) counter (RunExport c rounds key counter) export-runs k size
+
+-- tags
+
+-- a test's number with count 0
+told : {rs : List Refusal} {n : ℕ} → n ≡ refusalOf rs → Verdict rs (record { refusal = n; count = 0 })
+told e = record { refusal = e; count = refl }
+
+-- a test returns a number other than 0 exactly when it is that of the first refusal that applies
+pub test-export-by : {rs : List Refusal} {m n : ℕ} → n ≡ refusalOf rs → First m rs → n ≡ m
+test-export-by e f = e ∙ first-given f
+
+pub test-export-first : {rs : List Refusal} {n : ℕ} → n ≡ refusalOf rs → (n ≡ 0 → ⊥) → First n rs
+test-export-first {rs} {n} e isnt = given-first n rs (sym e) isnt
+
+module _ (c rounds : ℕ) (key message : List ℕ) where
+  -- making is served for every message of at most 1,073,741,824 bytes and a buffer of B bytes, and gives the tag
+  pub tag-export-made : {before after : List ℕ} {n : ℕ} → Keyed c rounds (length key) → length message ≤ 1073741824 → length before ≡ blockSize c
+      → MakeTagHanded c rounds key message before after n → Served (blockSize c) (tag c rounds key message) after (answer n (length before))
+  tag-export-made k few room call = tag-made c rounds (length key) (roundKeys c rounds key) message k few room (handed-reply call)
+
+  -- the right tag passes, and any other tag of B bytes is told
+  pub right-export-passes : {stored : List ℕ} {n : ℕ} → Keyed c rounds (length key) → length message ≤ 1073741824 → stored ≡ tag c rounds key message
+      → TestTagHanded c rounds key message stored n → n ≡ 0
+  right-export-passes k few is call = right-passes c rounds (length key) (roundKeys c rounds key) message k few is (told call)
+
+  pub other-export-told : (stored : List ℕ) {n : ℕ} → Keyed c rounds (length key) → length message ≤ 1073741824 → length stored ≡ blockSize c
+      → (stored ≡ tag c rounds key message → ⊥) → TestTagHanded c rounds key message stored n → n ≡ 10
+  other-export-told stored k few room isnt call = other-told c rounds (length key) (roundKeys c rounds key) message k few room isnt (told call)
+
+  -- 0 only where the stored tag is the right one, and 10 only where it is not
+  pub passed-export-right : (stored : List ℕ) → TestTagHanded c rounds key message stored 0
+      → Tagged c rounds (length key) (length message) (length stored) × (stored ≡ tag c rounds key message)
+  passed-export-right stored call = passed-right c rounds (length key) (roundKeys c rounds key) message (told call) refl
+
+  pub told-export-other : (stored : List ℕ) → TestTagHanded c rounds key message stored 10
+      → Tagged c rounds (length key) (length message) (length stored) × (stored ≡ tag c rounds key message → ⊥)
+  told-export-other stored call = told-other c rounds (length key) (roundKeys c rounds key) message (told call) refl
+
+  -- a tag that one export made passes the test of another
+  pub made-export-passes : {before after : List ℕ} {n : ℕ} → MakeTagHanded c rounds key message before after 0 → TestTagHanded c rounds key message after n
+      → n ≡ 0
+  unfolding answer
+  made-export-passes make test = made-passes c rounds (length key) (roundKeys c rounds key) message (handed-reply make) refl (told test) .0
+
+  -- two exports that make the tag of the same message, with buffers of one length, answer the same, and so do two that test the same stored tag
+  pub tag-exports-agree : {before₁ before₂ after₁ after₂ : List ℕ} {m n : ℕ} → length before₁ ≡ length before₂
+      → MakeTagHanded c rounds key message before₁ after₁ m → MakeTagHanded c rounds key message before₂ after₂ n
+      → Same before₁ before₂ after₁ after₂ (answer m (length before₁)) (answer n (length before₂))
+  tag-exports-agree l a b = tags-same c rounds (length key) (roundKeys c rounds key) message l (handed-reply a) (handed-reply b)
+
+  pub test-exports-agree : (stored : List ℕ) {m n : ℕ} → TestTagHanded c rounds key message stored m → TestTagHanded c rounds key message stored n → m ≡ n
+  test-exports-agree stored a b = a ∙ sym b

@@ -1,9 +1,11 @@
 // The station's calls by the server engine, on numbers and byte slices. Each returns the refusal number, 0 for success, from which the count follows: the
 // output length, or 0. The key is prepared within the call.
 ghost use mathlib.Core.Bool.{true, false};
-ghost use Rattle.fox_station.specs.Exports.{RunHanded, TurnHanded};
+ghost use Rattle.fox_station.specs.Exports.{RunHanded, TurnHanded, MakeTagHanded, TestTagHanded};
 use fox_server_block::block::turn_from_key;
 use fox_server_run::run::run_from_key;
+use fox_server_tag::tag::make_from_key;
+use fox_server_tag::tag::test_from_key;
 
 #[no_mangle]
 pub extern "C" fn fox_server_seal_block(
@@ -46,5 +48,33 @@ pub extern "C" fn fox_server_run(
     ensures { λ r. ⌜ RunHanded cipher rounds (now (key .entry)) (now (counter .entry)) offset (now (input .entry)) (now (out .entry)) (now (out .exit)) r ⌝ }
 {
     let answer = run_from_key(cipher, rounds, key, counter, offset, input, out);
+    answer.refusal
+}
+
+#[no_mangle]
+pub extern "C" fn fox_server_make_tag(
+    cipher: u32,
+    rounds: u32,
+    key: &[u8],
+    message: &[u8],
+    tag: &mut [u8],
+) -> u32
+    ensures { λ r. ⌜ MakeTagHanded cipher rounds (now (key .entry)) (now (message .entry)) (now (tag .entry)) (now (tag .exit)) r ⌝ }
+{
+    let answer = make_from_key(cipher, rounds, key, message, tag);
+    answer.refusal
+}
+
+#[no_mangle]
+pub extern "C" fn fox_server_test_tag(
+    cipher: u32,
+    rounds: u32,
+    key: &[u8],
+    message: &[u8],
+    tag: &[u8],
+) -> u32
+    ensures { λ r. ⌜ TestTagHanded cipher rounds (now (key .entry)) (now (message .entry)) (now (tag .entry)) r ⌝ }
+{
+    let answer = test_from_key(cipher, rounds, key, message, tag);
     answer.refusal
 }

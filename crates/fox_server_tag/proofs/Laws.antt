@@ -1,0 +1,2 @@
+-- Laws that the proofs of both ciphers share.
+pub mod Zero
