@@ -59,7 +59,12 @@ fn chain(cipher: u32, rounds: u8, key: &[u8], message: &[u8], out: &mut [u8])
     let n = before(message, out.len());
     let mut y = zero(cipher);
     for i in 0..n + 1 {
-        y = turned(true, s, rounds, xored(y, block_at(cipher, message, n, out, i)));
+        y = turned(
+            true,
+            s,
+            rounds,
+            xored(y, block_at(cipher, message, n, out, i)),
+        );
     }
     write(out, y);
 }

@@ -41,7 +41,14 @@ fn tested(
 pub fn test(cipher: u32, rounds: u32, key: &[u8], message: &[u8], stored: &[u8]) -> Answer
     ensures { λ r. ⌜ TestsTag cipher rounds (now (key .entry)) (now (message .entry)) (now (stored .entry)) r ⌝ }
 {
-    let refusal = for_tag(false, cipher, rounds, key.len(), message.len(), stored.len());
+    let refusal = for_tag(
+        false,
+        cipher,
+        rounds,
+        key.len(),
+        message.len(),
+        stored.len(),
+    );
     if refusal != 0 {
         return Answer::refused(refusal);
     }

@@ -5,7 +5,7 @@ ghost use mathlib.Core.List.{_++_};
 ghost use Prim.Native.Nat.{_*_, _≤_, _<_};
 ghost use lib.ListN.{length, drop};
 ghost use Rattle.fox_layers.specs.Words.{xorEach};
-ghost use Rattle.fox_tag.specs.Cmac.{reduction, doubled, before, keyedBlock};
+ghost use Rattle.fox_tag.specs.Cmac.{reduction, doubled, subkeyOf, before, keyedBlock};
 
 // How many blocks of a message stand before its last one, which may be empty.
 pub fn before(message: &[u8], size: usize) -> usize
@@ -50,18 +50,28 @@ fn double(block: &mut [u8])
     block[last] = ((block[last] % 128) * 2) ^ reduced(block.len(), top);
 }
 
-// Makes the last block with its subkey of the sealed zero block, which the block holds when the call is made; `part` is what the last block has of the message.
+// Makes a subkey of the sealed zero block, in its place: the first for a whole last block, the second for any other.
+fn subkey(block: &mut [u8], whole: bool)
+    requires { ⌜ 1 ≤ length (now block) ⌝ }
+    ensures { λ _. ⌜ now (block .exit) ≡ subkeyOf (length (now (block .entry))) (now (block .entry)) whole ⌝ }
+{
+    double(block);
+    if whole {
+        return;
+    }
+    double(block);
+}
+
+// Makes the last block with its subkey of the sealed zero block, in its place. `part` is what the last block has of the message.
 pub fn last_block(block: &mut [u8], part: &[u8])
     requires { ⌜ (1 ≤ length (now block)) × (length (now part) ≤ length (now block)) ⌝ }
     ensures { λ _. ⌜ now (block .exit) ≡ keyedBlock (length (now (block .entry))) (now (block .entry)) (now (part .entry)) ⌝ }
 {
-    double(block);
-    if part.len() == block.len() {
-        xor_into(block, part);
-        return;
-    }
-    double(block);
+    subkey(block, part.len() == block.len());
     xor_into(block, part);
     let end = part.len();
+    if end == block.len() {
+        return;
+    }
     block[end] = block[end] ^ 0x80;
 }

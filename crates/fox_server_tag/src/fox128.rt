@@ -34,7 +34,14 @@ fn chain128(
     for i in 0..n {
         let at = i * 16;
         let end = at + 16;
-        y = turn128(true, s, t, keys, rounds, xor128(y, read128(&message[at..end])));
+        y = turn128(
+            true,
+            s,
+            t,
+            keys,
+            rounds,
+            xor128(y, read128(&message[at..end])),
+        );
     }
     y
 }

@@ -34,7 +34,14 @@ fn chain64(
     for i in 0..n {
         let at = i * 8;
         let end = at + 8;
-        y = turn64(true, s, t, keys, rounds, xor64(y, read64(&message[at..end])));
+        y = turn64(
+            true,
+            s,
+            t,
+            keys,
+            rounds,
+            xor64(y, read64(&message[at..end])),
+        );
     }
     y
 }

@@ -81,16 +81,17 @@ pub fn make_from_key(cipher: u32, rounds: u32, key: &[u8], message: &[u8], out: 
     make(p, message, out)
 }
 
-pub fn test_from_key(
-    cipher: u32,
-    rounds: u32,
-    key: &[u8],
-    message: &[u8],
-    stored: &[u8],
-) -> Answer
+pub fn test_from_key(cipher: u32, rounds: u32, key: &[u8], message: &[u8], stored: &[u8]) -> Answer
     ensures { λ r. ⌜ TestsTag cipher rounds (now (key .entry)) (now (message .entry)) (now (stored .entry)) r ⌝ }
 {
-    let refusal = for_tag(false, cipher, rounds, key.len(), message.len(), stored.len());
+    let refusal = for_tag(
+        false,
+        cipher,
+        rounds,
+        key.len(),
+        message.len(),
+        stored.len(),
+    );
     if refusal != 0 {
         return Answer::refused(refusal);
     }

@@ -1,7 +1,7 @@
 -- The CMAC mode (SP 800-38B), on lists of bytes, over blocks of B bytes and any block function E. Blocks are counted from 0.
 -- Assumes nothing.
 use Prim.Native.Nat.{ℕ, _-_, _*_, _/_, _^_}
-use mathlib.Core.Bool.{Bool, cond}
+use mathlib.Core.Bool.{Bool, true, false, cond}
 use mathlib.Core.List.{List, [], _∷_, _++_}
 use lib.Dec.{eqb, ltb}
 use lib.ListN.{length, take, drop, replicate}
@@ -19,12 +19,10 @@ doubled B block =
     let w = 2 * joined block in
     split B (w ⊕ cond (ltb w (2 ^ (8 * B))) 0 (reduction B))
 
--- §6.1: the subkeys K1 and K2
-unfoldable pub subkey1 : ℕ → (List ℕ → List ℕ) → List ℕ
-subkey1 B E = doubled B (E (replicate B 0))
-
-unfoldable pub subkey2 : ℕ → (List ℕ → List ℕ) → List ℕ
-subkey2 B E = doubled B (subkey1 B E)
+-- §6.1: the subkeys, from the sealed zero block: K1 for a whole last block, and K2 for any other
+unfoldable pub subkeyOf : ℕ → List ℕ → Bool → List ℕ
+subkeyOf B zeros true = doubled B zeros
+subkeyOf B zeros false = doubled B (doubled B zeros)
 
 -- §6.2, steps 2 and 3: how many blocks stand before the last: (n - 1) / B for a message of n bytes; none for the empty message, since 0 - 1 is 0 here
 unfoldable pub before : ℕ → List ℕ → ℕ
@@ -58,10 +56,7 @@ flat (m ∷ ms) = m ++ flat ms
 unfoldable pub padded : ℕ → List ℕ → List ℕ
 padded B message = cond (whole B message) message (message ++ (0x80 ∷ replicate (B - 1 - length (lastAt B message)) 0))
 
--- §6.2, step 4: the subkey for the last block, and the blocks with it XORed into the last
-unfoldable pub subkey : ℕ → (List ℕ → List ℕ) → List ℕ → List ℕ
-subkey B E message = cond (whole B message) (subkey1 B E) (subkey2 B E)
-
+-- §6.2, step 4: the blocks with the subkey XORed into the last
 unfoldable pub keyedLast : List ℕ → List (List ℕ) → List (List ℕ)
 keyedLast k [] = []
 keyedLast k (m ∷ []) = xorEach k m ∷ []
@@ -74,9 +69,10 @@ chained E c (m ∷ ms) = chained E (E (xorEach c m)) ms
 
 -- §6.2, steps 5 to 7: the tag, all B bytes of it
 unfoldable pub cmac : ℕ → (List ℕ → List ℕ) → List ℕ → List ℕ
-cmac B E message = chained E (replicate B 0) (keyedLast (subkey B E message) (blocks B message))
+cmac B E message = chained E (replicate B 0) (keyedLast (subkeyOf B (E (replicate B 0)) (whole B message)) (blocks B message))
 
 -- the last block with its subkey, from the sealed zero block and what the last block has of the message
 unfoldable pub keyedBlock : ℕ → List ℕ → List ℕ → List ℕ
 keyedBlock B zeros part =
-    cond (eqb (length part) B) (xorEach (doubled B zeros) part) (xorEach (doubled B (doubled B zeros)) (filled B part))
+    let t = eqb (length part) B in
+    xorEach (subkeyOf B zeros t) (cond t part (filled B part))

@@ -11,8 +11,7 @@ use lib.ListN.{length, drop, getD, set, replicate, drop-of-length-le}
 use borrow.Author.Tests.{eq-eqb, ne-eqb}
 use Rattle.fox_layers.specs.Words.{_⊕_, xorEach}
 use Rattle.fox_layers.proofs.Laws.Xor.{xor-zero}
-use Rattle.fox_tag.specs.Cmac.{doubled, filled, keyedBlock}
-use Rattle.fox_tag.proofs.Laws.Doubling.{length-doubled}
+use Rattle.fox_tag.specs.Cmac.{subkeyOf, filled, keyedBlock}
 
 xor-zeros : (xs : List ℕ) → xorEach xs (replicate (length xs) 0) ≡ xs
 unfolding xorEach
@@ -33,34 +32,27 @@ xor-filled (x ∷ xs) (p ∷ ps) b h =
     ap (λ (l : List ℕ). (x ⊕ p) ∷ l)
     (xor-filled xs ps b (le-of-suc-le-suc h) ∙ ap (λ (n : ℕ). xorEach xs (ps ++ (b ∷ replicate n 0))) rest)
 
-module _ (zeros part : List ℕ) {once : List ℕ} (first : once ≡ doubled (length zeros) zeros) where
-  size-once : length once ≡ length zeros
-  size-once = ap length first ∙ length-doubled (length zeros) zeros
-
+-- the last block, from the subkey and the XOR with what there is of the message
+module _ (zeros part : List ℕ) {key mixed : List ℕ} (is : key ≡ subkeyOf (length zeros) zeros (eqb (length part) (length zeros)))
+    (size : length key ≡ length zeros) (e : mixed ≡ xorEach key part ++ drop (length part) key) where
   -- a whole block
-  pub keyed-whole : {done : List ℕ} → length part ≡ length once → done ≡ xorEach once part ++ drop (length part) once
-      → done ≡ keyedBlock (length zeros) zeros part
+  pub keyed-whole : length part ≡ length mixed → length mixed ≡ length key → mixed ≡ keyedBlock (length zeros) zeros part
   unfolding keyedBlock
-  keyed-whole {done} all e =
-      let none : drop (length part) once ≡ [] = drop-of-length-le once {i = length part} (omega arith) in
+  keyed-whole all kept =
+      let none : drop (length part) key ≡ [] = drop-of-length-le key {i = length part} (omega arith) in
       e
-      ∙ ap (λ (l : List ℕ). xorEach once part ++ l) none
-      ∙ append-nil (xorEach once part)
-      ∙ ap (λ (l : List ℕ). xorEach l part) first
-      ∙ simp (eq-eqb (length part) (length zeros) (all ∙ size-once))
+      ∙ ap (λ (l : List ℕ). xorEach key part ++ l) none
+      ∙ append-nil (xorEach key part)
+      ∙ ap₂ (λ (k m : List ℕ). xorEach k m) is (sym (simp (eq-eqb (length part) (length zeros) (all ∙ kept ∙ size))))
 
   -- a block that is not whole
-  pub keyed-part : {twice mixed : List ℕ} → length part ≤ length zeros → (length part ≡ length once → ⊥) → twice ≡ doubled (length once) once
-      → mixed ≡ xorEach twice part ++ drop (length part) twice
+  pub keyed-part : length part ≤ length zeros → (length part ≡ length mixed → ⊥) → length mixed ≡ length key
       → set mixed (length part) (getD mixed (length part) 0 ⊕ 0x80) ≡ keyedBlock (length zeros) zeros part
   unfolding keyedBlock filled
-  keyed-part {twice} {mixed} fits isnt second e =
-      let size : length twice ≡ length zeros = ap length second ∙ length-doubled (length once) once ∙ size-once in
-      let other : length part ≡ length zeros → ⊥ = λ q. isnt (q ∙ sym size-once) in
-      let less : length part < length twice = omega arith in
+  keyed-part fits isnt kept =
+      let other : length part ≡ length zeros → ⊥ = λ q. isnt (q ∙ sym (kept ∙ size)) in
+      let less : length part < length key = omega arith in
       ap (λ (l : List ℕ). set l (length part) (getD l (length part) 0 ⊕ 0x80)) e
-      ∙ xor-filled twice part 0x80 less
-      ∙ ap (λ (n : ℕ). xorEach twice (part ++ (0x80 ∷ replicate (n - 1 - length part) 0))) size
-      ∙ ap (λ (l : List ℕ). xorEach l (part ++ (0x80 ∷ replicate (length zeros - 1 - length part) 0)))
-      (second ∙ ap₂ doubled size-once first)
-      ∙ simp (ne-eqb (length part) (length zeros) other)
+      ∙ xor-filled key part 0x80 less
+      ∙ ap (λ (n : ℕ). xorEach key (part ++ (0x80 ∷ replicate (n - 1 - length part) 0))) size
+      ∙ ap₂ (λ (k m : List ℕ). xorEach k m) is (sym (simp (ne-eqb (length part) (length zeros) other)))

@@ -301,12 +301,13 @@ test-differs c r k m right stored e =
     by-test (eqb n 0)
     (λ t.
     let known = tagged false c r k m (length stored) (eqb-true n 0 t) in
-    let verdict = sym (tag-verdict right stored known) ∙ e in
-    (known,
-    λ q.
-    let z : _≡_ {A = ℕ} 0 10 =
-    sym (ap (λ (b : Bool). cond b 0 10) (ap (same right) (sym q) ∙ same-refl right)) ∙ verdict in
-    omega arith))
+    let verdict = sym (tag-verdict right stored known) ∙ e in (
+      known,
+      λ q.
+          let z : _≡_ {A = ℕ} 0 10 =
+          sym (ap (λ (b : Bool). cond b 0 10) (ap (same right) (sym q) ∙ same-refl right)) ∙ verdict in
+          omega arith,
+    ))
     (λ t.
     let z : n ≡ 10 = sym (ap (λ (b : Bool). cond b (cond (not (same right stored)) 10 0) n) t) ∙ whole in
     absurd (omega arith))

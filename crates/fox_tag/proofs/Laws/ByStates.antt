@@ -18,7 +18,7 @@ use Rattle.fox_rounds.specs.Skeleton.{turned}
 use Rattle.fox_rounds.specs.declared.state.State.{State}
 use Rattle.fox_refusals.specs.Refusals.{blockSize}
 use Rattle.fox_block.specs.Block.{state, sealWith, BlockOf}
-use Rattle.fox_tag.specs.Cmac.{doubled, before, blockAt, lastAt, filled, chained, keyedBlock}
+use Rattle.fox_tag.specs.Cmac.{doubled, subkeyOf, before, blockAt, lastAt, filled, chained, keyedBlock}
 use Rattle.fox_tag.specs.Tag.{tagWith, chainOf}
 use Rattle.fox_tag.specs.States.{xorStates}
 use Rattle.fox_tag.proofs.Laws.Chain.{chainedTo-first, chainedTo-on, chainedTo-tag}
@@ -112,27 +112,36 @@ padding-bytes : (n : ℕ) → Bytes (0x80 ∷ replicate n 0)
 padding-bytes n zero = lit≤ tt
 padding-bytes n (suc i) = zeros-bytes n i
 
--- the last block with its subkey is a block
+-- a subkey is a block, and so is the last block with it
+subkey-size : (B : ℕ) (zeros : List ℕ) (t : Bool) → length (subkeyOf B zeros t) ≡ B
+unfolding subkeyOf
+subkey-size B zeros true = length-doubled B zeros
+subkey-size B zeros false = length-doubled B (doubled B zeros)
+
+subkey-bytes : (B : ℕ) (zeros : List ℕ) (t : Bool) → Bytes (subkeyOf B zeros t)
+unfolding subkeyOf doubled
+subkey-bytes B zeros true = split-bytes B _
+subkey-bytes B zeros false = split-bytes B _
+
 keyed-block : (c : ℕ) (zeros part : List ℕ) → Bytes part → length part ≤ blockSize c → BlockOf c (keyedBlock (blockSize c) zeros part)
-unfolding keyedBlock doubled filled
+unfolding keyedBlock filled
 keyed-block c zeros part h few =
     let B = blockSize c in
-    let once = length-doubled B zeros in
-    let twice = length-doubled B (doubled B zeros) in
+    let key : Bool → List ℕ = subkeyOf B zeros in
     by-test (eqb (length part) B)
     (λ t.
     let whole = eqb-true (length part) B t in
     rw t (record {
-      size = length-xorEach (doubled B zeros) part (once ∙ sym whole) ∙ once;
-      bytes = xorEach-bytes (doubled B zeros) part (split-bytes B _) h;
+      size = length-xorEach (key true) part (subkey-size B zeros true ∙ sym whole) ∙ subkey-size B zeros true;
+      bytes = xorEach-bytes (key true) part (subkey-bytes B zeros true) h;
     }))
     (λ t.
     let fill = part ++ (0x80 ∷ replicate (B - 1 - length part) 0) in
     let size : length fill ≡ B = length-append part _ ∙ ap (λ (n : ℕ). length part + suc n) (length-replicate (B - 1 - length part) 0)
     ∙ room (length part) B (eqb-false (length part) B t) few in
     rw t (record {
-      size = length-xorEach (doubled B (doubled B zeros)) fill (twice ∙ sym size) ∙ twice;
-      bytes = xorEach-bytes (doubled B (doubled B zeros)) fill (split-bytes B _) (append-bytes part _ h (padding-bytes (B - 1 - length part)));
+      size = length-xorEach (key false) fill (subkey-size B zeros false ∙ sym size) ∙ subkey-size B zeros false;
+      bytes = xorEach-bytes (key false) fill (subkey-bytes B zeros false) (append-bytes part _ h (padding-bytes (B - 1 - length part)));
     }))
 
 module _ (c : ℕ) (rks : List ℕ) (f : ℕ → List ℕ) where

@@ -1,17 +1,15 @@
 -- A tag computed block by block: the chain over the blocks before the last, one block after the other, and then the last block with its subkey.
 -- Assumes nothing.
 use mathlib.Core.Path.{_≡_, refl, sym, ap, ap₂, _∙_}
-use mathlib.Core.Bool.{Bool, true, false, cond}
 use mathlib.Core.List.{List, [], _∷_, _++_}
 use Prim.Native.Nat.{ℕ, _+_}
 use native.Mathlib.Nat.{zero-add}
 use native.Mathlib.Numerals.{add-one}
-use lib.Dec.{eqb}
 use lib.ListN.{length, replicate}
 use Rattle.fox_layers.specs.Words.{xorEach}
 use Rattle.fox_layers.specs.Lists.{numbered}
 use Rattle.fox_layers.proofs.Laws.Lists.{numbered-snoc}
-use Rattle.fox_tag.specs.Cmac.{doubled, subkey1, subkey2, before, blockAt, lastAt, whole, filled, blocks, subkey, keyedLast, chained, cmac, keyedBlock}
+use Rattle.fox_tag.specs.Cmac.{before, blockAt, lastAt, whole, blocks, keyedLast, chained, cmac, keyedBlock}
 
 chained-snoc : (E : List ℕ → List ℕ) (c : List ℕ) (ms : List (List ℕ)) (m : List ℕ) → chained E c (ms ++ (m ∷ [])) ≡ E (xorEach (chained E c ms) m)
 unfolding chained
@@ -44,22 +42,14 @@ module _ (B : ℕ) (E : List ℕ → List ℕ) (f : ℕ → List ℕ) where
 
 -- the blocks of a message
 module _ (B : ℕ) (E : List ℕ → List ℕ) (message : List ℕ) where
-  -- the last block with its subkey, from its parts
-  keyed-last : (t : Bool) (zeros part : List ℕ)
-      → cond t (xorEach (doubled B zeros) part) (xorEach (doubled B (doubled B zeros)) (filled B part))
-      ≡ xorEach (cond t (doubled B zeros) (doubled B (doubled B zeros))) (cond t part (filled B part))
-  keyed-last true zeros part = refl
-  keyed-last false zeros part = refl
-
   -- the chain over all blocks before the last, then the last block with its subkey: the tag
   pub chainedTo-tag : {c last tag : List ℕ} → ChainedTo B E (blockAt B message) (before B message) c → last ≡ keyedBlock B (E (replicate B 0)) (lastAt B message)
       → tag ≡ E (xorEach c last) → tag ≡ cmac B E message
-  unfolding cmac blocks subkey subkey1 subkey2 whole keyedBlock
+  unfolding cmac blocks whole keyedBlock
   chainedTo-tag {c} {last} {tag} done key e =
       let first = numbered (blockAt B message) (before B message) 0 in
-      let t = eqb (length (lastAt B message)) B in
       e
-      ∙ ap₂ (λ (x m : List ℕ). E (xorEach x m)) done (key ∙ keyed-last t (E (replicate B 0)) (lastAt B message))
+      ∙ ap₂ (λ (x m : List ℕ). E (xorEach x m)) done key
       ∙ sym (chained-snoc E (replicate B 0) first _)
       ∙ ap (chained E (replicate B 0)) (sym (keyedLast-snoc _ first _))
 

@@ -64,9 +64,10 @@ last-block-requires c κs =
     let write = many .before .before .before in
     let start = write .before .before .before .before .before .before .before .before in
     let a = start .args in
-    let is = write .write .kept .0 ∙ start .pre .2 in
-    (rw is (size-some (a .cipher)),
-    omega (arith, last-few (blockSize (a .cipher)) (a .message .now) _ _ (size-some (a .cipher)) is (many .before2 .ensures), is))
+    let is = write .write .kept .0 ∙ start .pre .2 in (
+      rw is (size-some (a .cipher)),
+      omega (arith, last-few (blockSize (a .cipher)) (a .message .now) _ _ (size-some (a .cipher)) is (many .before2 .ensures), is),
+    )
 
 returns : tie.Need-returns
 unfolding turnWith

@@ -56,9 +56,14 @@ unfolding blockSize
 chain128-requires c κs =
     let many = c .before .before .before .before in
     let start = many .before .before in
-    let a = start .args in
-    (start .pre .0, (start .pre .1 .0, start .pre .1 .1,
-    chain-room (blockSize 128) (a .message .now) _ 16 (size-some 128) refl (many .before2 .ensures)))
+    let a = start .args in (
+      start .pre .0,
+      (
+        start .pre .1 .0,
+        start .pre .1 .1,
+        chain-room (blockSize 128) (a .message .now) _ 16 (size-some 128) refl (many .before2 .ensures),
+      ),
+    )
 
 returns : tie.Need-returns
 unfolding blockSize xorStates
