@@ -1,4 +1,3 @@
-// The steps of a tag that every engine takes: how many blocks stand before the last, the last block with its subkey, and the test of a stored tag.
-pub mod last;
+// The steps of a tag that every engine takes: its blocks as states, and the test of a stored tag.
 pub mod states;
 pub mod verdict;

@@ -9,7 +9,7 @@ ghost use Rattle.fox_server_rounds.specs.Tables.{TablesOf};
 ghost use Rattle.fox_block.specs.Block.{state};
 ghost use Rattle.fox_tag.specs.Tag.{tagWith, chainOf};
 use fox_engine_block::blocks::read128;
-use fox_engine_tag::last::before;
+use fox_engine_subkeys::last::before;
 use fox_engine_tag::states::last128;
 use fox_engine_tag::states::xor128;
 use fox_rounds::fox128::Fox128;

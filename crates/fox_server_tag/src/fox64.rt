@@ -9,7 +9,7 @@ ghost use Rattle.fox_server_rounds.specs.Tables.{TablesOf};
 ghost use Rattle.fox_block.specs.Block.{state};
 ghost use Rattle.fox_tag.specs.Tag.{tagWith, chainOf};
 use fox_engine_block::blocks::read64;
-use fox_engine_tag::last::before;
+use fox_engine_subkeys::last::before;
 use fox_engine_tag::states::last64;
 use fox_engine_tag::states::xor64;
 use fox_rounds::fox64::Fox64;

@@ -13,8 +13,8 @@ use Rattle.fox_layers.specs.Words.{_⊕_, Bytes}
 use Rattle.fox_bytes.proofs.Laws.XorEach.{written-next, written-not-yet, written-last}
 use Rattle.fox_tag.specs.Cmac.{reduction, doubled}
 use Rattle.fox_tag.proofs.Laws.Doubling.{shifted, length-shifted, shifted-at, doubled-done}
-use Rattle.fox_engine_tag.proofs.last.double.Statement.{statement}
-use Rattle.fox_engine_tag.proofs.last.double.Tie as tie
+use Rattle.fox_engine_subkeys.proofs.last.double.Statement.{statement}
+use Rattle.fox_engine_subkeys.proofs.last.double.Tie as tie
 
 abbrev Inv-loop : tie.InvT-loop
 Inv-loop block₀ last top i₀ block i =

@@ -10,8 +10,8 @@ use lib.Seq.{take-all}
 use borrow.Author.Needs.{needs}
 use Rattle.fox_layers.specs.Words.{_⊕_, xorEach}
 use Rattle.fox_bytes.proofs.Laws.XorEach.{length-xorEach-min, getD-xorEach, written-next, written-not-yet}
-use Rattle.fox_engine_tag.proofs.last.xor_into.Statement.{statement}
-use Rattle.fox_engine_tag.proofs.last.xor_into.Tie as tie
+use Rattle.fox_engine_subkeys.proofs.last.xor_into.Statement.{statement}
+use Rattle.fox_engine_subkeys.proofs.last.xor_into.Tie as tie
 
 abbrev Inv-loop : tie.InvT-loop
 Inv-loop block₀ part i₀ i-end block i =

@@ -3,9 +3,9 @@
 use mathlib.Core.Path.{_∙_}
 use lib.ListN.{length-set}
 use borrow.Author.Needs.{needs}
-use Rattle.fox_engine_tag.proofs.Laws.Last.{keyed-whole, keyed-part}
-use Rattle.fox_engine_tag.proofs.last.last_block.Statement.{statement}
-use Rattle.fox_engine_tag.proofs.last.last_block.Tie as tie
+use Rattle.fox_engine_subkeys.proofs.Laws.Last.{keyed-whole, keyed-part}
+use Rattle.fox_engine_subkeys.proofs.last.last_block.Statement.{statement}
+use Rattle.fox_engine_subkeys.proofs.last.last_block.Tie as tie
 
 returns : tie.Need-returns
 returns c =

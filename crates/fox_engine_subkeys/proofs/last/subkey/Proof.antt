@@ -4,8 +4,8 @@ use mathlib.Core.Path.{sym, ap, ap₂, _∙_}
 use lib.ListN.{length}
 use borrow.Author.Needs.{needs}
 use Rattle.fox_tag.specs.Cmac.{doubled, subkeyOf}
-use Rattle.fox_engine_tag.proofs.last.subkey.Statement.{statement}
-use Rattle.fox_engine_tag.proofs.last.subkey.Tie as tie
+use Rattle.fox_engine_subkeys.proofs.last.subkey.Statement.{statement}
+use Rattle.fox_engine_subkeys.proofs.last.subkey.Tie as tie
 
 returns : tie.Need-returns
 unfolding subkeyOf

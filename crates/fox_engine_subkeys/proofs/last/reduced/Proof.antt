@@ -3,8 +3,8 @@
 use borrow.Author.Needs.{needs}
 use borrow.Author.Tests.{eq-eqb, ne-eqb}
 use Rattle.fox_tag.specs.Cmac.{reduction}
-use Rattle.fox_engine_tag.proofs.last.reduced.Statement.{statement}
-use Rattle.fox_engine_tag.proofs.last.reduced.Tie as tie
+use Rattle.fox_engine_subkeys.proofs.last.reduced.Statement.{statement}
+use Rattle.fox_engine_subkeys.proofs.last.reduced.Tie as tie
 
 returns : tie.Need-returns
 unfolding reduction

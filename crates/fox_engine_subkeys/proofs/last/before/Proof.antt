@@ -7,8 +7,8 @@ use native.Mathlib.Omega.{arith}
 use borrow.Author.Needs.{needs}
 use lib.ListN.{length}
 use Rattle.fox_tag.specs.Cmac.{before}
-use Rattle.fox_engine_tag.proofs.last.before.Statement.{statement}
-use Rattle.fox_engine_tag.proofs.last.before.Tie as tie
+use Rattle.fox_engine_subkeys.proofs.last.before.Statement.{statement}
+use Rattle.fox_engine_subkeys.proofs.last.before.Tie as tie
 
 returns : tie.Need-returns
 unfolding before
