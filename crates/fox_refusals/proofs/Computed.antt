@@ -1,11 +1,12 @@
--- The order of refusals and their limits, computed by the definitions and stated as one list: each pair of neighbouring faults at once, of which the first is
--- given, for a key, a block and a stretch; and the last value that is served beside the first that is not.
+-- The order of refusals and their limits, computed by the definitions and stated as lists: each pair of neighbouring faults at once, of which the first is
+-- given, for a key, a block, a stretch and a tag; and the last value that is served beside the first that is not.
 -- Assumes nothing.
 use mathlib.Core.Path.{_≡_, refl}
 use mathlib.Core.Bool.{true, false}
 use mathlib.Core.List.{[], _∷_, _++_}
+use lib.ListN.{replicate}
 use Rattle.fox_refusals.specs.Refusals.{refusalOf, blockSize, wrongCipher, wrongRounds, longKey, wrongBlockLength, longData, wrongOutputLength}
-use Rattle.fox_refusals.specs.Refusals.{pastEnd, forKey, forBlock, forStretch, forRun}
+use Rattle.fox_refusals.specs.Refusals.{pastEnd, forKey, forBlock, forStretch, forRun, longMessage, wrongTagLength, same, otherTag, forTag, forTagTest}
 
 pub known :
     -- a key: 1 before 2 before 3; cipher 64 and 128 alone, rounds 12 to 255, keys of 0 to 32 bytes
@@ -46,3 +47,25 @@ pub known :
     ++ (0 ∷ 7 ∷ [])
 unfolding refusalOf blockSize wrongCipher wrongRounds longKey wrongBlockLength longData wrongOutputLength pastEnd forKey forBlock forStretch forRun
 known = refl
+
+pub known-tags :
+    -- making a tag: 1 before 2 before 3 before 5 before 6; messages of 0 to 1,073,741,824 bytes, a buffer of B bytes
+    (refusalOf (forTag true 65 11 32 0 8) ∷ refusalOf (forTag true 64 256 33 0 8) ∷ refusalOf (forTag true 64 12 33 1073741825 8) ∷ [])
+    ++ (refusalOf (forTag true 64 12 32 1073741825 7) ∷ refusalOf (forTag true 64 12 32 0 7) ∷ refusalOf (forTag true 64 12 32 0 9) ∷ [])
+    ++ (refusalOf (forTag true 128 12 32 0 8) ∷ refusalOf (forTag true 64 12 0 1073741824 8) ∷ refusalOf (forTag true 128 255 32 0 16) ∷ [])
+    -- testing one: 1 before 2 before 3 before 5 before 9 before 10; the right tag, and one that differs in its last byte
+    ++ (refusalOf (forTagTest 65 11 32 0 [] []) ∷ refusalOf (forTagTest 64 256 33 0 [] []) ∷ refusalOf (forTagTest 64 12 33 1073741825 [] []) ∷ [])
+    ++ (refusalOf (forTagTest 64 12 32 1073741825 (replicate 8 1) (replicate 7 1)) ∷ refusalOf (forTagTest 64 12 32 0 (replicate 8 1) (replicate 7 2)) ∷ [])
+    ++ (refusalOf (forTagTest 64 12 32 0 (replicate 9 1) (replicate 9 1)) ∷ refusalOf (forTagTest 128 12 32 0 (replicate 8 1) (replicate 8 1)) ∷ [])
+    ++ (refusalOf (forTagTest 64 12 0 1073741824 (replicate 8 1) (replicate 8 1)) ∷ refusalOf (forTagTest 128 255 32 0 (replicate 16 1) (replicate 16 1)) ∷ [])
+    ++ (refusalOf (forTagTest 64 12 32 0 (replicate 8 1) (replicate 7 1 ++ (0 ∷ []))) ∷ [])
+    ≡ (1 ∷ 2 ∷ 3 ∷ [])
+    ++ (5 ∷ 6 ∷ 6 ∷ [])
+    ++ (6 ∷ 0 ∷ 0 ∷ [])
+    ++ (1 ∷ 2 ∷ 3 ∷ [])
+    ++ (5 ∷ 9 ∷ [])
+    ++ (9 ∷ 9 ∷ [])
+    ++ (0 ∷ 0 ∷ [])
+    ++ (10 ∷ [])
+unfolding refusalOf blockSize wrongCipher wrongRounds longKey longMessage wrongTagLength same otherTag forKey forTag forTagTest
+known-tags = refl

@@ -3,3 +3,4 @@ pub mod Laws
 pub mod Subkeys
 pub mod Padding
 pub mod Tags
+pub mod Computed
