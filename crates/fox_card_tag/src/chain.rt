@@ -14,8 +14,10 @@ ghost use Rattle.fox_tag.specs.Tag.{chainOf, tagWith};
 use fox_card_block::rounds::turned;
 use fox_engine_block::blocks::read;
 use fox_engine_block::blocks::write;
-use fox_engine_subkeys::last::before;
 use fox_engine_subkeys::last::last_block;
+use fox_engine_subkeys::parts::before;
+use fox_engine_subkeys::parts::block_part;
+use fox_engine_subkeys::parts::last_part;
 use fox_engine_tag::states::xored;
 use fox_engine_tag::states::zero;
 use fox_key_schedule::schedule::Schedule;
@@ -27,9 +29,7 @@ fn block_at(cipher: u32, message: &[u8], n: usize, last: &[u8], i: usize) -> Sta
     ensures { λ x. ⌜ x ≡ state cipher (cond (ltb i n) (blockAt (blockSize cipher) (now (message .entry)) i) (now (last .entry))) ⌝ }
 {
     if i < n {
-        let at = i * last.len();
-        let end = at + last.len();
-        return read(cipher, &message[at..end]);
+        return read(cipher, block_part(message, last.len(), i));
     }
     read(cipher, last)
 }
@@ -43,9 +43,8 @@ fn last_into(cipher: u32, rounds: u8, key: &[u8], message: &[u8], out: &mut [u8]
 {
     let s = Schedule::of(cipher, key);
     write(out, turned(true, s, rounds, zero(cipher)));
-    let size = out.len();
-    let at = before(message, size) * size;
-    last_block(out, &message[at..]);
+    let part = last_part(message, out.len());
+    last_block(out, part);
 }
 
 // Chains all blocks; the buffer holds the last one, and then the outcome.

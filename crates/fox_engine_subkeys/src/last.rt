@@ -1,22 +1,10 @@
-// Blocks of a message (SP 800-38B §6.1, §6.2): how many stand before the last, a block XORed with bytes, and the last one with its subkey. All of it works on
-// bytes in place and serves every block size.
+// The last block of a message with its subkey (SP 800-38B §6.1, §6.2), made of the sealed zero block, in its place, on bytes, for every block size.
 ghost use mathlib.Core.Path.{_≡_};
 ghost use mathlib.Core.List.{_++_};
 ghost use Prim.Native.Nat.{_*_, _≤_, _<_};
 ghost use lib.ListN.{length, drop};
 ghost use Rattle.fox_layers.specs.Words.{xorEach};
-ghost use Rattle.fox_tag.specs.Cmac.{reduction, doubled, subkeyOf, before, keyedBlock};
-
-// How many blocks of a message stand before its last one, which may be empty.
-pub fn before(message: &[u8], size: usize) -> usize
-    requires { ⌜ 1 ≤ size ⌝ }
-    ensures { λ r. ⌜ r ≡ before size (now (message .entry)) ⌝ }
-{
-    if message.len() == 0 {
-        return 0;
-    }
-    (message.len() - 1) / size
-}
+ghost use Rattle.fox_tag.specs.Cmac.{reduction, doubled, subkeyOf, keyedBlock};
 
 // XORs bytes into the front of a block.
 fn xor_into(block: &mut [u8], part: &[u8])

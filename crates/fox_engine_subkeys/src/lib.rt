@@ -1,2 +1,3 @@
-// The last block of a tag with its subkey (CMAC), on bytes in place, for every block size.
+// What every engine does alike to a message for its tag (CMAC), for every block size: its parts, and the last block with its subkey.
 pub mod last;
+pub mod parts;

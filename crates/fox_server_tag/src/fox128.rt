@@ -9,7 +9,9 @@ ghost use Rattle.fox_server_rounds.specs.Tables.{TablesOf};
 ghost use Rattle.fox_block.specs.Block.{state};
 ghost use Rattle.fox_tag.specs.Tag.{tagWith, chainOf};
 use fox_engine_block::blocks::read128;
-use fox_engine_subkeys::last::before;
+use fox_engine_subkeys::parts::before;
+use fox_engine_subkeys::parts::block_part;
+use fox_engine_subkeys::parts::last_part;
 use fox_engine_tag::states::last128;
 use fox_engine_tag::states::xor128;
 use fox_rounds::fox128::Fox128;
@@ -32,16 +34,8 @@ fn chain128(
 {
     let mut y = Fox128::new(0, 0, 0, 0);
     for i in 0..n {
-        let at = i * 16;
-        let end = at + 16;
-        y = turn128(
-            true,
-            s,
-            t,
-            keys,
-            rounds,
-            xor128(y, read128(&message[at..end])),
-        );
+        let x = read128(block_part(message, 16, i));
+        y = turn128(true, s, t, keys, rounds, xor128(y, x));
     }
     y
 }
@@ -59,7 +53,7 @@ fn tagged128(
 {
     let n = before(message, 16);
     let x = turn128(true, s, t, keys, rounds, Fox128::new(0, 0, 0, 0));
-    let z = last128(x, &message[n * 16..]);
+    let z = last128(x, last_part(message, 16));
     let y = chain128(s, t, keys, rounds, message, n);
     turn128(true, s, t, keys, rounds, xor128(y, z))
 }

@@ -9,7 +9,9 @@ ghost use Rattle.fox_server_rounds.specs.Tables.{TablesOf};
 ghost use Rattle.fox_block.specs.Block.{state};
 ghost use Rattle.fox_tag.specs.Tag.{tagWith, chainOf};
 use fox_engine_block::blocks::read64;
-use fox_engine_subkeys::last::before;
+use fox_engine_subkeys::parts::before;
+use fox_engine_subkeys::parts::block_part;
+use fox_engine_subkeys::parts::last_part;
 use fox_engine_tag::states::last64;
 use fox_engine_tag::states::xor64;
 use fox_rounds::fox64::Fox64;
@@ -32,16 +34,8 @@ fn chain64(
 {
     let mut y = Fox64::new(0, 0);
     for i in 0..n {
-        let at = i * 8;
-        let end = at + 8;
-        y = turn64(
-            true,
-            s,
-            t,
-            keys,
-            rounds,
-            xor64(y, read64(&message[at..end])),
-        );
+        let x = read64(block_part(message, 8, i));
+        y = turn64(true, s, t, keys, rounds, xor64(y, x));
     }
     y
 }
@@ -59,7 +53,7 @@ fn tagged64(
 {
     let n = before(message, 8);
     let x = turn64(true, s, t, keys, rounds, Fox64::new(0, 0));
-    let z = last64(x, &message[n * 8..]);
+    let z = last64(x, last_part(message, 8));
     let y = chain64(s, t, keys, rounds, message, n);
     turn64(true, s, t, keys, rounds, xor64(y, z))
 }

@@ -2,5 +2,6 @@
 pub mod Chain
 pub mod Doubling
 pub mod States
+pub mod Parts
 pub mod ByStates
 pub mod Answers

@@ -4,16 +4,17 @@
 use mathlib.Core.Path.{_≡_, refl, sym, ap, ap₂, _∙_}
 use mathlib.Core.Bool.{Bool, true, false, cond, true≢false}
 use mathlib.Core.List.{List, [], _∷_, _++_, append-nil, append-assoc}
-use Prim.Native.Nat.{ℕ, zero, suc, _+_, _-_, _*_, _/_, _%_, _<_, _≤_}
-use native.Mathlib.Nat.{zero-add, zero-mul, div-add-mod', mod-lt, mul-le-mul-right}
+use Prim.Native.Nat.{ℕ, zero, suc, _+_, _-_, _*_, _<_, _≤_}
+use native.Mathlib.Nat.{zero-add, zero-mul}
 use native.Mathlib.Omega.{arith}
 use lib.Dec.{eqb, ltb}
-use lib.ListN.{length, take, drop, getD, replicate, length-append, length-drop, length-replicate, take-append-drop, List·getD-append}
-use lib.Seq.{length-take-le, take-all, take-add, getD-append-add, getD-append-seam}
+use lib.ListN.{length, take, getD, replicate, length-append, length-replicate, take-append-drop, List·getD-append}
+use lib.Seq.{take-add, getD-append-add, getD-append-seam}
 use borrow.Author.Tests.{ltb-true, ltb-false, eqb-true, eqb-false}
 use Rattle.fox_layers.specs.Lists.{numbered}
 use Rattle.fox_layers.proofs.Laws.Lists.{by-test, length-numbered, numbered-at, numbered-snoc}
 use Rattle.fox_tag.specs.Cmac.{before, blockAt, lastAt, whole, filled, blocks, flat, padded}
+use Rattle.fox_tag.proofs.Laws.Parts.{block-size, block-room, before-within, last-is, last-few}
 
 flat-append : (xs ys : List (List ℕ)) → flat (xs ++ ys) ≡ flat xs ++ flat ys
 unfolding flat
@@ -37,21 +38,9 @@ flat-blocks B message (suc n) =
     ∙ sym (take-add (n * B) B message)
     ∙ ap (λ (k : ℕ). take k message) next
 
--- the last block is what is left after the others, at most B bytes
 module _ (B : ℕ) (message : List ℕ) (some : 1 ≤ B) where
-  left-few : length (drop (before B message * B) message) ≤ B
-  unfolding before
-  left-few = rw (length-drop (before B message * B) message) (omega (arith, div-add-mod' (length message - 1) B, mod-lt (length message - 1) some))
-
-  pub last-is : lastAt B message ≡ drop (before B message * B) message
-  unfolding blockAt
-  last-is = take-all B (drop (before B message * B) message) left-few
-
-  last-few : length (lastAt B message) ≤ B
-  last-few = rw last-is left-few
-
   first-and-last : take (before B message * B) message ++ lastAt B message ≡ message
-  first-and-last = ap (λ (l : List ℕ). take (before B message * B) message ++ l) last-is ∙ take-append-drop (before B message * B) message
+  first-and-last = ap (λ (l : List ℕ). take (before B message * B) message ++ l) (last-is B message some) ∙ take-append-drop (before B message * B) message
 
   -- the blocks, one after the other, are the padded message
   pub blocks-padded : flat (blocks B message) ≡ padded B message
@@ -76,13 +65,6 @@ module _ (B : ℕ) (message : List ℕ) (some : 1 ≤ B) where
   pub blocks-some : 1 ≤ length (blocks B message)
   blocks-some = omega (arith, blocks-many)
 
-  first-size : (i : ℕ) → i < before B message → length (blockAt B message i) ≡ B
-  unfolding before blockAt
-  first-size i h =
-      let within : suc i * B ≤ before B message * B = mul-le-mul-right B h in
-      length-take-le B (drop (i * B) message)
-      (rw (length-drop (i * B) message) (omega (arith, within, div-add-mod' (length message - 1) B)))
-
   last-size : length (cond (whole B message) (lastAt B message) (filled B (lastAt B message))) ≡ B
   unfolding whole filled
   last-size =
@@ -91,7 +73,7 @@ module _ (B : ℕ) (message : List ℕ) (some : 1 ≤ B) where
       (λ t.
       rw t (length-append (lastAt B message) _
       ∙ ap (λ (n : ℕ). l + suc n) (length-replicate (B - 1 - l) 0)
-      ∙ room l (eqb-false l B t) last-few))
+      ∙ room l (eqb-false l B t) (last-few B message some)))
     where
       room : (l : ℕ) → (l ≡ B → ⊥) → l ≤ B → l + suc (B - 1 - l) ≡ B
       room l isnt few = omega arith
@@ -107,7 +89,7 @@ module _ (B : ℕ) (message : List ℕ) (some : 1 ≤ B) where
       (λ t.
       let few = ltb-true i q t in
       ap length (List·getD-append first _ [] i (omega arith) ∙ numbered-at (blockAt B message) q 0 i [] few ∙ ap (blockAt B message) (zero-add i))
-      ∙ first-size i few)
+      ∙ block-size B message i (block-room B q i few (before-within B message)))
       (λ t.
       let here : i ≡ length first + 0 = omega (arith, ltb-false i q t, blocks-many) in
       ap (λ (j : ℕ). length (getD (first ++ (cond (whole B message) (lastAt B message) (filled B (lastAt B message)) ∷ [])) j [])) here

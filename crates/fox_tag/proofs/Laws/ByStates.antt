@@ -3,12 +3,10 @@
 use mathlib.Core.Path.{_≡_, refl, sym, ap, ap₂, _∙_, subst}
 use mathlib.Core.Bool.{Bool, true, false, cond}
 use mathlib.Core.List.{List, [], _∷_, _++_}
-use Prim.Native.Nat.{ℕ, zero, suc, _+_, _-_, _*_, _/_, _^_, _≤_, _<_}
-use native.Mathlib.Nat.{zero-lt-suc, div-add-mod', mod-lt, mul-le-mul-right, le-trans, div-le-self}
+use Prim.Native.Nat.{ℕ, zero, suc, _+_, _-_, _*_, _≤_, _<_}
 use native.Mathlib.Omega.{arith}
 use lib.Dec.{eqb, ltb, lit≤}
-use lib.ListN.{length, take, drop, getD, replicate, length-append, length-drop, length-take, length-replicate}
-use lib.Seq.{length-take-le, take-all}
+use lib.ListN.{length, take, drop, replicate, length-append, length-replicate}
 use borrow.Author.Tests.{eqb-true, eqb-false, ltb-true, lt-ltb, le-ltb}
 use Rattle.fox_layers.specs.Words.{Bytes, xorEach}
 use Rattle.fox_layers.specs.Lists.{numbered}
@@ -23,87 +21,14 @@ use Rattle.fox_tag.specs.Tag.{tagWith, chainOf}
 use Rattle.fox_tag.specs.States.{xorStates}
 use Rattle.fox_tag.proofs.Laws.Chain.{chainedTo-first, chainedTo-on, chainedTo-tag}
 use Rattle.fox_tag.proofs.Laws.Doubling.{length-doubled}
+use Rattle.fox_tag.proofs.Laws.Parts.{block-size, block-room}
 use Rattle.fox_tag.proofs.Laws.States.{zero-block, zeros-bytes, chained-block, absorbed}
 
--- a block before the last is whole
-pub block-size : (B : ℕ) (message : List ℕ) (i : ℕ) → suc i * B ≤ length message → length (blockAt B message i) ≡ B
-unfolding blockAt
-block-size B message i h = length-take-le B (drop (i * B) message) (rw (length-drop (i * B) message) (omega arith))
-
-pub block-of : (c : ℕ) (message : List ℕ) (i : ℕ) → Bytes message → suc i * blockSize c ≤ length message → BlockOf c (blockAt (blockSize c) message i)
+pub block-of : (c : ℕ) (message : List ℕ) (i : ℕ) → Bytes message → (i + 1) * blockSize c ≤ length message → BlockOf c (blockAt (blockSize c) message i)
 unfolding blockAt
 block-of c message i h room =
     let B = blockSize c in
     record { size = block-size B message i room; bytes = take-bytes B (drop (i * B) message) (drop-bytes (i * B) message h) }
-
--- the part of a message that code reads for block number i, the first n of which lie within it
-module _ (B : ℕ) (message : List ℕ) (n i size : ℕ) (is : size ≡ B) (here : i < n) (within : n * B ≤ length message) where
-  pub block-room : suc i * B ≤ length message
-  block-room = le-trans (mul-le-mul-right B here) within
-
-  pub block-start : i * size + size ≤ length message
-  block-start = rw is (omega (arith, block-room))
-
-  pub block-part : take (i * size + size - i * size) (drop (i * size) message) ≡ blockAt B message i
-  unfolding blockAt
-  block-part =
-      let many : i * size + size - i * size ≡ B = omega arith in
-      ap₂ (λ (k m : ℕ). take k (drop m message)) many (ap (λ (b : ℕ). i * b) is)
-
-pub size-some : (c : ℕ) → 1 ≤ blockSize c
-unfolding blockSize
-size-some c = both (eqb c 64)
-  where
-    both : (t : Bool) → 1 ≤ cond t 8 16
-    both true = lit≤ tt
-    both false = lit≤ tt
-
-pub size-most : (c : ℕ) → blockSize c ≤ 16
-unfolding blockSize
-size-most c = both (eqb c 64)
-  where
-    both : (t : Bool) → cond t 8 16 ≤ 16
-    both true = lit≤ tt
-    both false = lit≤ tt
-
--- the blocks before the last lie within the message, and the last has at most B bytes
-before-within : (B : ℕ) (message : List ℕ) → before B message * B ≤ length message
-unfolding before
-before-within B message = omega (arith, div-add-mod' (length message - 1) B)
-
-after-few : (B : ℕ) (message : List ℕ) → 1 ≤ B → length (drop (before B message * B) message) ≤ B
-unfolding before
-after-few B message some =
-    rw (length-drop (before B message * B) message) (omega (arith, div-add-mod' (length message - 1) B, mod-lt (length message - 1) some))
-
--- the part of a message that code reads for the last block, where n blocks stand before it
-module _ (B : ℕ) (message : List ℕ) (n size : ℕ) (some : 1 ≤ B) (is : size ≡ B) (many : n ≡ before size message) where
-  last-place : n * size ≡ before B message * B
-  last-place = ap₂ (λ (k b : ℕ). k * b) (many ∙ ap (λ (b : ℕ). before b message) is) is
-
-  pub last-start : n * size ≤ length message
-  last-start = rw last-place (before-within B message)
-
-  pub last-part : take (length message - n * size) (drop (n * size) message) ≡ lastAt B message
-  unfolding blockAt
-  last-part =
-      ap (λ (k : ℕ). take (length message - k) (drop k message)) last-place
-      ∙ take-all (length message - before B message * B) (drop (before B message * B) message)
-      (omega (arith, length-drop (before B message * B) message))
-      ∙ sym (take-all B (drop (before B message * B) message) (after-few B message some))
-
-  pub last-few : length (take (length message - n * size) (drop (n * size) message)) ≤ B
-  unfolding blockAt
-  last-few =
-      rw last-part (rw (length-take B (drop (before B message * B) message)) (omega arith))
-
-  -- one more than the blocks before the last fits where the message's length does
-  pub one-more : length message < 2 ^ 64 → n + 1 < 2 ^ 64
-  unfolding before
-  one-more fits = omega (arith, div-le-self (length message - 1) size)
-
-  pub chain-room : n * B ≤ length message
-  chain-room = rw is at last-start
 
 room : (l B : ℕ) → (l ≡ B → ⊥) → l ≤ B → l + suc (B - 1 - l) ≡ B
 room l B isnt few = omega arith
@@ -198,5 +123,5 @@ module _ (c : ℕ) (rks message last : List ℕ) (n : ℕ) where
   pub withLast-block : (i : ℕ) → Bytes message → n * blockSize c ≤ length message → BlockOf c last → BlockOf c (withLast i)
   withLast-block i h room b =
       by-test (ltb i n)
-      (λ t. rw t (block-of c message i h (block-room (blockSize c) message n i (blockSize c) refl (ltb-true i n t) room)))
+      (λ t. rw t (block-of c message i h (block-room (blockSize c) n i (ltb-true i n t) room)))
       (λ t. rw t b)

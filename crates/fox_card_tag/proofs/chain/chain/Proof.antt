@@ -3,7 +3,7 @@
 use mathlib.Core.Path.{_≡_, refl, sym, ap, ap₂, _∙_, subst}
 use mathlib.Core.Bool.{true}
 use mathlib.Core.List.{List}
-use Prim.Native.Nat.{ℕ, _+_, _-_, _^_, _≤_, _<_}
+use Prim.Native.Nat.{ℕ, _+_, _-_, _*_, _^_, _≤_, _<_}
 use native.Mathlib.Omega.{arith}
 use lib.ListN.{length}
 use borrow.Author.Needs.{needs}
@@ -19,8 +19,8 @@ use Rattle.fox_block.proofs.Laws.Block.{state-size}
 use Rattle.fox_block.proofs.Laws.States.{bytes-state}
 use Rattle.fox_tag.specs.Cmac.{before}
 use Rattle.fox_tag.specs.Tag.{chainOf}
-use Rattle.fox_tag.proofs.Laws.ByStates.{ChainedState, chainedState-first, chainedState-on, withLast, withLast-block, all-chained, size-some, one-more}
-use Rattle.fox_tag.proofs.Laws.ByStates.{chain-room}
+use Rattle.fox_tag.proofs.Laws.ByStates.{ChainedState, chainedState-first, chainedState-on, withLast, withLast-block, all-chained}
+use Rattle.fox_tag.proofs.Laws.Parts.{size-some, before-within, one-more}
 use Rattle.fox_tag.proofs.Laws.States.{sealed-block}
 use Rattle.fox_card_tag.proofs.chain.chain.Statement.{statement}
 use Rattle.fox_card_tag.proofs.chain.chain.Tie as tie
@@ -32,6 +32,10 @@ Inv-loop cipher rounds key message out s n y₀ i₀ i-end y i =
 abbrev μ-loop : tie.MeasureT-loop
 μ-loop cipher rounds key message out s n y₀ i₀ i-end y i = n + 1 - i
 
+-- the blocks before the last lie within the message
+all-within : (cipher n : ℕ) {size : ℕ} (message : List ℕ) → size ≡ blockSize cipher → n ≡ before size message → n * blockSize cipher ≤ length message
+all-within cipher n message is many = rw (many ∙ ap (λ (b : ℕ). before b message) is) (before-within (blockSize cipher) message)
+
 before-requires : tie.Need-before-requires Inv-loop μ-loop
 before-requires c κs =
     let start = c .before .before .before .before in
@@ -42,8 +46,8 @@ add-i-end c =
     let many = c .before in
     let start = many .before .before .before .before .before in
     let a = start .args in
-    let fits = one-more (blockSize (a .cipher)) (a .message .now) _ _ (size-some (a .cipher)) (start .pre .2) (many .before2 .ensures) (search needs) in
-    omega arith
+    let fits = one-more (length (a .out .now)) (a .message .now) (search needs) in
+    omega (arith, many .before2 .ensures)
 
 loop-holds : tie.Need-loop-holds Inv-loop μ-loop
 loop-holds c =
@@ -52,7 +56,7 @@ loop-holds c =
     let start = of .before .before .before .before in
     let a = start .args in (
       omega arith,
-      one-more (blockSize (a .cipher)) (a .message .now) _ _ (size-some (a .cipher)) (start .pre .2) (many .before2 .ensures) (search needs),
+      rw (many .before2 .ensures) (one-more (length (a .out .now)) (a .message .now) (search needs)),
       chainedState-first (a .cipher) (roundKeysOf (of .of .result) (a .rounds))
           (withLast (a .cipher) (roundKeysOf (of .of .result) (a .rounds)) (a .message .now) (a .out .now) (many .before2 .result)) (c .zero .ensures),
     )
@@ -62,7 +66,7 @@ block-at-requires c κs =
     let many = c .before .before .before .before in
     let start = many .before .before .before .before .before in
     let a = start .args in
-    (chain-room (blockSize (a .cipher)) (a .message .now) _ _ (size-some (a .cipher)) (start .pre .2) (many .before2 .ensures), start .pre .2)
+    (all-within (a .cipher) _ (a .message .now) (start .pre .2) (many .before2 .ensures), start .pre .2)
 
 loop-again : tie.Need-loop-again Inv-loop μ-loop
 loop-again c =
@@ -76,7 +80,7 @@ loop-again c =
     let start = message .before .before in
     let a = start .args in
     let rks = roundKeysOf (of .of .result) (a .rounds) in
-    let room = chain-room (blockSize (a .cipher)) (a .message .now) _ _ (size-some (a .cipher)) (start .pre .2) (many .before2 .ensures) in
+    let room = all-within (a .cipher) _ (a .message .now) (start .pre .2) (many .before2 .ensures) in
     let last : BlockOf (a .cipher) (a .out .now) = record { size = start .pre .2; bytes = λ i. out .slice-known .given i .fits } in
     let f = withLast (a .cipher) rks (a .message .now) (a .out .now) (many .before2 .result) in (
       search needs,

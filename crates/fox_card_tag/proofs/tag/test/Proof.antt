@@ -10,7 +10,7 @@ use Rattle.fox_refusals.proofs.Laws.Refusals.{tagged}
 use Rattle.fox_block.proofs.Laws.Block.{rounds-whole}
 use Rattle.fox_tag.specs.Tag.{tagWith}
 use Rattle.fox_tag.proofs.Laws.Answers.{test-refused, test-compared}
-use Rattle.fox_tag.proofs.Laws.ByStates.{size-most}
+use Rattle.fox_tag.proofs.Laws.Parts.{size-most}
 use Rattle.fox_card_tag.proofs.tag.test.Statement.{statement}
 use Rattle.fox_card_tag.proofs.tag.test.Tie as tie
 

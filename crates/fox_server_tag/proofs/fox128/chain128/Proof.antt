@@ -1,10 +1,8 @@
 -- `fox128::chain128` meets its contract: whenever the loop's test is reached, the state is that of the chain over the first i blocks.
 -- Assumes nothing.
-use mathlib.Core.Path.{_≡_, refl, sym, ap, _∙_, subst}
+use mathlib.Core.Path.{_≡_, sym, ap, _∙_, subst}
 use mathlib.Core.Bool.{true}
 use Prim.Native.Nat.{ℕ, _-_, _≤_}
-use native.Mathlib.Omega.{arith}
-use lib.ListN.{length}
 use borrow.Author.Needs.{needs}
 use Rattle.fox_rounds.specs.Skeleton.{turned}
 use Rattle.fox_rounds.specs.declared.fox128.Fox128.{Fox128}
@@ -15,7 +13,7 @@ use Rattle.fox_block.specs.Block.{state128}
 use Rattle.fox_block.proofs.Laws.Block.{state-128}
 use Rattle.fox_tag.specs.Cmac.{blockAt}
 use Rattle.fox_tag.specs.States.{xorStates}
-use Rattle.fox_tag.proofs.Laws.ByStates.{ChainedState, chainedState-first, chainedState-on, block-of, block-size, block-room, block-part}
+use Rattle.fox_tag.proofs.Laws.ByStates.{ChainedState, chainedState-first, chainedState-on, block-of}
 use Rattle.fox_server_tag.proofs.Laws.Zero.{zero-128, isnt}
 use Rattle.fox_server_tag.proofs.fox128.chain128.Statement.{statement}
 use Rattle.fox_server_tag.proofs.fox128.chain128.Tie as tie
@@ -31,34 +29,20 @@ loop-holds c =
     let a = c .before .before .args in
     (search needs, chainedState-first 128 (roundKeysIn128 (a .keys .now) (a .rounds)) (blockAt (blockSize 128) (a .message .now)) (zero-128 (c .new .ensures)))
 
-read128-requires : tie.Need-read128-requires Inv-loop μ-loop
-unfolding blockSize
-read128-requires c κs =
-    let at = c .before .before in
-    let start = at .before .before .before in
-    let a = start .args in
-    let few = start .pre .1 .2 in
-    ap length (block-part (blockSize 128) (a .message .now) (a .n) (at .loop .i) 16 refl (search needs) few)
-    ∙ block-size (blockSize 128) (a .message .now) (at .loop .i) (block-room (blockSize 128) (a .message .now) (a .n) (at .loop .i) 16 refl (search needs) few)
-
 loop-again : tie.Need-loop-again Inv-loop μ-loop
 unfolding blockSize xorStates
 loop-again c =
     let xor = c .before in
     let read = xor .before in
-    let at = read .before .before .before in
+    let part = read .before in
+    let at = part .before .before in
     let known = at .before .before in
-    let start = known .before in
-    let a = start .args in
-    let few = start .pre .1 .2 in
-    let rks = roundKeysIn128 (a .keys .now) (a .rounds) in
-    let here = block-part (blockSize 128) (a .message .now) (a .n) (at .loop .i) 16 refl (search needs) few in (
+    let a = known .before .args in
+    let rks = roundKeysIn128 (a .keys .now) (a .rounds) in (
       search needs,
       chainedState-on 128 rks (blockAt (blockSize 128) (a .message .now)) (at .loop .i)
-          (block-of 128 (a .message .now) (at .loop .i) (λ i. known .shared-slice-known .given i .fits)
-          (block-room (blockSize 128) (a .message .now) (a .n) (at .loop .i) 16 refl (search needs) few))
-          (at .loop .inv .1)
-          (ap Of128 (read .read128 .ensures ∙ ap state128 here) ∙ sym (state-128 128 _ isnt))
+          (block-of 128 (a .message .now) (at .loop .i) (λ i. known .shared-slice-known .given i .fits) (search needs)) (at .loop .inv .1)
+          (ap Of128 (read .read128 .ensures ∙ ap state128 (part .block-part .ensures .0)) ∙ sym (state-128 128 _ isnt))
           (c .turn128 .ensures ∙ ap (λ (w : Fox128). turned true rks (Of128 w)) (xor .xor128 .ensures)),
     )
 
@@ -72,6 +56,5 @@ returns c =
 
 pub chain128-spec : {M : Type 1} → statement M
 chain128-spec =
-    tie.close (tie.spec Inv-loop μ-loop (λ c κs. search needs) loop-holds (λ c. search needs) (λ c. search needs) (λ c. search needs)
-    (λ c. search needs) (λ c. search needs) read128-requires (λ c κs. search needs) (λ c κs. search needs) (λ c. search needs) (λ c. search needs)
-    loop-again returns)
+    tie.close (tie.spec Inv-loop μ-loop (λ c κs. search needs) loop-holds (λ c κs. search needs) (λ c κs. search needs) (λ c κs. search needs)
+    (λ c κs. search needs) (λ c. search needs) (λ c. search needs) loop-again returns)

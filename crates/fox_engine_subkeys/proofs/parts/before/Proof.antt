@@ -1,4 +1,4 @@
--- `last::before` meets its contract: an empty message has no block before its last, and the subtraction of the definition stops at 0.
+-- `parts::before` meets its contract: an empty message has no block before its last, and the subtraction of the definition stops at 0.
 -- Assumes nothing.
 use mathlib.Core.Path.{_≡_, sym, ap, _∙_}
 use Prim.Native.Nat.{ℕ, _-_, _/_}
@@ -7,8 +7,8 @@ use native.Mathlib.Omega.{arith}
 use borrow.Author.Needs.{needs}
 use lib.ListN.{length}
 use Rattle.fox_tag.specs.Cmac.{before}
-use Rattle.fox_engine_subkeys.proofs.last.before.Statement.{statement}
-use Rattle.fox_engine_subkeys.proofs.last.before.Tie as tie
+use Rattle.fox_engine_subkeys.proofs.parts.before.Statement.{statement}
+use Rattle.fox_engine_subkeys.proofs.parts.before.Tie as tie
 
 returns : tie.Need-returns
 unfolding before
