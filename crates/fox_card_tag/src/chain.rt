@@ -9,21 +9,21 @@ ghost use Rattle.fox_layers.specs.Words.{xorEach};
 ghost use Rattle.fox_key_schedule.specs.Schedule.{roundKeys};
 ghost use Rattle.fox_refusals.specs.Refusals.{blockSize};
 ghost use Rattle.fox_block.specs.Block.{state, sealWith};
-ghost use Rattle.fox_tag.specs.Cmac.{before, blockAt, lastAt, keyedBlock};
+ghost use Rattle.fox_tag.specs.Cmac.{blocksBefore, blockAt, lastAt, keyedBlock};
 ghost use Rattle.fox_tag.specs.Tag.{chainOf, tagWith};
 use fox_card_block::rounds::turned;
 use fox_engine_block::blocks::read;
 use fox_engine_block::blocks::write;
 use fox_engine_subkeys::last::last_block;
-use fox_engine_subkeys::parts::before;
 use fox_engine_subkeys::parts::block_part;
+use fox_engine_subkeys::parts::blocks_before;
 use fox_engine_subkeys::parts::last_part;
 use fox_engine_tag::states::xored;
 use fox_engine_tag::states::zero;
 use fox_key_schedule::schedule::Schedule;
 use fox_rounds::state::State;
 
-// Block number i of a message with n blocks before its last one, which is passed by itself.
+// Block number i of a message: one of the n before the last, or `last`.
 fn block_at(cipher: u32, message: &[u8], n: usize, last: &[u8], i: usize) -> State
     requires { ⌜ (n * blockSize cipher ≤ length (now message)) × (length (now last) ≡ blockSize cipher) ⌝ }
     ensures { λ x. ⌜ x ≡ state cipher (cond (ltb i n) (blockAt (blockSize cipher) (now (message .entry)) i) (now (last .entry))) ⌝ }
@@ -51,11 +51,11 @@ fn last_into(cipher: u32, rounds: u8, key: &[u8], message: &[u8], out: &mut [u8]
 fn chain(cipher: u32, rounds: u8, key: &[u8], message: &[u8], out: &mut [u8])
     requires { ⌜ (1 ≤ rounds) × (length (now key) ≤ 32) × (length (now out) ≡ blockSize cipher) ⌝ }
     ensures { λ _. ⌜ now (out .exit) ≡ sealWith cipher (roundKeys cipher rounds (now (key .entry)))
-        (xorEach (chainOf cipher (roundKeys cipher rounds (now (key .entry))) (now (message .entry)) (before (blockSize cipher) (now (message .entry))))
+        (xorEach (chainOf cipher (roundKeys cipher rounds (now (key .entry))) (now (message .entry)) (blocksBefore (blockSize cipher) (now (message .entry))))
         (now (out .entry))) ⌝ }
 {
     let s = Schedule::of(cipher, key);
-    let n = before(message, out.len());
+    let n = blocks_before(message, out.len());
     let mut y = zero(cipher);
     for i in 0..n + 1 {
         y = turned(

@@ -18,7 +18,7 @@ use Rattle.fox_key_nonlinear.specs.Nonlinear.{words, mix64, mix128, flipped, la
 use Rattle.fox_key_schedule.specs.Schedule.{ek128, roundKeyAt128, roundKey128, roundKey, roundKeys}
 use Rattle.fox_block.specs.Block.{state128, bytes128, state, bytes, turnWith, openBlock}
 use Rattle.fox_refusals.specs.Refusals.{blockSize}
-use Rattle.fox_tag.specs.Cmac.{reduction, doubled, subkeyOf, before, blockAt, whole as wholeMessage, filled, blocks, keyedLast, chained, cmac}
+use Rattle.fox_tag.specs.Cmac.{reduction, doubled, subkeyOf, blocksBefore, blockAt, whole as wholeMessage, filled, blocks, keyedLast, chained, cmac}
 use Rattle.fox_tag.specs.Tag.{tagWith, tag}
 use Rattle.fox_block.specs.Vectors.{key, plain128, sealed128, sealedBy}
 
@@ -50,6 +50,6 @@ pub tagged : tag 128 12 (0xF5 ∷ 0x73 ∷ 0x08 ∷ 0x13 ∷ 0x6A ∷ 0x2B ∷ 0
 unfolding joined split xorEach xorOver polynomial rest product S₁ S₂ S₃ halves whole or4 lmid4 lmor4 sbox sigma dot times mu8Rows
     diffused mu8 left right or io f f64 xor128 elmid128 or128 io128 numbered through round between inOrder turned seal128 pad padded mixed
     mkey seed clocked iterate LFSR stream groups dkey words mix64 mix128 flipped layers number128 parts128 NL128 ek128 roundKeyAt128 roundKey128 state128
-    bytes128 state bytes turnWith roundKey roundKeys blockSize reduction doubled subkeyOf before blockAt wholeMessage filled blocks keyedLast chained cmac
+    bytes128 state bytes turnWith roundKey roundKeys blockSize reduction doubled subkeyOf blocksBefore blockAt wholeMessage filled blocks keyedLast chained cmac
     tagWith
 tagged = refl

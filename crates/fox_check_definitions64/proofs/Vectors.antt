@@ -18,7 +18,7 @@ use Rattle.fox_key_nonlinear.specs.Nonlinear.{words, mix64, mix64h, flipped, la
 use Rattle.fox_key_schedule.specs.Schedule.{ek64, roundKeyAt64, roundKey64, roundKey, roundKeys}
 use Rattle.fox_block.specs.Block.{state64, bytes64, state, bytes, turnWith, openBlock}
 use Rattle.fox_refusals.specs.Refusals.{blockSize}
-use Rattle.fox_tag.specs.Cmac.{reduction, doubled, subkeyOf, before, blockAt, whole as wholeMessage, filled, blocks, keyedLast, chained, cmac}
+use Rattle.fox_tag.specs.Cmac.{reduction, doubled, subkeyOf, blocksBefore, blockAt, whole as wholeMessage, filled, blocks, keyedLast, chained, cmac}
 use Rattle.fox_tag.specs.Tag.{tagWith, tag}
 use Rattle.fox_block.specs.Vectors.{key, plain64, sealed64, sealedBy}
 
@@ -43,5 +43,5 @@ pub tagged : tag 64 12 [] (0x18 ∷ 0xA8 ∷ 0xE3 ∷ 0x69 ∷ 0x84 ∷ 0x1C ∷
 unfolding joined split xorEach xorOver polynomial rest product S₁ S₂ S₃ halves whole or4 lmid4 lmor4 sbox sigma dot times mu4Rows
     diffused mu4 left right or io f f32 lmid64 or64 io64 numbered through round between inOrder turned seal64 pad padded mixed mkey seed
     clocked iterate LFSR stream groups dkey words mix64 mix64h flipped layers number64 NL64 NL64h ek64 roundKeyAt64 roundKey64 state64 bytes64
-    state bytes turnWith roundKey roundKeys blockSize reduction doubled subkeyOf before blockAt filled blocks wholeMessage keyedLast chained cmac tagWith
+    state bytes turnWith roundKey roundKeys blockSize reduction doubled subkeyOf blocksBefore blockAt filled blocks wholeMessage keyedLast chained cmac tagWith
 tagged = refl

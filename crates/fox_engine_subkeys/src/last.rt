@@ -17,7 +17,7 @@ fn xor_into(block: &mut [u8], part: &[u8])
     }
 }
 
-// What doubling XORs into the last byte: 1B or 87 where the top bit is set, and nothing where it is not.
+// What doubling XORs into the last byte: 1B or 87 where the bit that left, `top`, is 1, and else 0.
 fn reduced(size: usize, top: u8) -> u8
     requires { ⌜ top < 2 ⌝ }
     ensures { λ r. ⌜ r ≡ top * reduction size ⌝ }
@@ -38,7 +38,7 @@ fn double(block: &mut [u8])
     block[last] = ((block[last] % 128) * 2) ^ reduced(block.len(), top);
 }
 
-// Makes a subkey of the sealed zero block, in its place: the first for a whole last block, the second for any other.
+// Turns the sealed zero block into a subkey: the first for a whole last block, the second for any other.
 fn subkey(block: &mut [u8], whole: bool)
     requires { ⌜ 1 ≤ length (now block) ⌝ }
     ensures { λ _. ⌜ now (block .exit) ≡ subkeyOf (length (now (block .entry))) (now (block .entry)) whole ⌝ }
@@ -50,7 +50,7 @@ fn subkey(block: &mut [u8], whole: bool)
     double(block);
 }
 
-// Makes the last block with its subkey of the sealed zero block, in its place. `part` is what the last block has of the message.
+// Turns the sealed zero block into the message's last block, filled up and XORed with its subkey. `part` is what that block has of the message.
 pub fn last_block(block: &mut [u8], part: &[u8])
     requires { ⌜ (1 ≤ length (now block)) × (length (now part) ≤ length (now block)) ⌝ }
     ensures { λ _. ⌜ now (block .exit) ≡ keyedBlock (length (now (block .entry))) (now (block .entry)) (now (part .entry)) ⌝ }

@@ -2,12 +2,12 @@
 ghost use mathlib.Core.Path.{_≡_};
 ghost use Prim.Native.Nat.{_+_, _*_, _≤_};
 ghost use lib.ListN.{length};
-ghost use Rattle.fox_tag.specs.Cmac.{before, blockAt, lastAt};
+ghost use Rattle.fox_tag.specs.Cmac.{blocksBefore, blockAt, lastAt};
 
-// How many blocks of a message stand before its last one, which may be empty.
-pub fn before(message: &[u8], size: usize) -> usize
+// How many blocks stand before a message's last one. The empty message has one block, an empty one.
+pub fn blocks_before(message: &[u8], size: usize) -> usize
     requires { ⌜ 1 ≤ size ⌝ }
-    ensures { λ r. ⌜ r ≡ before size (now (message .entry)) ⌝ }
+    ensures { λ r. ⌜ r ≡ blocksBefore size (now (message .entry)) ⌝ }
 {
     if message.len() == 0 {
         return 0;
@@ -30,6 +30,6 @@ pub fn last_part(message: &[u8], size: usize) -> &[u8]
     requires { ⌜ 1 ≤ size ⌝ }
     ensures { λ r. ⌜ (now r ≡ lastAt size (now (message .entry))) × (length (now r) ≤ size) ⌝ }
 {
-    let at = before(message, size) * size;
+    let at = blocks_before(message, size) * size;
     &message[at..]
 }

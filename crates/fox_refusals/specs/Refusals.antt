@@ -1,4 +1,4 @@
--- The refusals of 01, "Numbers handed back": each is a number and the test of when it is given; the first that applies is taken.
+-- The refusals of 01, "Numbers handed back", and those of tags, of 02: each is a number and the test of when it is given; the first that applies is taken.
 -- Assumes nothing.
 use Prim.Native.Nat.{ℕ, _+_, _≤_}
 use mathlib.Core.Path.{_≡_}
@@ -65,7 +65,7 @@ pastEnd offset inputLen = record { number = 7; applies = above 1073741824 (offse
 unfoldable pub longMessage : ℕ → Refusal
 longMessage messageLen = record { number = 5; applies = above 1073741824 messageLen }
 
--- 6, where a tag is made: tag buffer is not B bytes; 9, where one is tested: stored tag is not B bytes
+-- 6, where a tag is made: tag buffer is not B bytes; 9, where one is tested: stored tag is not B bytes. `making` says which
 unfoldable pub wrongTagLength : Bool → ℕ → ℕ → Refusal
 wrongTagLength making cipher tagLen = record { number = cond making 6 9; applies = differs tagLen (blockSize cipher) }
 
@@ -98,11 +98,11 @@ unfoldable pub forStretch : ℕ → ℕ → ℕ → ℕ → ℕ → List Refusal
 forStretch cipher counterLen offset inputLen outLen =
     wrongBlockLength cipher counterLen ∷ longData inputLen ∷ wrongOutputLength inputLen outLen ∷ pastEnd offset inputLen ∷ []
 
--- the refusals of a call on a stretch of a run: all seven
+-- the refusals of a call on a stretch of a run: 1 to 7
 unfoldable pub forRun : ℕ → ℕ → ℕ → ℕ → ℕ → ℕ → ℕ → List Refusal
 forRun cipher rounds keyLen counterLen offset inputLen outLen = forKey cipher rounds keyLen ++ forStretch cipher counterLen offset inputLen outLen
 
--- the refusals of a call that makes a tag, or tests one, but for 10
+-- the refusals of a call that makes a tag; of one that tests a tag all but 10, which comes after them
 unfoldable pub forTag : Bool → ℕ → ℕ → ℕ → ℕ → ℕ → List Refusal
 forTag making cipher rounds keyLen messageLen tagLen =
     forKey cipher rounds keyLen ++ (longMessage messageLen ∷ wrongTagLength making cipher tagLen ∷ [])
@@ -133,7 +133,7 @@ pub record Stretched (c r k b n d o : ℕ) : Type 0 where
   pub output : o ≡ d
   pub end : n + d ≤ 1073741824
 
--- what holds where a call on a tag meets no refusal but 10
+-- what holds where a call on a tag meets no refusal, or 10 alone
 pub record Tagged (c r k m t : ℕ) : Type 0 where
   pub keyed : Keyed c r k
   pub message : m ≤ 1073741824

@@ -15,7 +15,7 @@ pub record Reply (refusals : List Refusal) (value before after : List ℕ) (r : 
   pub count : r .count ≡ cond (eqb (refusalOf refusals) 0) (length before) 0
   pub output : after ≡ cond (eqb (refusalOf refusals) 0) value before
 
--- the same for a call that writes nothing: its count is always 0
+-- the whole answer of a call that has no output: its refusal number, and count 0 always
 pub record Verdict (refusals : List Refusal) (r : Answer) : Type 0 where
   pub refusal : r .refusal ≡ refusalOf refusals
   pub count : r .count ≡ 0

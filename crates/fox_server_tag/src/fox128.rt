@@ -9,8 +9,8 @@ ghost use Rattle.fox_server_rounds.specs.Tables.{TablesOf};
 ghost use Rattle.fox_block.specs.Block.{state};
 ghost use Rattle.fox_tag.specs.Tag.{tagWith, chainOf};
 use fox_engine_block::blocks::read128;
-use fox_engine_subkeys::parts::before;
 use fox_engine_subkeys::parts::block_part;
+use fox_engine_subkeys::parts::blocks_before;
 use fox_engine_subkeys::parts::last_part;
 use fox_engine_tag::states::last128;
 use fox_engine_tag::states::xor128;
@@ -51,7 +51,7 @@ fn tagged128(
     requires { ⌜ (1 ≤ rounds) × (rounds ≤ 255) ⌝ }
     ensures { λ y. ⌜ Of128 y ≡ state 128 (tagWith 128 (roundKeysIn128 (now (keys .entry)) rounds) (now (message .entry))) ⌝ }
 {
-    let n = before(message, 16);
+    let n = blocks_before(message, 16);
     let x = turn128(true, s, t, keys, rounds, Fox128::new(0, 0, 0, 0));
     let z = last128(x, last_part(message, 16));
     let y = chain128(s, t, keys, rounds, message, n);

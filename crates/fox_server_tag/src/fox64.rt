@@ -9,8 +9,8 @@ ghost use Rattle.fox_server_rounds.specs.Tables.{TablesOf};
 ghost use Rattle.fox_block.specs.Block.{state};
 ghost use Rattle.fox_tag.specs.Tag.{tagWith, chainOf};
 use fox_engine_block::blocks::read64;
-use fox_engine_subkeys::parts::before;
 use fox_engine_subkeys::parts::block_part;
+use fox_engine_subkeys::parts::blocks_before;
 use fox_engine_subkeys::parts::last_part;
 use fox_engine_tag::states::last64;
 use fox_engine_tag::states::xor64;
@@ -51,7 +51,7 @@ fn tagged64(
     requires { ⌜ (1 ≤ rounds) × (rounds ≤ 255) ⌝ }
     ensures { λ y. ⌜ Of64 y ≡ state 64 (tagWith 64 (roundKeysIn64 (now (keys .entry)) rounds) (now (message .entry))) ⌝ }
 {
-    let n = before(message, 8);
+    let n = blocks_before(message, 8);
     let x = turn64(true, s, t, keys, rounds, Fox64::new(0, 0));
     let z = last64(x, last_part(message, 8));
     let y = chain64(s, t, keys, rounds, message, n);

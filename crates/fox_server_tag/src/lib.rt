@@ -1,5 +1,5 @@
-// Tags by the server engine: tables and round keys are computed once for a call and passed by reference, and one block of the message goes after the other.
-// The calls take a prepared key or key bytes.
+// Tags by the server engine, one block of the message after the other. Tables are made once for a call, and so are round keys where it takes key bytes; both
+// are passed by reference.
 mod fox128;
 mod fox64;
 pub mod tag;

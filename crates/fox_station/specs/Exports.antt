@@ -1,4 +1,4 @@
--- What the station's exports promise: the refusal number and every byte of the output, for all inputs. The count follows from the number.
+-- What the station's exports promise: the refusal number and every byte of the output, if there is one, for all inputs. The count follows from the number.
 -- Assumes nothing.
 use mathlib.Core.Path.{_≡_}
 use mathlib.Core.Bool.{Bool, true, cond}

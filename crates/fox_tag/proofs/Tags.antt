@@ -40,7 +40,7 @@ module _ (c rounds keyLen : ℕ) (rks message : List ℕ) where
       ∙ tag-verdict right stored (record { keyed = k; message = few; tag = room })
       ∙ ap (λ (t : Bool). cond t 0 10) (ap (same right) is ∙ same-refl right)
 
-  -- any other tag of B bytes is told
+  -- any other tag of B bytes is refused with 10
   pub other-told : {stored : List ℕ} {r : Answer} → Keyed c rounds keyLen → length message ≤ 1073741824 → length stored ≡ blockSize c
       → (stored ≡ tagWith c rks message → ⊥) → TestsTagWith c rounds keyLen rks message stored r → r .refusal ≡ 10
   other-told {stored} k few room isnt call =

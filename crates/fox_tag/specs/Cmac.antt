@@ -8,7 +8,7 @@ use lib.ListN.{length, take, drop, replicate}
 use Rattle.fox_layers.specs.Words.{_⊕_, joined, split, xorEach}
 use Rattle.fox_layers.specs.Lists.{numbered}
 
--- §5.3: R, which doubling XORs in where the top bit leaves: 1B for blocks of 8 bytes, 87 for blocks of 16
+-- §5.3: R, which doubling XORs in where the top bit leaves: 1B for blocks of 8 bytes, 87 for blocks of 16 (and, here, of any other size)
 unfoldable pub reduction : ℕ → ℕ
 reduction B = cond (eqb B 8) 0x1B 0x87
 
@@ -21,19 +21,19 @@ doubled B block =
 
 -- §6.1: the subkeys, from the sealed zero block: K1 for a whole last block, and K2 for any other
 unfoldable pub subkeyOf : ℕ → List ℕ → Bool → List ℕ
-subkeyOf B zeros true = doubled B zeros
-subkeyOf B zeros false = doubled B (doubled B zeros)
+subkeyOf B sealed true = doubled B sealed
+subkeyOf B sealed false = doubled B (doubled B sealed)
 
 -- §6.2, steps 2 and 3: how many blocks stand before the last: (n - 1) / B for a message of n bytes; none for the empty message, since 0 - 1 is 0 here
-unfoldable pub before : ℕ → List ℕ → ℕ
-before B message = (length message - 1) / B
+unfoldable pub blocksBefore : ℕ → List ℕ → ℕ
+blocksBefore B message = (length message - 1) / B
 
 -- §6.2, step 3: block number i of the message; the last one may be shorter than B bytes, or empty
 unfoldable pub blockAt : ℕ → List ℕ → ℕ → List ℕ
 blockAt B message i = take B (drop (i * B) message)
 
 abbrev pub lastAt : ℕ → List ℕ → List ℕ
-lastAt B message = blockAt B message (before B message)
+lastAt B message = blockAt B message (blocksBefore B message)
 
 -- §6.2, step 4: whether the last block is a complete one
 unfoldable pub whole : ℕ → List ℕ → Bool
@@ -46,13 +46,14 @@ filled B part = part ++ (0x80 ∷ replicate (B - 1 - length part) 0)
 -- the blocks of a message, the last one filled up where it is not complete
 unfoldable pub blocks : ℕ → List ℕ → List (List ℕ)
 blocks B message =
-    numbered (blockAt B message) (before B message) 0 ++ (cond (whole B message) (lastAt B message) (filled B (lastAt B message)) ∷ [])
+    numbered (blockAt B message) (blocksBefore B message) 0 ++ (cond (whole B message) (lastAt B message) (filled B (lastAt B message)) ∷ [])
 
--- blocks one after the other, and the message with its padding
+-- blocks one after the other
 unfoldable pub flat : List (List ℕ) → List ℕ
 flat [] = []
 flat (m ∷ ms) = m ++ flat ms
 
+-- a message with its padding
 unfoldable pub padded : ℕ → List ℕ → List ℕ
 padded B message = cond (whole B message) message (message ++ (0x80 ∷ replicate (B - 1 - length (lastAt B message)) 0))
 
@@ -71,8 +72,9 @@ chained E c (m ∷ ms) = chained E (E (xorEach c m)) ms
 unfoldable pub cmac : ℕ → (List ℕ → List ℕ) → List ℕ → List ℕ
 cmac B E message = chained E (replicate B 0) (keyedLast (subkeyOf B (E (replicate B 0)) (whole B message)) (blocks B message))
 
--- the last block with its subkey, from the sealed zero block and what the last block has of the message
+-- the last block with its subkey, from the sealed zero block and what the last block has of the message. Code is held to it; the law `chainedTo-tag` says that
+-- it is the last block of `cmac`
 unfoldable pub keyedBlock : ℕ → List ℕ → List ℕ → List ℕ
-keyedBlock B zeros part =
+keyedBlock B sealed part =
     let t = eqb (length part) B in
-    xorEach (subkeyOf B zeros t) (cond t part (filled B part))
+    xorEach (subkeyOf B sealed t) (cond t part (filled B part))

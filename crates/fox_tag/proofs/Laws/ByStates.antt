@@ -16,7 +16,7 @@ use Rattle.fox_rounds.specs.Skeleton.{turned}
 use Rattle.fox_rounds.specs.declared.state.State.{State}
 use Rattle.fox_refusals.specs.Refusals.{blockSize}
 use Rattle.fox_block.specs.Block.{state, sealWith, BlockOf}
-use Rattle.fox_tag.specs.Cmac.{doubled, subkeyOf, before, blockAt, lastAt, filled, chained, keyedBlock}
+use Rattle.fox_tag.specs.Cmac.{doubled, subkeyOf, blocksBefore, blockAt, lastAt, filled, chained, keyedBlock}
 use Rattle.fox_tag.specs.Tag.{tagWith, chainOf}
 use Rattle.fox_tag.specs.States.{xorStates}
 use Rattle.fox_tag.proofs.Laws.Chain.{chainedTo-first, chainedTo-on, chainedTo-tag}
@@ -85,7 +85,7 @@ module _ (c : ℕ) (rks : List ℕ) (f : ℕ → List ℕ) where
 
 -- the last block with its subkey, chained after all others: the tag
 module _ (c : ℕ) (rks message : List ℕ) where
-  pub last-chained : sealWith c rks (xorEach (chainOf c rks message (before (blockSize c) message))
+  pub last-chained : sealWith c rks (xorEach (chainOf c rks message (blocksBefore (blockSize c) message))
       (keyedBlock (blockSize c) (sealWith c rks (replicate (blockSize c) 0)) (lastAt (blockSize c) message)))
       ≡ tagWith c rks message
   unfolding tagWith
@@ -93,7 +93,7 @@ module _ (c : ℕ) (rks message : List ℕ) where
 
   -- the same by states
   module _ (h : Bytes message) where
-    pub tag-state : {part : List ℕ} {last y z : State} → y ≡ state c (chainOf c rks message (before (blockSize c) message))
+    pub tag-state : {part : List ℕ} {last y z : State} → y ≡ state c (chainOf c rks message (blocksBefore (blockSize c) message))
         → part ≡ lastAt (blockSize c) message → length part ≤ blockSize c
         → last ≡ state c (keyedBlock (blockSize c) (sealWith c rks (replicate (blockSize c) 0)) part) → z ≡ turned true rks (xorStates y last)
         → z ≡ state c (tagWith c rks message)
@@ -101,9 +101,9 @@ module _ (c : ℕ) (rks message : List ℕ) where
     tag-state {part} done here few el e =
         let B = blockSize c in
         let L = sealWith c rks (replicate B 0) in
-        let bytes-of : Bytes part = subst Bytes (sym here) (take-bytes B (drop (before B message * B) message) (drop-bytes (before B message * B) message h)) in
+        let bytes-of : Bytes part = subst Bytes (sym here) (take-bytes B (drop (blocksBefore B message * B) message) (drop-bytes (blocksBefore B message * B) message h)) in
         absorbed c rks _ (keyedBlock B L part) (chained-block c rks _ _ (zero-block c)) (keyed-block c L part bytes-of few) done el e
-        ∙ ap (λ (l : List ℕ). state c (sealWith c rks (xorEach (chainOf c rks message (before B message)) (keyedBlock B L l)))) here
+        ∙ ap (λ (l : List ℕ). state c (sealWith c rks (xorEach (chainOf c rks message (blocksBefore B message)) (keyedBlock B L l)))) here
         ∙ ap (state c) last-chained
 
 -- the blocks of a message, with another in place of its last, chained

@@ -9,7 +9,7 @@ use lib.ListN.{length, replicate}
 use Rattle.fox_layers.specs.Words.{xorEach}
 use Rattle.fox_layers.specs.Lists.{numbered}
 use Rattle.fox_layers.proofs.Laws.Lists.{numbered-snoc}
-use Rattle.fox_tag.specs.Cmac.{before, blockAt, lastAt, whole, blocks, keyedLast, chained, cmac, keyedBlock}
+use Rattle.fox_tag.specs.Cmac.{blocksBefore, blockAt, lastAt, whole, blocks, keyedLast, chained, cmac, keyedBlock}
 
 chained-snoc : (E : List ℕ → List ℕ) (c : List ℕ) (ms : List (List ℕ)) (m : List ℕ) → chained E c (ms ++ (m ∷ [])) ≡ E (xorEach (chained E c ms) m)
 unfolding chained
@@ -43,11 +43,11 @@ module _ (B : ℕ) (E : List ℕ → List ℕ) (f : ℕ → List ℕ) where
 -- the blocks of a message
 module _ (B : ℕ) (E : List ℕ → List ℕ) (message : List ℕ) where
   -- the chain over all blocks before the last, then the last block with its subkey: the tag
-  pub chainedTo-tag : {c last tag : List ℕ} → ChainedTo B E (blockAt B message) (before B message) c → last ≡ keyedBlock B (E (replicate B 0)) (lastAt B message)
+  pub chainedTo-tag : {c last tag : List ℕ} → ChainedTo B E (blockAt B message) (blocksBefore B message) c → last ≡ keyedBlock B (E (replicate B 0)) (lastAt B message)
       → tag ≡ E (xorEach c last) → tag ≡ cmac B E message
   unfolding cmac blocks whole keyedBlock
   chainedTo-tag {c} {last} {tag} done key e =
-      let first = numbered (blockAt B message) (before B message) 0 in
+      let first = numbered (blockAt B message) (blocksBefore B message) 0 in
       e
       ∙ ap₂ (λ (x m : List ℕ). E (xorEach x m)) done key
       ∙ sym (chained-snoc E (replicate B 0) first _)
@@ -58,7 +58,7 @@ module _ (B : ℕ) (E : List ℕ → List ℕ) (message : List ℕ) (size : (blo
   pub length-cmac : length (cmac B E message) ≡ B
   unfolding cmac blocks
   length-cmac =
-      let first = numbered (blockAt B message) (before B message) 0 in
+      let first = numbered (blockAt B message) (blocksBefore B message) 0 in
       ap (λ (ms : List (List ℕ)). length (chained E (replicate B 0) ms)) (keyedLast-snoc _ first _)
       ∙ ap length (chained-snoc E (replicate B 0) first _)
       ∙ size _

@@ -11,7 +11,7 @@ use lib.Dec.{eqb, lit≤}
 use lib.ListN.{length, take, drop, length-drop}
 use lib.Seq.{length-take-le, take-all}
 use Rattle.fox_refusals.specs.Refusals.{blockSize}
-use Rattle.fox_tag.specs.Cmac.{before, blockAt, lastAt}
+use Rattle.fox_tag.specs.Cmac.{blocksBefore, blockAt, lastAt}
 
 -- the block size: at least one byte, at most 16
 
@@ -50,29 +50,29 @@ block-room B n i here within = rw (add-one i) (le-trans (mul-le-mul-right B here
 
 -- the blocks before the last
 
-pub before-within : (B : ℕ) (message : List ℕ) → before B message * B ≤ length message
-unfolding before
+pub before-within : (B : ℕ) (message : List ℕ) → blocksBefore B message * B ≤ length message
+unfolding blocksBefore
 before-within B message = omega (arith, div-add-mod' (length message - 1) B)
 
 -- one more than these fits where the message's length does
-pub one-more : (B : ℕ) (message : List ℕ) → length message < 2 ^ 64 → before B message + 1 < 2 ^ 64
-unfolding before
+pub one-more : (B : ℕ) (message : List ℕ) → length message < 2 ^ 64 → blocksBefore B message + 1 < 2 ^ 64
+unfolding blocksBefore
 one-more B message fits = omega (arith, div-le-self (length message - 1) B)
 
 -- the last block is what is left after the others, at most B bytes
 module _ (B : ℕ) (message : List ℕ) (some : 1 ≤ B) where
-  left-few : length (drop (before B message * B) message) ≤ B
-  unfolding before
-  left-few = rw (length-drop (before B message * B) message) (omega (arith, div-add-mod' (length message - 1) B, mod-lt (length message - 1) some))
+  left-few : length (drop (blocksBefore B message * B) message) ≤ B
+  unfolding blocksBefore
+  left-few = rw (length-drop (blocksBefore B message * B) message) (omega (arith, div-add-mod' (length message - 1) B, mod-lt (length message - 1) some))
 
-  pub last-is : lastAt B message ≡ drop (before B message * B) message
+  pub last-is : lastAt B message ≡ drop (blocksBefore B message * B) message
   unfolding blockAt
-  last-is = take-all B (drop (before B message * B) message) left-few
+  last-is = take-all B (drop (blocksBefore B message * B) message) left-few
 
   -- as code takes it
-  pub last-taken : take (length message - before B message * B) (drop (before B message * B) message) ≡ lastAt B message
+  pub last-taken : take (length message - blocksBefore B message * B) (drop (blocksBefore B message * B) message) ≡ lastAt B message
   last-taken =
-      take-all (length message - before B message * B) (drop (before B message * B) message) (omega (arith, length-drop (before B message * B) message))
+      take-all (length message - blocksBefore B message * B) (drop (blocksBefore B message * B) message) (omega (arith, length-drop (blocksBefore B message * B) message))
       ∙ sym last-is
 
   pub last-few : length (lastAt B message) ≤ B

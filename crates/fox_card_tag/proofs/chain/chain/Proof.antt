@@ -17,7 +17,7 @@ use Rattle.fox_refusals.specs.Refusals.{blockSize}
 use Rattle.fox_block.specs.Block.{state, bytes, sealWith, BlockOf}
 use Rattle.fox_block.proofs.Laws.Block.{state-size}
 use Rattle.fox_block.proofs.Laws.States.{bytes-state}
-use Rattle.fox_tag.specs.Cmac.{before}
+use Rattle.fox_tag.specs.Cmac.{blocksBefore}
 use Rattle.fox_tag.specs.Tag.{chainOf}
 use Rattle.fox_tag.proofs.Laws.ByStates.{ChainedState, chainedState-first, chainedState-on, withLast, withLast-block, all-chained}
 use Rattle.fox_tag.proofs.Laws.Parts.{size-some, before-within, one-more}
@@ -33,8 +33,8 @@ abbrev μ-loop : tie.MeasureT-loop
 μ-loop cipher rounds key message out s n y₀ i₀ i-end y i = n + 1 - i
 
 -- the blocks before the last lie within the message
-all-within : (cipher n : ℕ) {size : ℕ} (message : List ℕ) → size ≡ blockSize cipher → n ≡ before size message → n * blockSize cipher ≤ length message
-all-within cipher n message is many = rw (many ∙ ap (λ (b : ℕ). before b message) is) (before-within (blockSize cipher) message)
+all-within : (cipher n : ℕ) {size : ℕ} (message : List ℕ) → size ≡ blockSize cipher → n ≡ blocksBefore size message → n * blockSize cipher ≤ length message
+all-within cipher n message is many = rw (many ∙ ap (λ (b : ℕ). blocksBefore b message) is) (before-within (blockSize cipher) message)
 
 before-requires : tie.Need-before-requires Inv-loop μ-loop
 before-requires c κs =
@@ -47,7 +47,7 @@ add-i-end c =
     let start = many .before .before .before .before .before in
     let a = start .args in
     let fits = one-more (length (a .out .now)) (a .message .now) (search needs) in
-    omega (arith, many .before2 .ensures)
+    omega (arith, many .blocks-before .ensures)
 
 loop-holds : tie.Need-loop-holds Inv-loop μ-loop
 loop-holds c =
@@ -56,9 +56,9 @@ loop-holds c =
     let start = of .before .before .before .before in
     let a = start .args in (
       omega arith,
-      rw (many .before2 .ensures) (one-more (length (a .out .now)) (a .message .now) (search needs)),
+      rw (many .blocks-before .ensures) (one-more (length (a .out .now)) (a .message .now) (search needs)),
       chainedState-first (a .cipher) (roundKeysOf (of .of .result) (a .rounds))
-          (withLast (a .cipher) (roundKeysOf (of .of .result) (a .rounds)) (a .message .now) (a .out .now) (many .before2 .result)) (c .zero .ensures),
+          (withLast (a .cipher) (roundKeysOf (of .of .result) (a .rounds)) (a .message .now) (a .out .now) (many .blocks-before .result)) (c .zero .ensures),
     )
 
 block-at-requires : tie.Need-block-at-requires Inv-loop μ-loop
@@ -66,7 +66,7 @@ block-at-requires c κs =
     let many = c .before .before .before .before in
     let start = many .before .before .before .before .before in
     let a = start .args in
-    (all-within (a .cipher) _ (a .message .now) (start .pre .2) (many .before2 .ensures), start .pre .2)
+    (all-within (a .cipher) _ (a .message .now) (start .pre .2) (many .blocks-before .ensures), start .pre .2)
 
 loop-again : tie.Need-loop-again Inv-loop μ-loop
 loop-again c =
@@ -80,13 +80,13 @@ loop-again c =
     let start = message .before .before in
     let a = start .args in
     let rks = roundKeysOf (of .of .result) (a .rounds) in
-    let room = all-within (a .cipher) _ (a .message .now) (start .pre .2) (many .before2 .ensures) in
+    let room = all-within (a .cipher) _ (a .message .now) (start .pre .2) (many .blocks-before .ensures) in
     let last : BlockOf (a .cipher) (a .out .now) = record { size = start .pre .2; bytes = λ i. out .slice-known .given i .fits } in
-    let f = withLast (a .cipher) rks (a .message .now) (a .out .now) (many .before2 .result) in (
+    let f = withLast (a .cipher) rks (a .message .now) (a .out .now) (many .blocks-before .result) in (
       search needs,
       at .loop .inv .1,
       chainedState-on (a .cipher) rks f (at .loop .i)
-          (withLast-block (a .cipher) rks (a .message .now) (a .out .now) (many .before2 .result) (at .loop .i)
+          (withLast-block (a .cipher) rks (a .message .now) (a .out .now) (many .blocks-before .result) (at .loop .i)
           (λ i. message .shared-slice-known2 .given i .fits) room last)
           (at .loop .inv .2) (block .block-at .ensures) (c .turned .ensures ∙ ap (turned true rks) (xor .xored .ensures)),
     )
@@ -107,7 +107,7 @@ returns c =
     let start = out .before .before .before in
     let a = start .args in
     let rks = roundKeysOf (of .of .result) (a .rounds) in
-    let n = many .before2 .result in
+    let n = many .blocks-before .result in
     let all : at .loop .i ≡ n + 1 = search needs in
     let f = withLast (a .cipher) rks (a .message .now) (a .out .now) n in
     let done = subst (λ (k : ℕ). ChainedState (a .cipher) rks f k (at .loop .y)) all (at .loop .inv .2) in
@@ -116,7 +116,7 @@ returns c =
     ∙ ap bytes (done ∙ ap (state (a .cipher)) (all-chained (a .cipher) rks (a .message .now) (a .out .now) n))
     ∙ bytes-state (a .cipher) _ (sealed-block (a .cipher) rks _)
     ∙ ap₂ (λ (ks : List ℕ) (k : ℕ). sealWith (a .cipher) ks (xorEach (chainOf (a .cipher) ks (a .message .now) k) (a .out .now))) key
-    (many .before2 .ensures ∙ ap (λ (b : ℕ). before b (a .message .now)) (start .pre .2))
+    (many .blocks-before .ensures ∙ ap (λ (b : ℕ). blocksBefore b (a .message .now)) (start .pre .2))
 
 pub chain-spec : {M : Type 1} → statement M
 chain-spec =

@@ -8,7 +8,7 @@ use Rattle.fox_layers.specs.Words.{xorEach}
 use Rattle.fox_key_schedule.specs.Schedule.{roundKeys}
 use Rattle.fox_refusals.specs.Refusals.{blockSize}
 use Rattle.fox_block.specs.Block.{sealWith}
-use Rattle.fox_tag.specs.Cmac.{before}
+use Rattle.fox_tag.specs.Cmac.{blocksBefore}
 use Rattle.fox_tag.specs.Tag.{chainOf}
 use Rattle.fox_tag.proofs.Laws.ByStates.{last-chained}
 use Rattle.fox_card_tag.proofs.chain.tag.Statement.{statement}
@@ -21,7 +21,7 @@ returns c =
     let a = last .before .before .before .before .before .args in
     let rks = roundKeys (a .cipher) (a .rounds) (a .key .now) in
     chain .chain .ensures
-    ∙ ap (λ (l : List ℕ). sealWith (a .cipher) rks (xorEach (chainOf (a .cipher) rks (a .message .now) (before (blockSize (a .cipher)) (a .message .now))) l))
+    ∙ ap (λ (l : List ℕ). sealWith (a .cipher) rks (xorEach (chainOf (a .cipher) rks (a .message .now) (blocksBefore (blockSize (a .cipher)) (a .message .now))) l))
     (last .last-into .ensures)
     ∙ last-chained (a .cipher) rks (a .message .now)
 

@@ -6,32 +6,32 @@ use Prim.Native.Nat.{ℕ, _-_, _*_, _≤_}
 use native.Mathlib.Omega.{arith}
 use lib.ListN.{length, take, drop}
 use borrow.Author.Needs.{needs}
-use Rattle.fox_tag.specs.Cmac.{before}
+use Rattle.fox_tag.specs.Cmac.{blocksBefore}
 use Rattle.fox_tag.proofs.Laws.Parts.{before-within, last-taken, last-few}
 use Rattle.fox_engine_subkeys.proofs.parts.last_part.Statement.{statement}
 use Rattle.fox_engine_subkeys.proofs.parts.last_part.Tie as tie
 
 -- the last block begins within the message
-start-within : (n size : ℕ) (message : List ℕ) → n ≡ before size message → n * size ≤ length message
+start-within : (n size : ℕ) (message : List ℕ) → n ≡ blocksBefore size message → n * size ≤ length message
 start-within n size message e = rw e (before-within size message)
 
 mul-at : tie.Need-mul-at
 mul-at c =
     let a = c .before .before .args in
-    let within = start-within _ (a .size) (a .message .now) (c .before2 .ensures) in
+    let within = start-within _ (a .size) (a .message .now) (c .blocks-before .ensures) in
     omega arith
 
 sub-result : tie.Need-sub-result
-sub-result c = let a = c .before .before .args in start-within _ (a .size) (a .message .now) (c .before2 .ensures)
+sub-result c = let a = c .before .before .args in start-within _ (a .size) (a .message .now) (c .blocks-before .ensures)
 
 part-result-start : tie.Need-part-result-start
-part-result-start c = let a = c .before .before .args in start-within _ (a .size) (a .message .now) (c .before2 .ensures)
+part-result-start c = let a = c .before .before .args in start-within _ (a .size) (a .message .now) (c .blocks-before .ensures)
 
 returns : tie.Need-returns
 returns c =
     let start = c .before .before .before in
     let a = start .args in
-    let is = ap (λ (n : ℕ). take (length (a .message .now) - n * a .size) (drop (n * a .size) (a .message .now))) (c .before .before2 .ensures)
+    let is = ap (λ (n : ℕ). take (length (a .message .now) - n * a .size) (drop (n * a .size) (a .message .now))) (c .before .blocks-before .ensures)
     ∙ last-taken (a .size) (a .message .now) (start .pre) in
     (is, rw is (last-few (a .size) (a .message .now) (start .pre)))
 

@@ -26,7 +26,7 @@ chain128-requires : tie.Need-chain128-requires
 chain128-requires c κs =
     let many = c .before .before .before .before in
     let start = many .before .before in
-    (start .pre .0, (start .pre .1 .0, start .pre .1 .1, rw (many .before2 .ensures) (before-within 16 (start .args .message .now))))
+    (start .pre .0, (start .pre .1 .0, start .pre .1 .1, rw (many .blocks-before .ensures) (before-within 16 (start .args .message .now))))
 
 returns : tie.Need-returns
 unfolding blockSize xorStates
@@ -45,7 +45,7 @@ returns c =
     let sealed = turned-128 true 128 rks zeros isnt
     (seal .turn128 .ensures ∙ ap (turned true rks) (zero-128 (new .new .ensures) ∙ state-128 128 zeros isnt)) in
     tag-state 128 rks (a .message .now) (λ i. known .shared-slice-known .given i .fits)
-    (chain .chain128 .ensures ∙ ap (λ (k : ℕ). state 128 (chainOf 128 rks (a .message .now) k)) (many .before2 .ensures))
+    (chain .chain128 .ensures ∙ ap (λ (k : ℕ). state 128 (chainOf 128 rks (a .message .now) k)) (many .blocks-before .ensures))
     (part .last-part .ensures .0) (part .last-part .ensures .1)
     (ap Of128 (last .last128 .ensures ∙ ap (λ (l : List ℕ). state128 (keyedBlock 16 l (part .last-part .result .now))) sealed) ∙ sym (state-128 128 _ isnt))
     (c .turn1282 .ensures ∙ ap (λ (w : Fox128). turned true rks (Of128 w)) (xor .xor128 .ensures))

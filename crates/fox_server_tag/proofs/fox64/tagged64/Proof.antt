@@ -26,7 +26,7 @@ chain64-requires : tie.Need-chain64-requires
 chain64-requires c κs =
     let many = c .before .before .before .before in
     let start = many .before .before in
-    (start .pre .0, (start .pre .1 .0, start .pre .1 .1, rw (many .before2 .ensures) (before-within 8 (start .args .message .now))))
+    (start .pre .0, (start .pre .1 .0, start .pre .1 .1, rw (many .blocks-before .ensures) (before-within 8 (start .args .message .now))))
 
 returns : tie.Need-returns
 unfolding blockSize xorStates
@@ -45,7 +45,7 @@ returns c =
     let sealed = turned-64 true 64 rks zeros refl
     (seal .turn64 .ensures ∙ ap (turned true rks) (zero-64 (new .new .ensures) ∙ state-64 64 zeros refl)) in
     tag-state 64 rks (a .message .now) (λ i. known .shared-slice-known .given i .fits)
-    (chain .chain64 .ensures ∙ ap (λ (k : ℕ). state 64 (chainOf 64 rks (a .message .now) k)) (many .before2 .ensures))
+    (chain .chain64 .ensures ∙ ap (λ (k : ℕ). state 64 (chainOf 64 rks (a .message .now) k)) (many .blocks-before .ensures))
     (part .last-part .ensures .0) (part .last-part .ensures .1)
     (ap Of64 (last .last64 .ensures ∙ ap (λ (l : List ℕ). state64 (keyedBlock 8 l (part .last-part .result .now))) sealed) ∙ sym (state-64 64 _ refl))
     (c .turn642 .ensures ∙ ap (λ (w : Fox64). turned true rks (Of64 w)) (xor .xor64 .ensures))
