@@ -36,8 +36,8 @@ abbrev μ-loop : tie.MeasureT-loop
 all-within : (cipher n : ℕ) {size : ℕ} (message : List ℕ) → size ≡ blockSize cipher → n ≡ blocksBefore size message → n * blockSize cipher ≤ length message
 all-within cipher n message is many = rw (many ∙ ap (λ (b : ℕ). blocksBefore b message) is) (before-within (blockSize cipher) message)
 
-before-requires : tie.Need-before-requires Inv-loop μ-loop
-before-requires c κs =
+blocks-before-requires : tie.Need-blocks-before-requires Inv-loop μ-loop
+blocks-before-requires c κs =
     let start = c .before .before .before .before in
     rw (start .pre .2) (size-some (start .args .cipher))
 
@@ -120,5 +120,5 @@ returns c =
 
 pub chain-spec : {M : Type 1} → statement M
 chain-spec =
-    tie.close (tie.spec Inv-loop μ-loop (λ c κs. search needs) before-requires (λ c κs. search needs) add-i-end loop-holds block-at-requires
+    tie.close (tie.spec Inv-loop μ-loop (λ c κs. search needs) blocks-before-requires (λ c κs. search needs) add-i-end loop-holds block-at-requires
     (λ c κs. search needs) (λ c κs. search needs) (λ c. search needs) (λ c. search needs) loop-again write-requires (λ c. search needs) returns)
