@@ -1,6 +1,6 @@
 /* FOX64 and FOX128 for the station's C programs: one block sealed or opened, any stretch of a run in CTR
  * mode, and the tag of a message made and tested. Link with libfox.a or libfox.so. libfox_card.a has
- * fox_refusal_text and the calls named fox_card_ alone, in about a seventh of the code. C99 and C++.
+ * fox_refusal_text and the calls named fox_card_ alone, in about a ninth of the code. C99 and C++.
  *
  * The users' words, and what the field says:
  *
@@ -146,6 +146,8 @@ uint32_t fox_server_run(uint32_t cipher, uint32_t rounds, const uint8_t *key, si
  * any of them. It covers these bytes alone: a change of the cipher, rounds or counter block to open with, or
  * of the file's name, goes unseen unless these stand in the message as well. Give tags a key of their own:
  * under one key, sealed counter blocks, which whoever knows a run's plain bytes has, can help to forge a tag.
+ * SP 800-38B advises to tag no more than 2 to the 21 messages under one key with blocks of 64 bits, and no
+ * more than 2 to the 48 with blocks of 128.
  *
  * cipher, rounds, key, key_len  as for a block
  * message, message_len          0 to 1,073,741,824 bytes, the whole message in one call; of a longer one no

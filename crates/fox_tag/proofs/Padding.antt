@@ -110,6 +110,13 @@ zeros-differ ys m n e =
     let z : _≡_ {A = ℕ} 0 0x80 = sym (zeros-at m (length ys)) ∙ ap (λ (l : List ℕ). getD l (length ys) 0) e ∙ getD-append-seam ys 0x80 (replicate n 0) 0 in
     omega arith
 
+-- there are as few blocks as can be: those before the last are not enough for the message
+pub blocks-needed : (B : ℕ) (message : List ℕ) → 1 ≤ B → 1 ≤ length message → (length (blocks B message) - 1) * B < length message
+unfolding blocksBefore
+blocks-needed B message some any =
+    let many : length (blocks B message) - 1 ≡ blocksBefore B message = omega (arith, blocks-many B message some) in
+    rw many (omega (arith, div-add-mod' (length message - 1) B))
+
 -- a message is whole exactly where it has bytes and its length is a multiple of B
 module _ (B : ℕ) (message : List ℕ) (some : 1 ≤ B) where
   last-length : length (lastAt B message) ≡ length message - blocksBefore B message * B
