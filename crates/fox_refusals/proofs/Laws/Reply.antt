@@ -29,13 +29,15 @@ served-reply rs value before after r served refusal count output =
       output = output ∙ chosen (refusalOf rs) value before served;
     }
 
-pub refused-reply : (rs : List Refusal) (value before after : List ℕ) (r : Answer) → r .refusal ≡ refusalOf rs → (refusalOf rs ≡ 0 → ⊥) → r .count ≡ 0
-    → after ≡ before → Reply rs value before after r
-refused-reply rs value before after r refusal refused count output =
+-- a call that code refuses with the number n, which it found to be other than 0
+pub refused-reply : {rs : List Refusal} {value before : List ℕ} {r : Answer} {n : ℕ} → n ≡ refusalOf rs → (n ≡ 0 → ⊥) → (r .refusal ≡ n) × (r .count ≡ 0)
+    → Reply rs value before before r
+refused-reply {rs} {value} {before} e isnt refused =
+    let refusal : refusalOf rs ≡ 0 → ⊥ = λ z. isnt (e ∙ z) in
     record {
-      refusal = refusal;
-      count = count ∙ passed-over (refusalOf rs) (length before) 0 refused;
-      output = output ∙ passed-over (refusalOf rs) value before refused;
+      refusal = refused .0 ∙ e;
+      count = refused .1 ∙ passed-over (refusalOf rs) (length before) 0 refusal;
+      output = passed-over (refusalOf rs) value before refusal;
     }
 
 -- what a reply says

@@ -33,18 +33,17 @@ module _ (c : ℕ) (rks message : List ℕ) {y : State} (is : y ≡ state c (tag
 
 module _ (c rounds keyLen : ℕ) (rks message stored : List ℕ) {r : Answer} where
   -- a test that is refused before any tag is compared
-  pub test-refused : r .refusal ≡ refusalOf (forTag false c rounds keyLen (length message) (length stored))
-      → (refusalOf (forTag false c rounds keyLen (length message) (length stored)) ≡ 0 → ⊥) → r .count ≡ 0
-      → TestsTagWith c rounds keyLen rks message stored r
+  pub test-refused : {n : ℕ} → n ≡ refusalOf (forTag false c rounds keyLen (length message) (length stored)) → (n ≡ 0 → ⊥)
+      → (r .refusal ≡ n) × (r .count ≡ 0) → TestsTagWith c rounds keyLen rks message stored r
   unfolding orElse
-  test-refused refusal isnt count =
-      let n = refusalOf (forTag false c rounds keyLen (length message) (length stored)) in
+  test-refused {n} e isnt refused =
       let right = tagWith c rks message in
       record {
-        refusal = refusal
+        refusal = refused .0
             ∙ sym (ap (λ (t : Bool). cond t (cond (not (same right stored)) 10 0) n) (ne-eqb n 0 isnt))
+            ∙ ap (λ (m : ℕ). orElse m (not (same right stored)) 10) e
             ∙ tag-tested c rounds keyLen (length message) right stored;
-        count = count;
+        count = refused .1;
       }
 
   -- a test that compares

@@ -2,7 +2,7 @@
 -- round keys of the definition, and what is written is the definition's value.
 -- Assumes nothing.
 use borrow.Author.Needs.{needs}
-use mathlib.Core.Path.{refl, sym, ap, ap₂, _∙_}
+use mathlib.Core.Path.{sym, ap, ap₂, _∙_}
 use mathlib.Core.List.{List}
 use Prim.Native.Nat.{ℕ}
 use native.Mathlib.Omega.{arith}
@@ -19,10 +19,7 @@ use Rattle.fox_card_run.proofs.run.run.Statement.{statement}
 use Rattle.fox_card_run.proofs.run.run.Tie as tie
 
 returns : tie.Need-returns
-returns c =
-    let at = c .before in
-    let e = at .before .for-run .ensures in
-    refused-reply _ _ _ _ _ (c .refused .ensures .0 ∙ e) (λ z. at .if1 .taken (e ∙ z)) (c .refused .ensures .1) refl
+returns c = let at = c .before in refused-reply (at .before .for-run .ensures) (at .if1 .taken) (c .refused .ensures)
 
 of-requires : tie.Need-of-requires
 of-requires c κs = stretched _ _ _ _ _ _ _ (sym (c .before .for-run .ensures) ∙ c .if1 .left) .keyed .key

@@ -2,7 +2,7 @@
 -- definition's tag.
 -- Assumes nothing.
 use borrow.Author.Needs.{needs}
-use mathlib.Core.Path.{refl, sym, ap, _∙_}
+use mathlib.Core.Path.{sym, ap, _∙_}
 use Prim.Native.Nat.{ℕ}
 use native.Mathlib.Omega.{arith}
 use Rattle.fox_key_schedule.specs.Schedule.{roundKeys}
@@ -14,10 +14,7 @@ use Rattle.fox_card_tag.proofs.tag.make.Statement.{statement}
 use Rattle.fox_card_tag.proofs.tag.make.Tie as tie
 
 returns : tie.Need-returns
-returns c =
-    let at = c .before in
-    let e = at .before .for-tag .ensures in
-    refused-reply _ _ _ _ _ (c .refused .ensures .0 ∙ e) (λ z. at .if1 .taken (e ∙ z)) (c .refused .ensures .1) refl
+returns c = let at = c .before in refused-reply (at .before .for-tag .ensures) (at .if1 .taken) (c .refused .ensures)
 
 tag-requires : tie.Need-tag-requires
 tag-requires c κs =

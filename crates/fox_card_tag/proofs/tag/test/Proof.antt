@@ -19,8 +19,8 @@ returns c =
     let at = c .before in
     let call = at .before in
     let a = call .before .before .before .before .args in
-    let e = call .for-tag .ensures in
-    test-refused (a .cipher) (a .rounds) _ (roundKeys (a .cipher) (a .rounds) (a .key .now)) (a .message .now) (a .stored .now) (c .refused .ensures .0 ∙ e) (λ z. at .if1 .taken (e ∙ z)) (c .refused .ensures .1)
+    test-refused (a .cipher) (a .rounds) _ (roundKeys (a .cipher) (a .rounds) (a .key .now)) (a .message .now) (a .stored .now) (call .for-tag .ensures)
+    (at .if1 .taken) (c .refused .ensures)
 
 -- the front of a buffer of 16 bytes
 front-size : (n b : ℕ) → n ≡ b → b ≤ 16 → length {A = ℕ} (take (n - 0) (replicate 16 0)) ≡ b

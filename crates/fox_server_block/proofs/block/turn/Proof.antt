@@ -2,7 +2,7 @@
 -- step for the cipher needs them, and the round keys are those that the prepared key holds.
 -- Assumes nothing.
 use borrow.Author.Needs.{needs}
-use mathlib.Core.Path.{refl, sym, _∙_}
+use mathlib.Core.Path.{sym, _∙_}
 use Rattle.fox_refusals.proofs.Laws.Refusals.{blocked}
 use Rattle.fox_refusals.proofs.Laws.Reply.{served-reply, refused-reply}
 use Rattle.fox_block.proofs.Laws.Block.{size-64, size-128}
@@ -12,10 +12,7 @@ use Rattle.fox_server_block.proofs.block.turn.Statement.{statement}
 use Rattle.fox_server_block.proofs.block.turn.Tie as tie
 
 returns : tie.Need-returns
-returns c =
-    let at = c .before in
-    let e = at .before .for-block .ensures in
-    refused-reply _ _ _ _ _ (c .refused .ensures .0 ∙ e) (λ z. at .if1 .taken (e ∙ z)) (c .refused .ensures .1) refl
+returns c = let at = c .before in refused-reply (at .before .for-block .ensures) (at .if1 .taken) (c .refused .ensures)
 
 block64-requires : tie.Need-block64-requires
 block64-requires c κs =

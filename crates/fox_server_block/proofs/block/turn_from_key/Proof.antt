@@ -2,7 +2,7 @@
 -- of the definition.
 -- Assumes nothing.
 use borrow.Author.Needs.{needs}
-use mathlib.Core.Path.{refl, sym, _∙_}
+use mathlib.Core.Path.{sym, _∙_}
 use Rattle.fox_refusals.proofs.Laws.Refusals.{blocked}
 use Rattle.fox_refusals.proofs.Laws.Reply.{refused-reply}
 use Rattle.fox_server_block.proofs.ByPrepared.{turn-prepared}
@@ -10,10 +10,7 @@ use Rattle.fox_server_block.proofs.block.turn_from_key.Statement.{state
 use Rattle.fox_server_block.proofs.block.turn_from_key.Tie as tie
 
 returns : tie.Need-returns
-returns c =
-    let at = c .before in
-    let e = at .before .for-block .ensures in
-    refused-reply _ _ _ _ _ (c .refused .ensures .0 ∙ e) (λ z. at .if1 .taken (e ∙ z)) (c .refused .ensures .1) refl
+returns c = let at = c .before in refused-reply (at .before .for-block .ensures) (at .if1 .taken) (c .refused .ensures)
 
 returns-2 : tie.Need-returns-2
 returns-2 c =

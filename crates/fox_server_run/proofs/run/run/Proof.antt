@@ -1,7 +1,7 @@
 -- `run::run` meets its contract: a refused call returns the first refusal that applies and writes nothing; past the refusals rounds and lengths are as the
 -- stretch of the cipher needs them, and the round keys are those that the prepared key holds.
 -- Assumes nothing.
-use mathlib.Core.Path.{refl, sym, _∙_}
+use mathlib.Core.Path.{sym, _∙_}
 use Rattle.fox_refusals.proofs.Laws.Refusals.{stretched}
 use Rattle.fox_refusals.proofs.Laws.Reply.{served-reply, refused-reply}
 use Rattle.fox_block.proofs.Laws.Block.{size-64, size-128}
@@ -11,10 +11,7 @@ use Rattle.fox_server_run.proofs.run.run.Statement.{statement}
 use Rattle.fox_server_run.proofs.run.run.Tie as tie
 
 returns : tie.Need-returns
-returns c =
-    let at = c .before in
-    let e = at .before .for-run .ensures in
-    refused-reply _ _ _ _ _ (c .refused .ensures .0 ∙ e) (λ z. at .if1 .taken (e ∙ z)) (c .refused .ensures .1) refl
+returns c = let at = c .before in refused-reply (at .before .for-run .ensures) (at .if1 .taken) (c .refused .ensures)
 
 run64-requires : tie.Need-run64-requires
 run64-requires c κs =

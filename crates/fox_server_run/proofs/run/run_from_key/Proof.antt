@@ -1,7 +1,7 @@
 -- `run::run_from_key` meets its contract: the refusals are those of the key bytes; past them the prepared key is that of the key, and holds the round keys of
 -- the definition.
 -- Assumes nothing.
-use mathlib.Core.Path.{refl, sym, _∙_}
+use mathlib.Core.Path.{sym, _∙_}
 use Rattle.fox_refusals.proofs.Laws.Refusals.{stretched}
 use Rattle.fox_refusals.proofs.Laws.Reply.{refused-reply}
 use Rattle.fox_server_run.proofs.ByPrepared.{run-prepared}
@@ -10,10 +10,7 @@ use Rattle.fox_server_run.proofs.run.run_from_key.Statement.{statement}
 use Rattle.fox_server_run.proofs.run.run_from_key.Tie as tie
 
 returns : tie.Need-returns
-returns c =
-    let at = c .before in
-    let e = at .before .for-run .ensures in
-    refused-reply _ _ _ _ _ (c .refused .ensures .0 ∙ e) (λ z. at .if1 .taken (e ∙ z)) (c .refused .ensures .1) refl
+returns c = let at = c .before in refused-reply (at .before .for-run .ensures) (at .if1 .taken) (c .refused .ensures)
 
 returns-2 : tie.Need-returns-2
 returns-2 c =

@@ -2,7 +2,7 @@
 -- the round keys that the prepared key holds.
 -- Assumes nothing.
 use borrow.Author.Needs.{needs}
-use mathlib.Core.Path.{refl, sym, _∙_}
+use mathlib.Core.Path.{sym, _∙_}
 use native.Mathlib.Omega.{arith}
 use Rattle.fox_refusals.proofs.Laws.Refusals.{tagged}
 use Rattle.fox_refusals.proofs.Laws.Reply.{served-reply, refused-reply}
@@ -13,10 +13,7 @@ use Rattle.fox_server_tag.proofs.tag.make.Statement.{statement}
 use Rattle.fox_server_tag.proofs.tag.make.Tie as tie
 
 returns : tie.Need-returns
-returns c =
-    let at = c .before in
-    let e = at .before .for-tag .ensures in
-    refused-reply _ _ _ _ _ (c .refused .ensures .0 ∙ e) (λ z. at .if1 .taken (e ∙ z)) (c .refused .ensures .1) refl
+returns c = let at = c .before in refused-reply (at .before .for-tag .ensures) (at .if1 .taken) (c .refused .ensures)
 
 tag-requires : tie.Need-tag-requires
 tag-requires c κs =

@@ -16,9 +16,8 @@ returns c =
     let at = c .before in
     let call = at .before in
     let a = call .before .before .before .args in
-    let e = call .for-tag .ensures in
-    test-refused (a .p .cipher) (a .p .rounds) _ (roundKeysIn (a .p)) (a .message .now) (a .stored .now) (c .refused .ensures .0 ∙ e)
-    (λ z. at .if1 .taken (e ∙ z)) (c .refused .ensures .1)
+    test-refused (a .p .cipher) (a .p .rounds) _ (roundKeysIn (a .p)) (a .message .now) (a .stored .now) (call .for-tag .ensures)
+    (at .if1 .taken) (c .refused .ensures)
 
 tag-requires : tie.Need-tag-requires
 tag-requires c κs =

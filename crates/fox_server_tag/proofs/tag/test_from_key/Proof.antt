@@ -15,9 +15,8 @@ returns c =
     let at = c .before in
     let call = at .before in
     let a = call .before .before .before .before .args in
-    let e = call .for-tag .ensures in
-    test-refused (a .cipher) (a .rounds) _ (roundKeys (a .cipher) (a .rounds) (a .key .now)) (a .message .now) (a .stored .now)
-    (c .refused .ensures .0 ∙ e) (λ z. at .if1 .taken (e ∙ z)) (c .refused .ensures .1)
+    test-refused (a .cipher) (a .rounds) _ (roundKeys (a .cipher) (a .rounds) (a .key .now)) (a .message .now) (a .stored .now) (call .for-tag .ensures)
+    (at .if1 .taken) (c .refused .ensures)
 
 returns-2 : tie.Need-returns-2
 returns-2 c =
