@@ -1,6 +1,7 @@
 /* AES-128 (FIPS 197). Column c of the state is the bytes 4c to 4c + 3 of the block, and round keys are made as they are
  * needed. */
 #include "aes.h"
+#include "parts.h"
 
 #include <string.h>
 
@@ -9,15 +10,7 @@ enum { BLOCK = 16, ROUNDS = 10 };
 /* §4.2: bytes as polynomials modulo 11B. */
 static uint8_t times(unsigned a, unsigned b)
 {
-    unsigned sum = 0;
-    for (; b != 0; b >>= 1) {
-        if (b & 1)
-            sum ^= a;
-        a <<= 1;
-        if (a & 0x100)
-            a ^= 0x11B;
-    }
-    return (uint8_t)sum;
+    return second_product(a, b, 0x11B);
 }
 
 /* §5.1.1: the inverse, which is the power of 254, then the sum of 63 and five rotations of it. */

@@ -1,7 +1,7 @@
-/* The field of 256 elements (001 §1.6): bytes as polynomials modulo 1F9. */
+/* Fields of 256 elements: bytes as polynomials modulo one of degree 8, which for FOX is 1F9 (001 §1.6). */
 #include "parts.h"
 
-static uint8_t shift_and_add(unsigned a, unsigned b)
+uint8_t second_product(unsigned a, unsigned b, unsigned modulus)
 {
     unsigned sum = 0;
     for (; b != 0; b >>= 1) {
@@ -9,7 +9,7 @@ static uint8_t shift_and_add(unsigned a, unsigned b)
             sum ^= a;
         a <<= 1;
         if (a & 0x100)
-            a ^= 0x1F9;
+            a ^= modulus;
     }
     return (uint8_t)sum;
 }
@@ -20,7 +20,7 @@ uint8_t second_times(uint8_t a, uint8_t b)
     static uint8_t products[256][256];
     static int made = 0;
     for (unsigned i = 0; !made && i < 65536; i++)
-        products[i / 256][i % 256] = shift_and_add(i / 256, i % 256);
+        products[i / 256][i % 256] = second_product(i / 256, i % 256, 0x1F9);
     made = 1;
     return products[a][b];
 }

@@ -8,7 +8,8 @@
 
 enum { MOST_ROUNDS = 255, MOST_KEY = 32, MOST_BLOCK = 16 };
 
-/* field.c, §1.6 */
+/* field.c, §1.6: a product modulo a polynomial of degree 8, and FOX's */
+uint8_t second_product(unsigned a, unsigned b, unsigned modulus);
 uint8_t second_times(uint8_t a, uint8_t b);
 
 /* box.c, §2.2.6 and §3.1: sigma4 and sigma8, for any number of bytes */
