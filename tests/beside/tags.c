@@ -18,7 +18,7 @@ static void try_both(const struct call *c)
 static void short_messages(void)
 {
     group_begin("tags: messages at and around 0, B, 2B and 3B, and by chance");
-    for (size_t i = 0; i < 40; i++)
+    for (size_t i = 0; i < 20; i++)
         for (size_t around = 0; around <= 3; around++) {
             const size_t edge = around * block_of(cipher_by(i));
             for (size_t length = edge == 0 ? 0 : edge - 1; length <= edge + 1; length++) {
@@ -26,7 +26,7 @@ static void short_messages(void)
                 try_both(&c);
             }
         }
-    for (size_t i = 0; i < 1000; i++) {
+    for (size_t i = 0; i < 400; i++) {
         struct call c = right_tag(cipher_by(i), below(i % 10 == 0 ? 1500 : 150));
         try_both(&c);
     }
@@ -50,7 +50,7 @@ static void long_messages(void)
 static void keys(void)
 {
     group_begin("tags: keys of 0 to 33 bytes");
-    for (size_t i = 0; i < (FOX_MOST_KEY + 2) * 2 * 20; i++) {
+    for (size_t i = 0; i < (FOX_MOST_KEY + 2) * 2 * 5; i++) {
         struct call c = right_tag(cipher_by(i), below(50));
         c.key_len = i / 2 % (FOX_MOST_KEY + 2);
         store_tag(&c);
@@ -75,7 +75,7 @@ static void rounds(void)
 static void changed_bits(void)
 {
     group_begin("tags: one bit of the message, the key or the stored tag changed");
-    for (size_t i = 0; i < 1500; i++) {
+    for (size_t i = 0; i < 600; i++) {
         struct call c = right_tag(some_cipher(), 1 + below(60));
         c.key_len = 1 + below(FOX_MOST_KEY);
         store_tag(&c);
@@ -104,7 +104,7 @@ static void tag_lengths(void)
 static void damaged(void)
 {
     group_begin("damaged calls: tags");
-    for (int i = 0; i < 10000; i++) {
+    for (int i = 0; i < 3000; i++) {
         struct call c = right_tag(some_cipher(), below(40));
         damage_tag(&c);
         if (i % 2 == 0)
