@@ -32,8 +32,9 @@ static const char usage[] =
     "  LAST      its last byte, which is opened too; at most 1073741823, the last of the longest run\n"
     "\n"
     "Other users of the machine can see the words of a command, so they can see the key.\n"
-    "Under one key no two files may share a counter block: give each another counter, which differs from all the\n"
-    "others before its last four bytes, since these count up within a file.\n"
+    "A counter is one big-endian number, which counts up by one with each block of a file. Under one key no two files\n"
+    "may share a counter block: give each file another value in the bytes before the last four, and set the last four\n"
+    "to zero.\n"
     "The exit status is 0 for success, 1 for a refusal or trouble with a file, 2 for wrong words.\n";
 
 typedef uint32_t run_call(uint32_t, uint32_t, const uint8_t *, size_t, const uint8_t *, size_t, uint64_t,

@@ -122,11 +122,13 @@ uint32_t fox_server_open_block(uint32_t cipher, uint32_t rounds, const uint8_t *
  *
  * cipher, rounds, key, key_len  as for a block
  * counter, counter_len          the counter block that the whole run begins with, whatever the offset: 8
- *                               bytes for FOX64, 16 for FOX128. Its last four bytes, big-endian, count up by
- *                               one with each block of the run, and wrap; the other bytes stay. No counter
- *                               block may occur in two runs under one key, or anyone with both sealed runs
- *                               can XOR them and gets the XOR of the two plain texts: give each run another
- *                               value before those four bytes
+ *                               bytes for FOX64, 16 for FOX128. It is one big-endian number, which counts up
+ *                               by one with each block of the run, over its full width; after all ones comes
+ *                               zero. No counter block may occur in two runs under one key, or anyone with
+ *                               both sealed runs can XOR them and gets the XOR of the two plain texts. So
+ *                               give each run under one key another value in the bytes before the last four,
+ *                               and set the last four to zero: then no run counts on into the bytes before
+ *                               them, as one does that begins near FF FF FF FF there
  * offset                        the place in the run of the first byte of the data, counted from 0
  * data, data_len                0 to 65,536 bytes; offset + data_len is at most 1,073,741,824, and a length
  *                               of 0 is served at that very offset too

@@ -110,17 +110,17 @@ static void runs(void)
     group_end();
 }
 
-/* The stretch lies where the counter's low 32 bits go from ones to zeros, wherever in the run that is. */
+/* The stretch lies where the counter's last word, or its last few, go from ones to zeros, wherever in the run that is. */
 static void counters(void)
 {
-    group_begin("runs: counters whose low 32 bits wrap");
+    group_begin("runs: counters with a carry out of each word");
     for (int i = 0; i < 1000; i++) {
         uint32_t cipher = some_cipher();
         uint64_t b = block_of(cipher), number = i % 2 == 0 ? below(4) : below(FOX_RUN_END / b - 8);
         struct call c = right_run(cipher, 1 + below(6 * b), number * b + below(b));
         uint32_t low = (uint32_t)(0 - number - below(6));
-        if (i % 5 == 0)
-            memset(given.first, 0xFF, b);
+        size_t ones = 4 + 4 * below(b / 4);
+        memset(given.first + b - ones, 0xFF, ones);
         for (size_t j = 1; j <= 4; j++, low >>= 8)
             given.first[b - j] = (uint8_t)low;
         try_run(&c);

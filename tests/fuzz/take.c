@@ -4,6 +4,8 @@
 #include "beside.h"
 #include "fox.h"
 
+#include <string.h>
+
 enum { USUAL = 240, ODDER = 248, MANY_ROUNDS = 32 };
 
 struct input {
@@ -128,6 +130,16 @@ static size_t out_len_of(struct choice c, size_t right)
     return c.number % 256;
 }
 
+/* In a third of the runs the counter's last words are ones, but for four bits, so that a carry out of them is near. */
+static void take_counter(struct choice c, uint8_t *counter, size_t len)
+{
+    size_t ones = 4 + c.number % 4 * 4;
+    if (c.kind < 160 || len < ones)
+        return;
+    memset(counter + len - ones, 0xFF, ones);
+    counter[len - 1] ^= (uint8_t)(c.number >> 4 & 0x0F);
+}
+
 /* What is left of the input, again and again, and each time another. */
 static void take_data(const struct input *in, uint8_t *data, size_t len)
 {
@@ -178,6 +190,8 @@ struct job take_job(const uint8_t *bytes, size_t len)
         c->out_len = out_len_of(made[OUT_LEN], right_out_len(job.verb, c));
     take_bytes(&in, key, c->key_len);
     take_bytes(&in, first, c->first_len);
+    if (job.verb == RUN)
+        take_counter(made[FIRST_LEN], first, c->first_len);
     take_data(&in, data, data_behind(c));
     if (job.verb == TEST_TAG)
         take_stored(made[STORED], c, first);

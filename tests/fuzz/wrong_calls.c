@@ -8,7 +8,8 @@ enum {
     BYTE_WRONG = 1,
     REFUSALS_EXCHANGED,
     SUM_WRAPS,
-    COUNTER_CARRIES,
+    CARRY_LOST,
+    UPPER_CARRY_LOST,
     LAST_LENGTH_REFUSED,
     CIPHER_CUT,
     MOST_ROUNDS_WRONG,
@@ -37,8 +38,8 @@ uint32_t __real_fox_card_test_tag(uint32_t cipher, uint32_t rounds, const uint8_
 uint32_t __wrap_fox_card_test_tag(uint32_t cipher, uint32_t rounds, const uint8_t *key, size_t key_len,
                                   const uint8_t *message, size_t message_len, const uint8_t *tag, size_t tag_len);
 
-/* Whether the counting bytes of the counter wrap before the last byte of a run. */
-static int wraps(const uint8_t *counter, size_t counter_len, uint64_t last)
+/* Whether something is carried out of the counter's last word before the last byte of a run. */
+static int carries(const uint8_t *counter, size_t counter_len, uint64_t last)
 {
     uint64_t count = 0;
     for (size_t i = counter_len - 4; i < counter_len; i++)
@@ -46,12 +47,23 @@ static int wraps(const uint8_t *counter, size_t counter_len, uint64_t last)
     return count + last / counter_len > UINT32_MAX;
 }
 
+/* Whether all words between the first and the last are ones, so that what is carried goes on into the first. */
+static int carries_on(const uint8_t *counter, size_t counter_len)
+{
+    for (size_t i = 4; i < counter_len - 4; i++)
+        if (counter[i] != 0xFF)
+            return 0;
+    return counter_len > FOX64_BLOCK;
+}
+
 /* Whether a served run gets one byte changed. */
 static int spoilt(const uint8_t *counter, size_t counter_len, uint64_t offset, size_t data_len)
 {
     if (FAULT == BYTE_WRONG)
         return offset % 8 == 3 && data_len > 40;
-    return FAULT == COUNTER_CARRIES && data_len > 0 && wraps(counter, counter_len, offset + data_len - 1);
+    if (data_len == 0 || !carries(counter, counter_len, offset + data_len - 1))
+        return 0;
+    return FAULT == CARRY_LOST || (FAULT == UPPER_CARRY_LOST && carries_on(counter, counter_len));
 }
 
 uint32_t __wrap_fox_server_run(uint32_t cipher, uint32_t rounds, const uint8_t *key, size_t key_len,

@@ -38,14 +38,14 @@ seals_vectors() {
 }
 
 # A run later on is a run that begins with the counter that is reached there, as worked out by hand: after a first piece,
-# and at the end of the longest run. For FOX128 the counter wraps.
+# and at the end of the longest run. For FOX128 the counter's last word carries into the one before it.
 counts_on() {
     same_text "$(over_zeros 64 16 "$key64" 0123456789ABEDEF 0)" "$(over_zeros 64 16 "$key64" "$counter64" 65536)" &&
         same_text "$(over_zeros 64 16 "$key64" 0123456791ABCDED 0)" \
             "$(over_zeros 64 16 "$key64" "$counter64" 1073741808)" &&
-        same_text "$(over_zeros 128 12 "$key128" 0123456789ABCDEFFEDCBA9800000F00 0)" \
+        same_text "$(over_zeros 128 12 "$key128" 0123456789ABCDEFFEDCBA9900000F00 0)" \
             "$(over_zeros 128 12 "$key128" "$counter128" 65536)" &&
-        same_text "$(over_zeros 128 12 "$key128" 0123456789ABCDEFFEDCBA9803FFFEFF 0)" \
+        same_text "$(over_zeros 128 12 "$key128" 0123456789ABCDEFFEDCBA9903FFFEFF 0)" \
             "$(over_zeros 128 12 "$key128" "$counter128" 1073741808)"
 }
 

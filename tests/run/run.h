@@ -10,7 +10,7 @@ void rows(const struct engine *engine, const char *path);
 /* Calls spoilt in one way, in two and in more: the refusal that comes first is given, and nothing is changed. */
 void refusals(const struct engine *engine);
 
-/* The counter's lowest 32 bits count and wrap, and its other bytes stay. */
+/* A counter block is one big-endian number as wide as the block, which counts up by one and wraps. */
 void counters(const struct engine *engine);
 
 /* Served and refused calls with their buffers beside pages that may not be touched. */

@@ -59,16 +59,14 @@ uint32_t second_block(int opening, uint32_t cipher, uint32_t rounds, const uint8
     return 0;
 }
 
-/* The counter's last four bytes count and wrap; what is carried out of them is dropped. */
+/* The counter is one big-endian number as wide as the block; what is carried out of its first byte is dropped. */
 static void counter_block(uint8_t *x, const uint8_t *counter, size_t block, uint64_t number)
 {
     unsigned carry = 0;
-    memcpy(x, counter, block);
-    for (size_t i = 1; i <= 4; i++) {
-        unsigned sum = x[block - i] + (unsigned)(number & 0xFF) + carry;
-        x[block - i] = (uint8_t)sum;
+    for (size_t i = block; i-- > 0; number >>= 8) {
+        unsigned sum = counter[i] + (unsigned)(number & 0xFF) + carry;
+        x[i] = (uint8_t)sum;
         carry = sum >> 8;
-        number >>= 8;
     }
 }
 

@@ -143,22 +143,30 @@ static void known_limits(void)
     group_end();
 }
 
-/* The key stream is the sealed counter blocks: the one of ones in its low 32 bits, and then the one of zeros there. */
-static void known_counter(void)
+/* The key stream is the sealed counter blocks: one whose last `ones` bytes are ones, and then the one with zeros there
+ * and one more before them. */
+static void known_carry(size_t b, size_t ones)
 {
     static const uint8_t zeros[32] = {0};
-    group_begin("a counter ending in FFFFFFFF is followed by one ending in 00000000");
-    for (size_t b = 8; b <= 16; b += 8) {
-        uint32_t cipher = (uint32_t)b * 8;
-        uint8_t counter[16], stream[32], sealed[32];
-        memset(counter, 0xA5, sizeof counter);
-        memset(counter + b - 4, 0xFF, 4);
-        same_number(second_run(cipher, 16, zeros, 16, counter, b, 0, zeros, 2 * b, stream, 2 * b), 0, "run");
-        second_block(0, cipher, 16, zeros, 16, counter, b, sealed, b);
-        memset(counter + b - 4, 0, 4);
-        second_block(0, cipher, 16, zeros, 16, counter, b, sealed + b, b);
-        same_bytes(stream, sealed, 2 * b, "key stream");
-    }
+    uint32_t cipher = (uint32_t)b * 8;
+    uint8_t counter[16], stream[32], sealed[32];
+    memset(counter, 0xA5, b);
+    memset(counter + b - ones, 0xFF, ones);
+    same_number(second_run(cipher, 16, zeros, 16, counter, b, 0, zeros, 2 * b, stream, 2 * b), 0, "run");
+    second_block(0, cipher, 16, zeros, 16, counter, b, sealed, b);
+    memset(counter + b - ones, 0, ones);
+    if (ones < b)
+        counter[b - ones - 1] = 0xA6;
+    second_block(0, cipher, 16, zeros, 16, counter, b, sealed + b, b);
+    same_bytes(stream, sealed, 2 * b, "key stream");
+}
+
+static void known_counter(void)
+{
+    group_begin("a counter block plus one: carries out of every byte, and ones followed by zeros");
+    for (size_t b = 8; b <= 16; b += 8)
+        for (size_t ones = 0; ones <= b; ones++)
+            known_carry(b, ones);
     group_end();
 }
 

@@ -396,20 +396,22 @@ static inline void seal128_small(const struct mixed *m, struct state128 *s)
     small128(s, key[0], key[1]);
 }
 
-/* Runs. The counter's last word counts. */
+/* Runs. The counter is one number as wide as the block. */
 
 static inline void count64(struct state64 *s, const uint8_t *counter, uint64_t number)
 {
-    s->l = load4(counter);
-    s->r = load4(counter + 4) + (uint32_t)number;
+    uint64_t sum = load8(counter) + number;
+    s->l = (uint32_t)(sum >> 32);
+    s->r = (uint32_t)sum;
 }
 
 static inline void count128(struct state128 *s, const uint8_t *counter, uint64_t number)
 {
-    s->a = load4(counter);
-    s->b = load4(counter + 4);
-    s->c = load4(counter + 8);
-    s->d = load4(counter + 12) + (uint32_t)number;
+    uint64_t low = load8(counter + 8) + number, high = load8(counter) + (low < number);
+    s->a = (uint32_t)(high >> 32);
+    s->b = (uint32_t)high;
+    s->c = (uint32_t)(low >> 32);
+    s->d = (uint32_t)low;
 }
 
 static inline void store4(uint8_t *p, uint32_t w)

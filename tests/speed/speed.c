@@ -189,7 +189,8 @@ static int others_agree(void)
         for (size_t k = 0; k < COUNT(lengths); k++) {
             set(c, k % 2 == 0 ? 16 : 13, lengths[k]);
             fill_from(c + k, counter, sizeof counter);
-            memset(counter + c / 8 - 4, 0xFF, k % 4);
+            size_t ones = k % 5 * 4 < c / 8 ? k % 5 * 4 : c / 8;
+            memset(counter + c / 8 - ones, 0xFF, ones);
             for (size_t i = 0; i < COUNT(offsets); i++)
                 if (!agrees(offsets[i], 0) || !agrees(offsets[i], 1) || !agrees(offsets[i], 333))
                     return 0;

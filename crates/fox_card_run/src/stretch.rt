@@ -7,7 +7,7 @@ ghost use Rattle.fox_run.specs.Run.{xorFrom};
 ghost use Rattle.fox_run.specs.States.{stream};
 ghost use Rattle.fox_run.specs.Parts.{Part};
 use fox_card_block::rounds::turned;
-use fox_engine_run::counter::counted;
+use fox_engine_counter::states::counted;
 use fox_engine_run::key_stream::xor_part;
 use fox_key_schedule::schedule::Schedule;
 use fox_rounds::state::State;

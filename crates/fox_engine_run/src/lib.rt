@@ -1,3 +1,2 @@
-// The steps of a run in counter mode that every engine takes: counter blocks as states, and a sealed counter block XORed with bytes.
-pub mod counter;
+// The step of a run in counter mode that every engine takes with a sealed counter block: it is XORed with bytes.
 pub mod key_stream;

@@ -1,6 +1,6 @@
--- The key stream as the code computes it: the first counter block as a state, counted on in its last word, and sealed.
+-- The key stream as the code computes it: the first counter block as a state, counted on word by word, and sealed.
 -- Assumes nothing.
-use Prim.Native.Nat.{ℕ, _+_, _%_, _^_}
+use Prim.Native.Nat.{ℕ, _+_, _/_, _%_, _^_}
 use mathlib.Core.Bool.{true}
 use mathlib.Core.List.{List}
 use Rattle.fox_rounds.specs.Skeleton.{size, turned}
@@ -11,12 +11,20 @@ use Rattle.fox_rounds.specs.declared.state.State.the-variants.{Of64, Of128}
 use Rattle.fox_block.specs.Block.{bytes}
 use Rattle.fox_run.specs.Run.{streamed}
 
--- the state of counter block number i, from that of the first: its last word plus i, mod 2³²
+-- what is carried out of a word when n is added to it
+unfoldable pub carry : ℕ → ℕ → ℕ
+carry w n = (w + n) / 2 ^ 32
+
+-- the state of counter block number i, from that of the first: i is added to the last word, and to each word before it what is carried out of the next
 unfoldable pub counted64 : Fox64 → ℕ → Fox64
-counted64 x i = record { l = x .l; r = (x .r + i) % 2 ^ 32 }
+counted64 x i = record { l = (x .l + carry (x .r) i) % 2 ^ 32; r = (x .r + i) % 2 ^ 32 }
 
 unfoldable pub counted128 : Fox128 → ℕ → Fox128
-counted128 x i = record { ll = x .ll; lr = x .lr; rl = x .rl; rr = (x .rr + i) % 2 ^ 32 }
+counted128 x i =
+    let a = carry (x .rr) i in
+    let b = carry (x .rl) a in
+    let c = carry (x .lr) b in
+    record { ll = (x .ll + c) % 2 ^ 32; lr = (x .lr + b) % 2 ^ 32; rl = (x .rl + a) % 2 ^ 32; rr = (x .rr + i) % 2 ^ 32 }
 
 unfoldable pub counted : State → ℕ → State
 counted (Of64 x) i = Of64 (counted64 x i)

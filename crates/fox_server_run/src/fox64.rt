@@ -11,7 +11,7 @@ ghost use Rattle.fox_run.specs.Run.{xorFrom};
 ghost use Rattle.fox_run.specs.States.{stream};
 ghost use Rattle.fox_run.specs.Parts.{Part, Ready};
 use fox_engine_block::blocks::read64;
-use fox_engine_run::counter::counted64;
+use fox_engine_counter::states::counted64;
 use fox_engine_run::key_stream::xor_part64;
 use fox_rounds::fox64::Fox64;
 use fox_server_rounds::fox64::turn64;

@@ -11,7 +11,7 @@ ghost use Rattle.fox_server_rounds.specs.Tables.{TablesOf};
 ghost use Rattle.fox_block.specs.Block.{bytes128};
 ghost use Rattle.fox_run.specs.States.{counted128, stream};
 ghost use Rattle.fox_run.specs.Parts.{XoredTo};
-use fox_engine_run::counter::counted128;
+use fox_engine_counter::states::counted128;
 use fox_engine_run::key_stream::xor_whole128;
 use fox_rounds::fox128::Fox128;
 use fox_server_rounds_four::fox128::Four128;

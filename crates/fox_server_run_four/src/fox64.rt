@@ -11,7 +11,7 @@ ghost use Rattle.fox_server_rounds.specs.Tables.{TablesOf};
 ghost use Rattle.fox_block.specs.Block.{bytes64};
 ghost use Rattle.fox_run.specs.States.{counted64, stream};
 ghost use Rattle.fox_run.specs.Parts.{XoredTo};
-use fox_engine_run::counter::counted64;
+use fox_engine_counter::states::counted64;
 use fox_engine_run::key_stream::xor_whole64;
 use fox_rounds::fox64::Fox64;
 use fox_server_rounds_four::fox64::Four64;

@@ -1,17 +1,16 @@
 -- The words that a key's bytes join to, at each width that the schedules read. A key's bytes are those of its words of 64 bits, one after the other. Words of
 -- 2·n bytes are also twice as many words of n bytes, so the same bytes read as halves, or as pairs, give the words' halves, or pairs.
 -- Assumes nothing.
-use mathlib.Core.Path.{_≡_, refl, ap, _∙_}
-use mathlib.Core.List.{List, [], _∷_, _++_, map, append-assoc}
-use Prim.Native.Nat.{ℕ, zero, suc, _+_, _*_, _/_, _%_, _^_, _<_}
-use native.Mathlib.Nat.{zero-add, suc-add, mod-eq-of-lt}
-use native.Mathlib.Omega.{arith}
+use mathlib.Core.Path.{_≡_, refl, _∙_}
+use mathlib.Core.List.{List, [], _∷_, map, append-assoc}
+use Prim.Native.Nat.{ℕ, _+_, _*_, _/_, _%_, _^_, _<_}
+use native.Mathlib.Nat.{mod-eq-of-lt}
 use lib.Arith.{digits-lt}
-use lib.Pow.{shr-shr, shr-mod, high}
+use lib.Pow.{shr-mod, high}
 use lib.ListN.{length}
 use lib.Seq.{take-at, drop-at}
 use Rattle.fox_layers.specs.Words.{split}
-use Rattle.fox_layers.proofs.Laws.Words.{length-split, joined-split-low, split-above}
+use Rattle.fox_layers.proofs.Laws.Words.{length-split, joined-split-low, split-above, split-parts}
 use Rattle.fox_key_mixing.specs.declared.key_bytes.Key16.{Key16}
 use Rattle.fox_key_mixing.specs.declared.key_bytes.Key32.{Key32}
 use Rattle.fox_key_mixing.specs.KeyBytes.{bytes16, bytes32}
@@ -29,14 +28,6 @@ words-wordBytes n [] = refl
 words-wordBytes n (w ∷ ws) =
     let whole = length-split n w in
     rw (take-at (split n w) (wordBytes n ws) n whole, drop-at (split n w) (wordBytes n ws) n whole, joined-split-low n w, words-wordBytes n ws)
-
--- the bytes above the lowest n, followed by these
-split-parts : (m n w : ℕ) → split (m + n) w ≡ split m (w / 2 ^ (8 * n)) ++ split n w
-unfolding split
-split-parts zero n w = ap (λ (k : ℕ). split k w) (zero-add n)
-split-parts (suc m) n w =
-    let place : 8 * (m + n) ≡ 8 * n + 8 * m = omega arith in
-    rw (suc-add m n, place, ← (shr-shr w (8 * n) (8 * m)), split-parts m n w)
 
 wordBytes-halved : (n : ℕ) (ws : List ℕ) → wordBytes (n + n) ws ≡ wordBytes n (halved n ws)
 wordBytes-halved n [] = refl

@@ -3,10 +3,10 @@
 use mathlib.Core.Path.{_≡_, refl, sym, ap, _∙_}
 use mathlib.Core.List.{List, [], _∷_, _++_, map}
 use Prim.Native.Nat.{ℕ, zero, suc, _+_, _*_, _/_, _%_, _^_, _<_}
-use native.Mathlib.Nat.{add-comm, mul-suc, mul-add, mod-lt, mod-one, div-one, mod-eq-of-lt, zero-lt-suc, suc-inj, mul-add-div-right, mul-add-mod-self-right}
+use native.Mathlib.Nat.{zero-add, suc-add, add-comm, mul-suc, mul-add, mod-lt, mod-one, div-one, mod-eq-of-lt, zero-lt-suc, suc-inj, mul-add-div-right, mul-add-mod-self-right}
 use native.Mathlib.Omega.{arith}
 use lib.Arith.{digits-lt}
-use lib.Pow.{pow-add, pow-pos, mod-pow-add, high}
+use lib.Pow.{pow-add, pow-pos, mod-pow-add, shr-shr, high}
 use lib.ListN.{length, take, drop, length-append}
 use lib.Bits.{xor-block, xor-shr, xor-mod, xor-lt}
 use Rattle.fox_layers.specs.Words.{_⊕_, joined, split, Bytes, xorEach}
@@ -39,6 +39,14 @@ split-above (suc n) h w =
     let above : h * 2 ^ (8 * suc n) ≡ h * 256 * 2 ^ (8 * n) = rw (pow-byte n) (omega arith) in
     let byte = mul-add-mod-self-right h 256 (w / 2 ^ (8 * n)) in
     rw (above, mul-add-div-right (pow-pos (8 * n)) (h * 256) w, byte, split-above n (h * 256) w)
+
+-- the bytes above the lowest n, followed by these
+pub split-parts : (m n w : ℕ) → split (m + n) w ≡ split m (w / 2 ^ (8 * n)) ++ split n w
+unfolding split
+split-parts zero n w = ap (λ (k : ℕ). split k w) (zero-add n)
+split-parts (suc m) n w =
+    let place : 8 * (m + n) ≡ 8 * n + 8 * m = omega arith in
+    rw (suc-add m n, place, ← (shr-shr w (8 * n) (8 * m)), split-parts m n w)
 
 -- the bytes of a split, joined again, are the word's lowest n bytes
 pub joined-split-low : (n w : ℕ) → joined (split n w) ≡ w % 2 ^ (8 * n)

@@ -2,27 +2,27 @@
 -- counter blocks as states: the state of counter block number i is the first one's, counted on by i.
 -- Assumes nothing.
 use mathlib.Core.Path.{_≡_, refl, sym, ap, ap₂, _∙_}
-use mathlib.Core.Bool.{Bool, true, false, cond}
+use mathlib.Core.Bool.{true}
 use mathlib.Core.List.{List, [], _∷_, _++_}
-use Prim.Native.Nat.{ℕ, zero, suc, _+_, _*_, _-_, _/_, _%_, _^_, _≤_, _<_, min}
-use native.Mathlib.Nat.{add-zero, zero-mul, mod-lt, mod-eq-of-lt, div-eq-of-lt, mul-add-div-right, mul-add-mod-self-right, div-add-mod', zero-lt-suc}
+use Prim.Native.Nat.{ℕ, zero, suc, _+_, _*_, _-_, _/_, _%_, _<_, min}
+use native.Mathlib.Nat.{add-zero, zero-mul, mod-lt, mod-eq-of-lt, div-eq-of-lt, mul-add-div-right, mul-add-mod-self-right, div-add-mod'}
 use native.Mathlib.Omega.{arith}
-use lib.Dec.{eqb, lit≤}
-use lib.ListN.{length, take, drop, getD, length-append, length-drop, take-append-drop}
-use lib.Seq.{length-take-le, take-all, drop-at, take-append-le, drop-append-le, getD-drop}
-use Rattle.fox_layers.specs.Words.{_⊕_, joined, split, xorEach}
-use Rattle.fox_layers.proofs.Laws.Words.{length-split, joined-split}
+use lib.Dec.{lit≤}
+use lib.ListN.{length, take, drop, getD, length-append, length-drop}
+use lib.Seq.{getD-drop}
+use Rattle.fox_layers.specs.Words.{_⊕_, xorEach}
 use Rattle.fox_rounds.specs.Skeleton.{size, turned}
 use Rattle.fox_rounds.specs.declared.state.State.{State}
 use Rattle.fox_rounds.specs.declared.state.State.the-variants.{Of64, Of128}
 use Rattle.fox_refusals.specs.Refusals.{blockSize}
-use Rattle.fox_block.specs.Block.{state64, state128, state, bytes, turnWith}
+use Rattle.fox_block.specs.Block.{state, bytes, turnWith}
 use Rattle.fox_block.proofs.Laws.Block.{state-size, turned-size, length-bytes}
 use Rattle.fox_run.specs.Counter.{counterBlock}
 use Rattle.fox_run.specs.Run.{streamed, xorFrom, keyStream, runWith}
-use Rattle.fox_run.specs.States.{counted64, counted128, counted, sealed, stream}
+use Rattle.fox_run.specs.States.{counted, sealed, stream}
 use Rattle.fox_bytes.proofs.Laws.XorEach.{length-xorEach-min, take-xorEach}
 use Rattle.fox_run.proofs.Laws.XorFrom.{xorFrom-same}
+use Rattle.fox_run.proofs.Laws.Counting.{counted-state}
 
 -- the bytes of a stream from its byte n on are those of a list, up to the end of the list
 abbrev pub StreamHas : (ℕ → ℕ) → ℕ → List ℕ → Type 0
@@ -116,56 +116,6 @@ pub size-pos : (x : State) → 0 < size x
 unfolding size
 size-pos (Of64 x) = lit≤ tt
 size-pos (Of128 x) = lit≤ tt
-
--- a part that lies in the first of two lists
-part-first : (at m : ℕ) (xs ys : List ℕ) → at + m ≤ length xs → take m (drop at (xs ++ ys)) ≡ take m (drop at xs)
-part-first at m xs ys h =
-    ap (take m) (drop-append-le at xs ys (omega arith)) ∙ take-append-le m (drop at xs) ys (rw (length-drop at xs) (omega arith))
-
--- the words of a counter block: those before the last stay, and the last one counts
-module _ (counter : List ℕ) (k i : ℕ) (e : length counter ≡ k + 4) where
-  block-is : counterBlock counter i ≡ take k counter ++ split 4 ((joined (drop k counter) + i) % 2 ^ 32)
-  unfolding counterBlock
-  block-is =
-      let kept : length counter - 4 ≡ k = omega arith in
-      ap (λ (m : ℕ). take m counter ++ split 4 ((joined (drop m counter) + i) % 2 ^ 32)) kept
-
-  word-kept : (at : ℕ) → at + 4 ≤ k → joined (take 4 (drop at (counterBlock counter i))) ≡ joined (take 4 (drop at counter))
-  word-kept at h =
-      let l : at + 4 ≤ length (take k counter) = rw (length-take-le k counter (omega arith)) h in
-      ap joined
-      (ap (λ (xs : List ℕ). take 4 (drop at xs)) block-is ∙ part-first at 4 (take k counter) _ l
-      ∙ sym (part-first at 4 (take k counter) (drop k counter) l) ∙ ap (λ (xs : List ℕ). take 4 (drop at xs)) (take-append-drop k counter))
-
-  word-counted : joined (take 4 (drop k (counterBlock counter i))) ≡ (joined (take 4 (drop k counter)) + i) % 2 ^ 32
-  word-counted =
-      let w = (joined (drop k counter) + i) % 2 ^ 32 in
-      let last : drop k (counterBlock counter i) ≡ split 4 w =
-      ap (drop k) block-is ∙ drop-at (take k counter) (split 4 w) k (length-take-le k counter (omega arith)) in
-      let all : take 4 (drop k counter) ≡ drop k counter = take-all 4 (drop k counter) (rw (length-drop k counter) (omega arith)) in
-      ap (λ (xs : List ℕ). joined (take 4 xs)) last ∙ ap joined (take-all 4 (split 4 w) (rw (length-split 4 w) (omega arith)))
-      ∙ joined-split 4 w (mod-lt _ (zero-lt-suc 4294967295)) ∙ ap (λ (xs : List ℕ). (joined xs + i) % 2 ^ 32) (sym all)
-
-counted-64 : (counter : List ℕ) (i : ℕ) → length counter ≡ 8 → state64 (counterBlock counter i) ≡ counted64 (state64 counter) i
-unfolding state64 counted64
-counted-64 counter i e = λ j. record { l = word-kept counter 4 i e 0 (omega arith) j; r = word-counted counter 4 i e j }
-
-counted-128 : (counter : List ℕ) (i : ℕ) → length counter ≡ 16 → state128 (counterBlock counter i) ≡ counted128 (state128 counter) i
-unfolding state128 counted128
-counted-128 counter i e =
-    let kept = word-kept counter 12 i e in
-    λ j.
-    record { ll = kept 0 (omega arith) j; lr = kept 4 (omega arith) j; rl = kept 8 (omega arith) j; rr = word-counted counter 12 i e j }
-
-counted-state : (c : ℕ) (counter : List ℕ) (i : ℕ) → length counter ≡ blockSize c → state c (counterBlock counter i) ≡ counted (state c counter) i
-unfolding state blockSize counted
-counted-state c counter i e = there (eqb c 64) e
-  where
-    there : (t : Bool) → length counter ≡ cond t 8 16
-        → cond t (Of64 (state64 (counterBlock counter i))) (Of128 (state128 (counterBlock counter i)))
-        ≡ counted (cond t (Of64 (state64 counter)) (Of128 (state128 counter))) i
-    there true n = ap Of64 (counted-64 counter i n)
-    there false n = ap Of128 (counted-128 counter i n)
 
 -- a run is the bytes XORed with the stream of the first counter block's state
 pub run-streamed : (c : ℕ) (rks counter : List ℕ) (n : ℕ) (ds : List ℕ) → length counter ≡ blockSize c

@@ -1,12 +1,12 @@
--- `counter::counted` meets its contract: for either cipher it counts as that cipher's function does.
+-- `states::counted` meets its contract: for either cipher it counts as that cipher's function does.
 -- Assumes nothing.
 use borrow.Author.Needs.{needs}
 use mathlib.Core.Path.{sym, ap, _∙_}
 use Rattle.fox_rounds.specs.declared.state.State.{State}
 use Rattle.fox_rounds.specs.declared.state.State.the-variants.{Of64, Of128}
 use Rattle.fox_run.specs.States.{counted}
-use Rattle.fox_engine_run.proofs.counter.counted.Statement.{statement}
-use Rattle.fox_engine_run.proofs.counter.counted.Tie as tie
+use Rattle.fox_engine_counter.proofs.states.counted.Statement.{statement}
+use Rattle.fox_engine_counter.proofs.states.counted.Tie as tie
 
 returns : tie.Need-returns
 unfolding counted

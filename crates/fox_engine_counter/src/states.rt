@@ -1,16 +1,23 @@
 // Counter blocks as states: how a run counts, in code.
 ghost use mathlib.Core.Path.{_≡_};
-ghost use Rattle.fox_run.specs.States.{counted64, counted128, counted};
+ghost use Rattle.fox_run.specs.States.{carry, counted64, counted128, counted};
 use fox_rounds::fox64::Fox64;
 use fox_rounds::fox128::Fox128;
 use fox_rounds::state::State;
 use std::num::wrapping_add_u32;
 
+fn carry(w: u32, n: u32) -> u32
+    ensures { λ r. ⌜ r ≡ carry w n ⌝ }
+{
+    ((w as u64 + n as u64) / 0x1_0000_0000) as u32
+}
+
 pub fn counted64(x: Fox64, i: u32) -> Fox64
     ensures { λ r. ⌜ r ≡ counted64 x i ⌝ }
 {
+    let a = carry(x.r, i);
     Fox64 {
-        l: x.l,
+        l: wrapping_add_u32(x.l, a),
         r: wrapping_add_u32(x.r, i),
     }
 }
@@ -18,10 +25,13 @@ pub fn counted64(x: Fox64, i: u32) -> Fox64
 pub fn counted128(x: Fox128, i: u32) -> Fox128
     ensures { λ r. ⌜ r ≡ counted128 x i ⌝ }
 {
+    let a = carry(x.rr, i);
+    let b = carry(x.rl, a);
+    let c = carry(x.lr, b);
     Fox128 {
-        ll: x.ll,
-        lr: x.lr,
-        rl: x.rl,
+        ll: wrapping_add_u32(x.ll, c),
+        lr: wrapping_add_u32(x.lr, b),
+        rl: wrapping_add_u32(x.rl, a),
         rr: wrapping_add_u32(x.rr, i),
     }
 }
