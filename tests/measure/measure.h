@@ -5,7 +5,7 @@
 /* The stack that each call takes, held to what fox.h says. */
 void stacks(void);
 
-/* The instructions that one more block takes by the server. */
+/* The instructions that one more block takes by the server, and those of a run from two counters. */
 void instructions(void);
 
 #endif

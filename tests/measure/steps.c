@@ -1,5 +1,5 @@
-/* Counts the instructions that one more block takes by the server, alone, in a run and in a tag, by running a child one
- * instruction at a time, where the system lets it be stepped through. */
+/* Counts the instructions that one more block takes by the server, alone, in a run and in a tag, and those of a run from
+ * two counters, by running a child one instruction at a time, where the system lets it be stepped through. */
 #define _GNU_SOURCE
 #include "count.h"
 #include "fox.h"
@@ -105,6 +105,21 @@ static void of_bytes(work *job, const char *where, uint32_t bits, long limit)
     held(where, bits, (more - less + blocks - 1) / blocks, limit);
 }
 
+/* From a counter of ones something is carried into every word. That takes no other instructions, so there is no branch
+ * on what is carried. */
+static void of_carries(uint32_t bits)
+{
+    uint32_t bytes = 6 * bits / 8;
+    int served = server_run(bits, bytes) == FOX_SERVED;
+    long none = steps(server_run, bits, bytes);
+    memset(counter, 0xFF, sizeof counter);
+    long all = steps(server_run, bits, bytes);
+    memset(counter, 0xA5, sizeof counter);
+    figure(served && none > 0 && all == none,
+           "instructions of the server's run on six FOX%u blocks: %ld where nothing is carried, %ld where every word is",
+           (unsigned)bits, none, all);
+}
+
 void instructions(void)
 {
     for (size_t i = 0; i < COUNT(keys); i++)
@@ -120,6 +135,8 @@ void instructions(void)
     of_block(FOX128, INSTRUCTIONS_128);
     of_bytes(server_run, "in the server's run", FOX64, RUN_INSTRUCTIONS_64);
     of_bytes(server_run, "in the server's run", FOX128, RUN_INSTRUCTIONS_128);
+    of_carries(FOX64);
+    of_carries(FOX128);
     of_bytes(server_tag, "in the server's tag", FOX64, TAG_INSTRUCTIONS_64);
     of_bytes(server_tag, "in the server's tag", FOX128, TAG_INSTRUCTIONS_128);
 }
