@@ -12,7 +12,7 @@ use Rattle.fox_block.specs.Block.{bytes}
 use Rattle.fox_run.specs.Run.{streamed}
 
 -- what is carried out of a word when n is added to it
-unfoldable pub carry : ℕ → ℕ → ℕ
+abbrev pub carry : ℕ → ℕ → ℕ
 carry w n = (w + n) / 2 ^ 32
 
 -- the state of counter block number i, from that of the first: i is added to the last word, and to each word before it what is carried out of the next

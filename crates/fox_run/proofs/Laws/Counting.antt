@@ -4,10 +4,11 @@
 use mathlib.Core.Path.{_≡_, sym, ap, _∙_}
 use mathlib.Core.Bool.{Bool, true, false, cond}
 use mathlib.Core.List.{List, [], _++_, append-nil}
-use Prim.Native.Nat.{ℕ, _+_, _*_, _/_, _%_, _^_, _≤_}
+use Prim.Native.Nat.{ℕ, zero, suc, _+_, _*_, _/_, _%_, _^_, _≤_, _<_}
 use native.Mathlib.Nat.{zero-add, div-one, div-add-mod', mul-add-div-right}
 use native.Mathlib.Omega.{arith}
 use lib.Dec.{eqb}
+use lib.Bits.{bitAnd, and-zero-l, and-comm, and-mask}
 use lib.Pow.{pow-pos, shr-shr}
 use lib.ListN.{length, take, drop, length-append, length-drop, take-append-drop}
 use lib.Seq.{length-take-le, take-at, drop-at, drop-drop}
@@ -75,7 +76,6 @@ module _ (counter : List ℕ) (i at c : ℕ) (h : at + 4 ≤ length counter) (e 
       ∙ rw (four, e)
 
   carry-on : carryOut (drop at counter) i ≡ carry (joined word) c
-  unfolding carry
   carry-on = ap (λ (bs : List ℕ). carryOut bs i) parts ∙ carry-parts word (drop (at + 4) counter) i ∙ rw (four, e)
 
 carry-first : (counter : List ℕ) (i n : ℕ) → length counter ≡ n → carryOut (drop n counter) i ≡ i
@@ -115,3 +115,12 @@ counted-state c counter i e = there (eqb c 64) e
         ≡ counted (cond t (Of64 (state64 counter)) (Of128 (state128 counter))) i
     there true n = ap Of64 (counted-64 counter i n)
     there false n = ap Of128 (counted-128 counter i n)
+
+-- what is carried into a word is at most 1, and goes on through it where its bits are all ones
+pub carry-le : (w n : ℕ) → w < 2 ^ 32 → n < 2 ^ 32 → carry w n ≤ 1
+carry-le w n lw ln = omega arith
+
+pub carry-passed : (w n : ℕ) → w < 2 ^ 32 → n ≤ 1 → bitAnd n (carry w 1) ≡ carry w n
+carry-passed w zero lw ln = and-zero-l (carry w 1) ∙ omega arith
+carry-passed w (suc zero) lw ln = and-comm 1 (carry w 1) ∙ and-mask (carry w 1) 1 ∙ omega arith
+carry-passed w (suc (suc n)) lw ln = absurd (omega arith)

@@ -1,9 +1,12 @@
 -- `states::counted128` meets its contract: each word is a wrapping sum, and each but the last takes what is carried out of the next.
 -- Assumes nothing.
-use mathlib.Core.Path.{ap, _∙_}
+use mathlib.Core.Path.{ap, ap₂, _∙_}
 use Prim.Native.Nat.{ℕ, _+_, _%_, _^_}
+use native.Mathlib.Omega.{arith}
+use lib.Bits.{bitAnd}
 use borrow.Author.Needs.{needs}
 use Rattle.fox_run.specs.States.{carry, counted128}
+use Rattle.fox_run.proofs.Laws.Counting.{carry-le, carry-passed}
 use Rattle.fox_engine_counter.proofs.states.counted128.Statement.{statement}
 use Rattle.fox_engine_counter.proofs.states.counted128.Tie as tie
 
@@ -13,11 +16,17 @@ returns r =
     let third = r .before in
     let second = third .before in
     let first = second .before in
-    let made = first .before in
-    let x = made .before .before .before .args .x in
-    let a = made .before .before .carry .ensures in
-    let b = made .before .carry2 .ensures ∙ ap (carry (x .rl)) a in
-    let c = made .carry3 .ensures ∙ ap (carry (x .lr)) b in
+    let through-lr = first .before in
+    let through-rl = through-lr .before in
+    let out-of-rr = through-rl .before in
+    let start = out-of-rr .before in
+    let x = start .args .x in
+    let fits = start .good .0 .1 .1 .1 in
+    let one = carry-le (x .rr) (start .args .i) (fits .1 .1 .0 .1) (omega arith) in
+    let a = out-of-rr .carry .ensures in
+    let b = ap₂ bitAnd a (through-rl .passed-on .ensures) ∙ carry-passed (x .rl) _ (fits .1 .0 .1) one in
+    let c = ap₂ bitAnd b (through-lr .passed-on2 .ensures)
+    ∙ carry-passed (x .lr) _ (fits .0 .1) (carry-le (x .rl) _ (fits .1 .0 .1) (omega (arith, one))) in
     λ j.
     record {
       ll = (first .wrapping-add-u32 .ensures ∙ ap (λ (n : ℕ). (x .ll + n) % 2 ^ 32) c) j;
