@@ -1,5 +1,5 @@
-// Counter blocks as states: how a run counts, in code. The last word is counted on; what is carried out of it goes into the word before, and on through words whose
-// bits are all ones. There is no branch on what is carried.
+// Counter blocks as states: how a run counts, in code. The last word is counted on, and what is carried out of it goes into the word before, and on through
+// words whose bits are all ones.
 ghost use mathlib.Core.Path.{_≡_};
 ghost use Rattle.fox_run.specs.States.{carry, counted64, counted128, counted};
 use fox_rounds::fox64::Fox64;
