@@ -33,6 +33,7 @@ unreduced bs i =
     let w = joined bs + i in
     sym (split-above n (w / 2 ^ (8 * n)) (w % 2 ^ (8 * n))) ∙ ap (split n) (div-add-mod' w (2 ^ (8 * n)))
 
+-- a counter block in two parts
 module _ (xs ys : List ℕ) (i : ℕ) where
   sum : joined (xs ++ ys) + i ≡ joined xs * 2 ^ (8 * length ys) + (joined ys + i)
   sum = rw (joined-append xs ys) (omega arith)
@@ -42,8 +43,9 @@ module _ (xs ys : List ℕ) (i : ℕ) where
 
   counter-parts : counterBlock (xs ++ ys) i ≡ counterBlock xs (carryOut ys i) ++ counterBlock ys i
   counter-parts =
-      rw (unreduced (xs ++ ys) i, unreduced xs (carryOut ys i), unreduced ys i, length-append xs ys, split-parts (length xs) (length ys) (joined (xs ++ ys) + i), high)
-      (ap (λ (bs : List ℕ). split (length xs) (joined xs + carryOut ys i) ++ bs) (ap (split (length ys)) sum ∙ split-above (length ys) (joined xs) (joined ys + i)))
+      let low : split (length ys) (joined (xs ++ ys) + i) ≡ split (length ys) (joined ys + i) =
+      ap (split (length ys)) sum ∙ split-above (length ys) (joined xs) (joined ys + i) in
+      rw (unreduced (xs ++ ys) i, unreduced xs (carryOut ys i), unreduced ys i, length-append xs ys, split-parts (length xs) (length ys) _, high, low)
 
   carry-parts : carryOut (xs ++ ys) i ≡ carryOut xs (carryOut ys i)
   carry-parts =
