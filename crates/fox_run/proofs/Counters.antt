@@ -5,7 +5,8 @@ use mathlib.Core.Path.{_≡_, refl, sym, ap, _∙_}
 use mathlib.Core.Logic.{⊎-elim}
 use mathlib.Core.List.{List, [], _∷_}
 use Prim.Native.Nat.{ℕ, suc, _+_, _*_, _-_, _/_, _%_, _^_, _≤_, _<_}
-use native.Mathlib.Nat.{add-zero, add-assoc, mod-lt, mod-eq-of-lt, mod-add-mod, div-add-mod', div-mul-le-self, mul-le-mul-left, mul-le-mul-right, lt-trans, eq-zero-or-pos}
+use native.Mathlib.Nat.{add-zero, add-assoc, mod-lt, mod-eq-of-lt, mod-add-mod, div-add-mod', div-mul-le-self}
+use native.Mathlib.Nat.{mul-le-mul-left, mul-le-mul-right, lt-trans, eq-zero-or-pos}
 use native.Mathlib.Omega.{arith}
 use lib.Pow.{pow-pos, pow-lt}
 use lib.ListN.{length}

@@ -3,7 +3,8 @@
 use mathlib.Core.Path.{_≡_, refl, sym, ap, _∙_}
 use mathlib.Core.List.{List, [], _∷_, _++_, map}
 use Prim.Native.Nat.{ℕ, zero, suc, _+_, _*_, _/_, _%_, _^_, _<_}
-use native.Mathlib.Nat.{zero-add, suc-add, add-comm, mul-suc, mul-add, mod-lt, mod-one, div-one, mod-eq-of-lt, zero-lt-suc, suc-inj, mul-add-div-right, mul-add-mod-self-right}
+use native.Mathlib.Nat.{zero-add, suc-add, add-comm, mul-suc, mul-add, mod-lt, mod-one, div-one, mod-eq-of-lt, zero-lt-suc, suc-inj}
+use native.Mathlib.Nat.{mul-add-div-right, mul-add-mod-self-right}
 use native.Mathlib.Omega.{arith}
 use lib.Arith.{digits-lt}
 use lib.Pow.{pow-add, pow-pos, mod-pow-add, shr-shr, high}
