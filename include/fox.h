@@ -60,9 +60,9 @@
  * Of the C library they use memcpy and memset alone. A call by the card engine takes less than 1 KiB of
  * stack. A call by the server engine has its tables and round keys there, and takes less than 40 KiB.
  *
- * Left out: protection against timing measurement. Both engines branch on secret bytes or use them as table
- * indices. Nor does opening detect a wrong key or sealed bytes that were changed: it then gives other bytes.
- * That sealed bytes were changed, a tag over them tells, where one was made and is tested before opening. */
+ * Left out: protection against timing measurement. Both engines use secret bytes as table indices. Nor
+ * does opening detect a wrong key or sealed bytes that were changed: it then gives other bytes. That sealed
+ * bytes were changed, a tag over them tells, where one was made and is tested before opening. */
 #ifndef FOX_H
 #define FOX_H
 

@@ -3,18 +3,24 @@ ghost use mathlib.Core.Path.{_≡_};
 ghost use Rattle.fox_layers.specs.Field.{double, halve, product};
 ghost use Rattle.fox_layers.specs.Structs.{MultiplesOf};
 
-// Times 02. A bit shifted out at the top comes back as F9.
+// Times 02: a shift left. The bit shifted out at the top comes back as F9: its mask is FF where that bit is 1, and 00 where it is 0.
 pub fn double(x: u8) -> u8
     ensures { λ r. ⌜ r ≡ double x ⌝ }
 {
-    if x < 128 { x * 2 } else { (x - 128) * 2 ^ 0xF9 }
+    let top = x / 128;
+    let mask = top * 0xFF;
+    let shifted = x % 128 * 2;
+    shifted ^ (mask & 0xF9)
 }
 
-// Times FC, which is division by 02. A bit shifted out at the bottom comes back as FC.
+// Times FC, which is division by 02: a shift right. The bit shifted out at the bottom comes back as FC, by a mask of the same kind.
 pub fn halve(x: u8) -> u8
     ensures { λ r. ⌜ r ≡ halve x ⌝ }
 {
-    if x % 2 == 0 { x / 2 } else { x / 2 ^ 0xFC }
+    let bottom = x % 2;
+    let mask = bottom * 0xFF;
+    let shifted = x / 2;
+    shifted ^ (mask & 0xFC)
 }
 
 pub fn times_fd(x: u8) -> u8

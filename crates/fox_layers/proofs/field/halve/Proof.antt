@@ -1,10 +1,19 @@
--- `field::halve` meets its contract: the test on the byte is the definition's.
+-- `field::halve` meets its contract: the shifted byte with its masked bit is the definition's, computed over all bytes; no product overflows.
 -- Assumes nothing.
-use borrow.Author.Tests.{eq-eqb, ne-eqb}
+use native.Mathlib.Omega.{arith}
+use mathlib.Core.Path.{refl}
+use Prim.Native.Nat.{ℕ, _*_, _/_, _%_}
+use lib.Bits.{bitAnd}
+use Rattle.fox_layers.specs.Words.{_⊕_}
+use Rattle.fox_layers.specs.Tables.{table}
 use Rattle.fox_layers.specs.Field.{halve}
+use Rattle.fox_layers.proofs.Laws.Bytewise.{agree}
 use Rattle.fox_layers.proofs.field.halve.Statement.{statement}
 use Rattle.fox_layers.proofs.field.halve.Tie as tie
 
+returns : tie.Need-returns
+unfolding halve table
+returns c = agree (λ (x : ℕ). x / 2 ⊕ bitAnd (x % 2 * 255) 0xFC) halve refl _ (c .fits .x .fits)
+
 pub halve-spec : {M : Type 1} → statement M
-unfolding halve
-halve-spec = tie.close (tie.spec (λ c. simp (eq-eqb _ _ (c .if1 .taken))) (λ c. simp (ne-eqb _ _ (c .if1 .left))))
+halve-spec = tie.close (tie.spec (λ c. omega arith) returns)
