@@ -1,19 +1,23 @@
--- `field::halve` meets its contract: the shifted byte with its masked bit is the definition's, computed over all bytes; no product overflows.
+-- `field::halve` meets its contract: the bottom bit is 0 or 1. Where it is 0 the mask leaves nothing of FC, and where it is 1 all of it.
 -- Assumes nothing.
 use native.Mathlib.Omega.{arith}
-use mathlib.Core.Path.{refl}
-use Prim.Native.Nat.{ℕ, _*_, _/_, _%_}
-use lib.Bits.{bitAnd}
-use Rattle.fox_layers.specs.Words.{_⊕_}
-use Rattle.fox_layers.specs.Tables.{table}
+use native.Mathlib.Nat.{eq-zero-or-pos}
+use mathlib.Core.Path.{_≡_}
+use mathlib.Core.Logic.{⊎-elim}
+use Prim.Native.Nat.{_%_}
 use Rattle.fox_layers.specs.Field.{halve}
-use Rattle.fox_layers.proofs.Laws.Bytewise.{agree}
+use Rattle.fox_layers.proofs.Laws.Xor.{xor-zero}
 use Rattle.fox_layers.proofs.field.halve.Statement.{statement}
 use Rattle.fox_layers.proofs.field.halve.Tie as tie
 
 returns : tie.Need-returns
-unfolding halve table
-returns c = agree (λ (x : ℕ). x / 2 ⊕ bitAnd (x % 2 * 255) 0xFC) halve refl _ (c .fits .x .fits)
+unfolding halve
+returns c =
+    let x = c .args .x in
+    ⊎-elim
+    (λ (zero : x % 2 ≡ 0). simp (zero, xor-zero))
+    (λ above. let one : x % 2 ≡ 1 = omega arith in simp one)
+    (eq-zero-or-pos (x % 2))
 
 pub halve-spec : {M : Type 1} → statement M
 halve-spec = tie.close (tie.spec (λ c. omega arith) returns)
