@@ -19,8 +19,10 @@ disassembled() { # FILE
         failed_to instructions "the code of $1 was not disassembled"
 }
 
-code_of() { # FILE SYMBOL: its instructions, into $OUT/symbol.code
-    awk -v s="<$2>:" '$2 == s { on = 1; next } /^$/ { on = 0 } on && /^ / { print }' "$OUT/$1.code" >"$OUT/symbol.code"
+code_of() { # FILE SYMBOL: its instructions, into $OUT/symbol.code; a SYMBOL that ends with :: is all those that begin so
+    case $2 in *::) s="<$2" ;; *) s="<$2>:" ;; esac
+    awk -v s="$s" 'index($2, s) == 1 && /^[0-9a-f]/ { on = 1; next } /^$/ { on = 0 } on && /^ / { print }' "$OUT/$1.code" \
+        >"$OUT/symbol.code"
     [ -s "$OUT/symbol.code" ] || failed_to instructions "$1 has no $2"
 }
 
