@@ -1,7 +1,8 @@
 # make help says what there is to make.
 PREFIX = /usr/local
 DESTDIR =
-VERSION = 0.1.0
+# The version stands in the header alone.
+VERSION := $(shell sed -n 's/^\#define FOX_VERSION "\(.*\)"$$/\1/p' include/fox.h)
 # Programs linked with the shared library ask for it by this name. It changes when a program would have to be linked anew.
 SONAME = libfox.so.0
 
@@ -26,7 +27,7 @@ all: $(LIBRARIES) $(OUT)/stretch
 
 help:
 	@echo "make            the library for C programs, build/libfox.a and build/libfox.so, its part for a card alone,"
-	@echo "                build/libfox_card.a, and the example program build/stretch"
+	@echo "                build/libfox_card.a, and the program build/stretch"
 	@echo "make run        the main job, as a newcomer would first want to see it"
 	@echo "make bench      the bench program on a sheet: make bench <sheet"
 	@echo "make test       the whole gate: rt ci, which proves all, and the host tests"
@@ -36,13 +37,18 @@ help:
 	@echo "make speed      the library's speed beside that of plain C code"
 	@echo "make fuzz       ten minutes of clang's fuzzer on the calls and the bench sheet"
 	@echo "make fmt        sets the Rattle code in its layout"
-	@echo "make install    the libraries, fox.h and files for pkg-config below PREFIX ($(PREFIX)); DESTDIR goes before it"
+	@echo "make install    the libraries, fox.h, stretch with its man page, and files for pkg-config below PREFIX ($(PREFIX));"
+	@echo "                DESTDIR goes before it"
 	@echo "make uninstall  takes these files away again"
 	@echo "make clean      takes away all that was made"
 
-# Each engine's calls, and exports that the tests measure, which are no part of the library.
-CALLS = $(OUT)/fox_station_card.o $(OUT)/fox_station_server.o
+# What is proved: the calls of either engine, and those that need none. The exports that the tests measure are no part of the
+# library.
+CALLS = $(OUT)/fox_station_card.o $(OUT)/fox_station_server.o $(OUT)/fox_station_counter.o
+# What is not: the refusals' texts, and the wiping of the stack, as deep as the deepest call that the library has.
 TEXTS = $(OUT)/fox_refusal_text.o
+WIPE = $(OUT)/fox_wipe.o
+WIPE_CARD = $(OUT)/fox_wipe_card.o
 
 $(CALLS) $(OUT)/fox_check_probe.o: $(OUT)/%.o: $(SOURCES) tools/build.sh
 	$(BUILD) crate $@ $*
@@ -50,20 +56,27 @@ $(CALLS) $(OUT)/fox_check_probe.o: $(OUT)/%.o: $(SOURCES) tools/build.sh
 $(TEXTS): c/fox_refusal_text.c include/fox.h tools/build.sh
 	$(BUILD) object $@ $<
 
-$(OUT)/libfox.a: $(CALLS) $(TEXTS)
-$(OUT)/libfox_card.a: $(OUT)/fox_station_card.o $(TEXTS)
+$(WIPE): deepest = FOX_SERVER_STACK
+$(WIPE_CARD): deepest = FOX_CARD_STACK
+$(WIPE) $(WIPE_CARD): c/fox_wipe.c include/fox.h tools/build.sh
+	$(BUILD) object $@ $< -DDEEPEST=$(deepest)
+
+$(OUT)/libfox.a: $(CALLS) $(TEXTS) $(WIPE)
+$(OUT)/libfox_card.a: $(filter-out %_server.o,$(CALLS)) $(TEXTS) $(WIPE_CARD)
 $(OUT)/libfox_probe.a: $(OUT)/fox_check_probe.o
 
 $(OUT)/%.a:
 	$(BUILD) archive $@ $^
 	@echo "built $@"
 
-$(SHARED): $(CALLS) $(TEXTS)
+$(SHARED): $(CALLS) $(TEXTS) $(WIPE)
 	$(BUILD) shared $@ $(SONAME) $^
 	@echo "built $(OUT)/libfox.so"
 
-$(OUT)/stretch: examples/stretch.c $(OUT)/libfox.a include/fox.h
-	$(BUILD) program $@ $< $(OUT)/libfox.a
+STRETCH = examples/stretch.c examples/stretch_job.c
+
+$(OUT)/stretch: $(STRETCH) examples/stretch_job.h $(OUT)/libfox.a include/fox.h
+	$(BUILD) program $@ $(STRETCH) $(OUT)/libfox.a
 	@echo "built $@"
 
 run:
@@ -98,20 +111,23 @@ fuzz:
 fmt:
 	@rt fmt
 
-install: $(LIBRARIES)
-	install -d "$(ROOT)/lib/pkgconfig" "$(ROOT)/include"
+install: all
+	install -d "$(ROOT)/lib/pkgconfig" "$(ROOT)/include" "$(ROOT)/bin" "$(ROOT)/share/man/man1"
 	install -m 644 $(OUT)/libfox.a $(OUT)/libfox_card.a $(SHARED) "$(ROOT)/lib"
 	ln -sf libfox.so.$(VERSION) "$(ROOT)/lib/$(SONAME)"
 	ln -sf $(SONAME) "$(ROOT)/lib/libfox.so"
 	install -m 644 include/fox.h "$(ROOT)/include/fox.h"
-	for name in fox fox_card; do \
-	    sed -e 's|@PREFIX@|$(PREFIX)|' -e 's|@VERSION@|$(VERSION)|' $$name.pc.in >$(OUT)/$$name.pc && \
-	    install -m 644 $(OUT)/$$name.pc "$(ROOT)/lib/pkgconfig" || exit 1; \
+	install -m 755 $(OUT)/stretch "$(ROOT)/bin"
+	for name in fox.pc fox_card.pc examples/stretch.1; do \
+	    sed -e 's|@PREFIX@|$(PREFIX)|' -e 's|@VERSION@|$(VERSION)|' $$name.in >$(OUT)/$${name##*/} || exit 1; \
 	done
+	install -m 644 $(OUT)/fox.pc $(OUT)/fox_card.pc "$(ROOT)/lib/pkgconfig"
+	install -m 644 $(OUT)/stretch.1 "$(ROOT)/share/man/man1"
 
 uninstall:
 	for file in lib/libfox.a lib/libfox_card.a lib/libfox.so.$(VERSION) lib/$(SONAME) lib/libfox.so \
-	    include/fox.h lib/pkgconfig/fox.pc lib/pkgconfig/fox_card.pc; do rm -f "$(ROOT)/$$file"; done
+	    include/fox.h lib/pkgconfig/fox.pc lib/pkgconfig/fox_card.pc bin/stretch share/man/man1/stretch.1; do \
+	    rm -f "$(ROOT)/$$file"; done
 
 clean:
 	rm -rf target build

@@ -1,6 +1,20 @@
 /* FOX64 and FOX128 for the station's C programs: one block sealed or opened, any stretch of a run in CTR
- * mode, and the tag of a message made and tested. Link with libfox.a or libfox.so. libfox_card.a has
- * fox_refusal_text and the calls named fox_card_ alone, in about a ninth of the code. C99 and C++.
+ * mode, and the tag of a message made and tested. Link with libfox.a or libfox.so. libfox_card.a has all but
+ * the calls named fox_server_, in about a ninth of the code. C99 and C++.
+ *
+ * To seal safely:
+ *
+ * - Take a key of 16 random bytes or more, and 16 rounds or more. The calls take shorter keys and fewer
+ *   rounds, so that what was sealed with them can be opened.
+ * - Give each run under one key another value in the bytes before the last four, and set the last four to
+ *   zero: fox_counter makes such a counter block from a number that you give the run. Two runs that share a
+ *   counter block can be read from one another, without the key. FOX64 has only four bytes before the last
+ *   four, so 4,294,967,296 runs under one key; FOX128 has twelve, of which fox_counter uses four.
+ * - With FOX64 seal no more than 1 GiB under one key, all runs together. Its blocks are small, so the odds that
+ *   the sealed runs tell something of their data grow fast, with the square of their length: about 1 in 2,000
+ *   at 1 GiB, 1 in 32 at 8 GiB, 1 in 2 at 32 GiB. With FOX128 1 in 2,000 comes at 8,589,934,592 GiB.
+ * - Tag what was sealed, and test the tag before opening it (fox_card_make_tag and the calls after it).
+ * - Wipe keys when they are done with (fox_wipe, fox_wipe_stack).
  *
  * The users' words, and what the field says:
  *
@@ -57,17 +71,51 @@
  *   `tag` that it makes.
  *
  * The calls keep no state, allocate nothing and make no system calls, so several threads may call at once.
- * Of the C library they use memcpy and memset alone. A call by the card engine takes less than 1 KiB of
- * stack. A call by the server engine has its tables and round keys there, and takes less than 40 KiB.
+ * Of the C library they use memcpy and memset alone. A call by the card engine takes less than FOX_CARD_STACK
+ * bytes of stack, which is 1 KiB. A call by the server engine has its tables and round keys there, and takes
+ * less than FOX_SERVER_STACK, which is 40 KiB.
  *
  * Left out: protection against timing measurement. Both engines use secret bytes as table indices. Nor
- * does opening detect a wrong key or sealed bytes that were changed: it then gives other bytes. That sealed
- * bytes were changed, a tag over them tells, where one was made and is tested before opening. */
+ * does opening detect a wrong key, counter block or round count, or sealed bytes that were changed: it then
+ * gives other bytes. That sealed bytes were changed, a tag over them tells, where one was made and is tested
+ * before opening. And no call wipes what it leaves behind: the server engine's round keys, and the card
+ * engine's key and mixed key, stay in the stack below the caller until something else is written there;
+ * fox_wipe_stack wipes them. What stays even then is named there. */
 #ifndef FOX_H
 #define FOX_H
 
 #include <stddef.h>
 #include <stdint.h>
+
+#define FOX_VERSION "0.2.0"
+
+/* What the compiler is told of the calls, where it knows the words: no pointer is NULL, the answer is to be looked
+ * at, and which parameter is the length of what is read or written. */
+#if defined(__has_attribute)
+#if __has_attribute(nonnull)
+#define FOX_NONNULL __attribute__((nonnull))
+#endif
+#if __has_attribute(warn_unused_result)
+#define FOX_ANSWERS __attribute__((warn_unused_result))
+#endif
+#if __has_attribute(access)
+#define FOX_READS(pointer, length) __attribute__((access(read_only, pointer, length)))
+#define FOX_WRITES(pointer, length) __attribute__((access(write_only, pointer, length)))
+#endif
+#endif
+#ifndef FOX_NONNULL
+#define FOX_NONNULL
+#endif
+#ifndef FOX_ANSWERS
+#define FOX_ANSWERS
+#endif
+#ifndef FOX_READS
+#define FOX_READS(pointer, length)
+#define FOX_WRITES(pointer, length)
+#endif
+#define FOX_ON_BLOCK FOX_NONNULL FOX_ANSWERS FOX_READS(3, 4) FOX_READS(5, 6) FOX_WRITES(7, 8)
+#define FOX_ON_RUN FOX_NONNULL FOX_ANSWERS FOX_READS(3, 4) FOX_READS(5, 6) FOX_READS(8, 9) FOX_WRITES(10, 11)
+#define FOX_ON_STORED_TAG FOX_NONNULL FOX_ANSWERS FOX_READS(3, 4) FOX_READS(5, 6) FOX_READS(7, 8)
 
 #ifdef __cplusplus
 extern "C" {
@@ -83,7 +131,9 @@ enum {
     FOX_MOST_KEY = 32,
     FOX_MOST_DATA = 65536,
     FOX_RUN_END = 1073741824,
-    FOX_MOST_MESSAGE = 1073741824
+    FOX_MOST_MESSAGE = 1073741824,
+    FOX_CARD_STACK = 1024,
+    FOX_SERVER_STACK = 40960
 };
 
 enum {
@@ -108,13 +158,17 @@ enum {
  * block, block_len  8 bytes for FOX64, 16 for FOX128
  * out, out_len      as long as the block */
 uint32_t fox_card_seal_block(uint32_t cipher, uint32_t rounds, const uint8_t *key, size_t key_len,
-                             const uint8_t *block, size_t block_len, uint8_t *out, size_t out_len);
+                             const uint8_t *block, size_t block_len, uint8_t *out, size_t out_len)
+    FOX_ON_BLOCK;
 uint32_t fox_card_open_block(uint32_t cipher, uint32_t rounds, const uint8_t *key, size_t key_len,
-                             const uint8_t *block, size_t block_len, uint8_t *out, size_t out_len);
+                             const uint8_t *block, size_t block_len, uint8_t *out, size_t out_len)
+    FOX_ON_BLOCK;
 uint32_t fox_server_seal_block(uint32_t cipher, uint32_t rounds, const uint8_t *key, size_t key_len,
-                               const uint8_t *block, size_t block_len, uint8_t *out, size_t out_len);
+                               const uint8_t *block, size_t block_len, uint8_t *out, size_t out_len)
+    FOX_ON_BLOCK;
 uint32_t fox_server_open_block(uint32_t cipher, uint32_t rounds, const uint8_t *key, size_t key_len,
-                               const uint8_t *block, size_t block_len, uint8_t *out, size_t out_len);
+                               const uint8_t *block, size_t block_len, uint8_t *out, size_t out_len)
+    FOX_ON_BLOCK;
 
 /* A stretch of a run. Sealing and opening both XOR the data with the key stream, so the same call does
  * both. A run may be cut into calls anywhere, and any stretch of it can be opened alone: only the offset
@@ -127,18 +181,31 @@ uint32_t fox_server_open_block(uint32_t cipher, uint32_t rounds, const uint8_t *
  *                               zero. No counter block may occur in two runs under one key, or anyone with
  *                               both sealed runs can XOR them and gets the XOR of the two plain texts. So
  *                               give each run under one key another value in the bytes before the last four,
- *                               and set the last four to zero: then no run counts on into the bytes before
- *                               them, as one does that begins near FF FF FF FF there
+ *                               and set the last four to zero, as fox_counter does: then no run counts on
+ *                               into the bytes before them, as one does that begins near FF FF FF FF there
  * offset                        the place in the run of the first byte of the data, counted from 0
  * data, data_len                0 to 65,536 bytes; offset + data_len is at most 1,073,741,824, and a length
  *                               of 0 is served at that very offset too
  * out, out_len                  as long as the data */
 uint32_t fox_card_run(uint32_t cipher, uint32_t rounds, const uint8_t *key, size_t key_len,
                       const uint8_t *counter, size_t counter_len, uint64_t offset,
-                      const uint8_t *data, size_t data_len, uint8_t *out, size_t out_len);
+                      const uint8_t *data, size_t data_len, uint8_t *out, size_t out_len)
+    FOX_ON_RUN;
 uint32_t fox_server_run(uint32_t cipher, uint32_t rounds, const uint8_t *key, size_t key_len,
                         const uint8_t *counter, size_t counter_len, uint64_t offset,
-                        const uint8_t *data, size_t data_len, uint8_t *out, size_t out_len);
+                        const uint8_t *data, size_t data_len, uint8_t *out, size_t out_len)
+    FOX_ON_RUN;
+
+/* The counter block that a run begins with, from a number that the run has: the number, big-endian, stands in
+ * the four bytes before the last four, and zeros in all others. Runs of up to 1,073,741,824 bytes whose
+ * counter blocks were made from different numbers share no counter block, as is proved; that no number is
+ * given to two runs under one key, nobody can check but the caller. The refusals are 1 and 4.
+ *
+ * cipher                FOX64 or FOX128
+ * number                any
+ * counter, counter_len  the room for it: 8 bytes for FOX64, 16 for FOX128 */
+uint32_t fox_counter(uint32_t cipher, uint32_t number, uint8_t *counter, size_t counter_len)
+    FOX_NONNULL FOX_ANSWERS FOX_WRITES(3, 4);
 
 /* The tag of a message, made, or tested against a stored one. A test answers FOX_SERVED exactly where the
  * stored tag is that of the message, and writes nothing; it reads every byte of the stored tag, wherever the
@@ -157,13 +224,32 @@ uint32_t fox_server_run(uint32_t cipher, uint32_t rounds, const uint8_t *key, si
  * tag, tag_len                  8 bytes for FOX64, 16 for FOX128: where the tag is made, the room for it;
  *                               where it is tested, the stored one */
 uint32_t fox_card_make_tag(uint32_t cipher, uint32_t rounds, const uint8_t *key, size_t key_len,
-                           const uint8_t *message, size_t message_len, uint8_t *tag, size_t tag_len);
+                           const uint8_t *message, size_t message_len, uint8_t *tag, size_t tag_len)
+    FOX_ON_BLOCK;
 uint32_t fox_card_test_tag(uint32_t cipher, uint32_t rounds, const uint8_t *key, size_t key_len,
-                           const uint8_t *message, size_t message_len, const uint8_t *tag, size_t tag_len);
+                           const uint8_t *message, size_t message_len, const uint8_t *tag, size_t tag_len)
+    FOX_ON_STORED_TAG;
 uint32_t fox_server_make_tag(uint32_t cipher, uint32_t rounds, const uint8_t *key, size_t key_len,
-                             const uint8_t *message, size_t message_len, uint8_t *tag, size_t tag_len);
+                             const uint8_t *message, size_t message_len, uint8_t *tag, size_t tag_len)
+    FOX_ON_BLOCK;
 uint32_t fox_server_test_tag(uint32_t cipher, uint32_t rounds, const uint8_t *key, size_t key_len,
-                             const uint8_t *message, size_t message_len, const uint8_t *tag, size_t tag_len);
+                             const uint8_t *message, size_t message_len, const uint8_t *tag, size_t tag_len)
+    FOX_ON_STORED_TAG;
+
+/* Wiping, which is C code and not proved; the tests look for keys in the stack after each call, and find none
+ * once it was wiped.
+ *
+ * fox_wipe sets bytes to zero, and is not left out by a compiler that sees no use in it: for keys, and for
+ * opened data that is done with. fox_wipe_stack sets to zero what is below its caller's own part of the stack,
+ * as deep as a call of the library may go: FOX_SERVER_STACK bytes, and from libfox_card.a FOX_CARD_STACK. It
+ * takes so much stack itself, and less than 64 bytes more. Call it in the very function that made the calls,
+ * after the last of them and in the same thread.
+ *
+ * What stays: the caller's own copies of a key, which fox_wipe is for; processor registers, until other work
+ * overwrites them; and what the system has copied, as memory that was swapped out, a core dump, or the
+ * registers that it saved when it switched to another thread. */
+void fox_wipe(void *bytes, size_t length) FOX_NONNULL FOX_WRITES(1, 2);
+void fox_wipe_stack(void);
 
 /* One sentence in English for a number from 0 to 10: what it means, and what would be right. For any other
  * number the sentence says that it means nothing. Never NULL; the text is constant and stays valid while
@@ -173,5 +259,13 @@ const char *fox_refusal_text(uint32_t number);
 #ifdef __cplusplus
 }
 #endif
+
+#undef FOX_NONNULL
+#undef FOX_ANSWERS
+#undef FOX_READS
+#undef FOX_WRITES
+#undef FOX_ON_BLOCK
+#undef FOX_ON_RUN
+#undef FOX_ON_STORED_TAG
 
 #endif

@@ -1,10 +1,10 @@
 #!/bin/sh
-# What `make run` shows: a block sealed by the bench program, a file sealed by the card engine, and a stretch of it
-# opened by the server's. The exit status is 0 only where what was opened is what was sealed.
+# What `make run` shows: a block sealed by the bench program, a file sealed by the card engine under a new key, and a stretch
+# of it opened by the server's. The exit status is 0 only where what was opened is what was sealed.
 set -u
 cd "$(dirname "$0")/.." || exit 2
-key=00112233445566778899AABBCCDDEEFF counter=4E49474854303431 sheet=examples/sheet.txt
-plain=examples/sample.txt sealed=build/sample.sealed opened=build/sample.opened expected=build/sample.expected
+sheet=examples/sheet.txt plain=examples/sample.txt
+key=build/sample.key sealed=build/sample.sealed opened=build/sample.opened expected=build/sample.expected
 
 stop() { # WHAT
     echo "make run: $1" >&2
@@ -15,8 +15,13 @@ indented() {
     sed 's/^/    /'
 }
 
-shown() { # WORDS..: a command as it would be typed
-    echo "    \$ $*"
+shown() { # COMMAND: as it would be typed
+    echo "    \$ $1"
+}
+
+typed() { # COMMAND: shown, and done
+    shown "$1"
+    eval "$1"
 }
 
 prove() {
@@ -39,25 +44,30 @@ bench() {
     echo "That is the block that the specification has for it."
 }
 
-seal() {
-    end=$(($(wc -c <"$plain") - 1))
+new_key() {
     echo
-    echo "The card engine seals a file, bytes 0 to $end of $plain, as a run in counter mode:"
-    shown "build/stretch --card 64 16 $key $counter 0 $end $plain >$sealed"
-    ./build/stretch --card 64 16 "$key" "$counter" 0 "$end" "$plain" >"$sealed" || stop "the file was not sealed"
+    echo "A key of 16 random bytes, in a file that nobody else can read:"
+    typed "(umask 077; od -An -v -tx1 -N16 /dev/urandom | tr -d ' ' >$key)" || stop "no key was made"
+}
+
+# Each run under one key has a number of its own; this is the first.
+seal() {
+    echo
+    echo "The card engine seals a file under it, $plain, as run number 1 in counter mode:"
+    typed "build/stretch seal --card -c 64 -r 16 -k $key -n 1 -o $sealed $plain" || stop "the file was not sealed"
     echo "The sealed file begins:"
     od -An -tx1 -N 32 "$sealed" | sed 's/^ */    /'
 }
 
 # Five lines from the middle of the sample.
 open_stretch() {
-    first=$(head -n 6 "$plain" | wc -c) last=$(($(head -n 11 "$plain" | wc -c) - 1))
+    from=$(($(head -n 6 "$plain" | wc -c))) length=$(($(head -n 11 "$plain" | wc -c) - from))
     echo
-    echo "The server engine opens bytes $first to $last of it alone:"
-    shown "build/stretch 64 16 $key $counter $first $last $sealed"
-    ./build/stretch 64 16 "$key" "$counter" "$first" "$last" "$sealed" >"$opened" ||
-        stop "the stretch was not opened"
-    tail -c "+$((first + 1))" "$plain" | head -c "$((last - first + 1))" >"$expected"
+    echo "The server engine opens $length bytes of it alone, from byte $from on:"
+    command="build/stretch open -c 64 -r 16 -k $key -n 1 -f $from -l $length $sealed"
+    shown "$command"
+    eval "$command" >"$opened" || stop "the stretch was not opened"
+    tail -c "+$((from + 1))" "$plain" | head -c "$length" >"$expected"
 }
 
 compare() {
@@ -69,6 +79,7 @@ compare() {
 
 prove
 bench
+new_key
 seal
 open_stretch
 compare

@@ -89,8 +89,10 @@ crate() { # OUT CRATE
     fi
 }
 
-object() { # OUT SOURCE
-    $CC_HOST -std=c99 -fPIC $flags -c -o "$1" "$2"
+object() { # OUT SOURCE WORDS..
+    out=$1
+    shift
+    $CC_HOST -std=c99 -fPIC $flags -c -o "$out" "$@"
 }
 
 archive() { # OUT OBJECT..
@@ -105,8 +107,10 @@ shared() { # OUT SONAME OBJECT..: with links to it by its soname and by the name
         ln -sf "${out##*/}" "${out%/*}/$soname" && ln -sf "$soname" "${out%/*}/libfox.so"
 }
 
-program() { # OUT SOURCE LIBRARY
-    $CC_HOST -std=gnu11 $flags -o "$1" "$2" "$3"
+program() { # OUT SOURCE.. LIBRARY
+    out=$1
+    shift
+    $CC_HOST -std=gnu11 $flags -o "$out" "$@"
 }
 
 sh tools/needs.sh || exit 1

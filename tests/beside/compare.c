@@ -228,7 +228,7 @@ int main(int count, char **words)
 {
     static void (*const groups[])(void) = {
         keys,         rounds,   block_lengths, ciphers, runs,   counters,      long_runs,    damaged_blocks,
-        damaged_runs, mixtures, changed_bits,  tags,    across, large_lengths, every_answer,
+        damaged_runs, mixtures, changed_bits,  tags,    across, large_lengths, made_counters, every_answer,
     };
     if (count > 2) {
         fprintf(stderr, "usage: compare [SEED]\n");

@@ -5,6 +5,9 @@
 /* Tags, made and tested. */
 void tags(void);
 
+/* Counter blocks made from the numbers of runs. */
+void made_counters(void);
+
 /* Lengths above a message's limit, and of 4 GiB and more. */
 void large_lengths(void);
 

@@ -1,49 +1,28 @@
 /* Holds the stack that each call of fox.h takes to what the header says, seen from how far a painted stack was
- * written. */
+ * written; what its caller takes is counted too. */
 #include "call.h"
 #include "count.h"
 #include "fox.h"
 #include "measure.h"
+#include "painted.h"
 #include "tally.h"
 
 #include <stdio.h>
-#include <string.h>
-#include <ucontext.h>
-
-enum { PAINTED = 1 << 17, PAINT = 0x77 };
 
 /* Part of a block, whole blocks, and part of a block; a message of WHOLE bytes ends with a whole block of either
  * cipher. */
 enum { OFFSET = 3, LENGTH = 150, WHOLE = 144 };
 
-static _Alignas(64) uint8_t painted[PAINTED];
 static uint8_t key[FOX_MOST_KEY], first[FOX128_BLOCK], data[LENGTH], out[LENGTH];
-static ucontext_t here, there;
 
 static const struct engine *engine;
 static enum verb verb;
 static struct call call;
 static uint32_t answer;
 
-static void on_painted_stack(void)
+static void caller(void)
 {
     answer = make_call(engine, verb, &call);
-}
-
-/* How many bytes of its stack a call wrote, those of on_painted_stack included. */
-static size_t written(void)
-{
-    memset(painted, PAINT, sizeof painted);
-    getcontext(&there);
-    there.uc_stack.ss_sp = painted;
-    there.uc_stack.ss_size = sizeof painted;
-    there.uc_link = &here;
-    makecontext(&there, on_painted_stack, 0);
-    swapcontext(&here, &there);
-    size_t i = 0;
-    while (i < sizeof painted && painted[i] == PAINT)
-        i++;
-    return sizeof painted - i;
 }
 
 /* The tag that is tested is one that the engine makes itself. */
@@ -63,7 +42,8 @@ static size_t written_by(uint32_t cipher, size_t key_len, size_t data_len)
     call.out_len = right_out_len(verb, &call);
     if (verb == TEST_TAG)
         store_tag();
-    size_t used = written();
+    on_painted_stack(caller);
+    size_t used = stack_written();
     return answer == FOX_SERVED ? used : PAINTED;
 }
 

@@ -24,7 +24,8 @@ remakes() { # FILE STEP..
 remade_by_need() {
     remakes crates/fox_station/src/lib.rt crate archive shared program &&
         remakes c/fox_refusal_text.c object archive shared program &&
-        remakes include/fox.h object archive shared program && remakes examples/stretch.c program
+        remakes c/fox_wipe.c object archive shared program && remakes include/fox.h object archive shared program &&
+        remakes examples/stretch.c program && remakes examples/stretch_job.h program
 }
 
 # The bench program's answer, and the stretch that was opened.
@@ -39,7 +40,7 @@ shows() {
 shown_work() {
     cp build/sample.opened "$room/opened"
     sed -n 's/^    \$ //p' "$room/run" >"$room/typed"
-    same_text 3 "$(wc -l <"$room/typed" | tr -d ' ')" || return 1
+    same_text 4 "$(wc -l <"$room/typed" | tr -d ' ')" || return 1
     sh -e "$room/typed" >"$room/typed.out" || return 1
     { sheet_answer && cat "$room/opened"; } | cmp - "$room/typed.out"
 }

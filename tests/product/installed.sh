@@ -1,20 +1,30 @@
 # Sourced by tests/product.sh: what make installs and takes away, and programs made from the installed files alone.
 
-version=$(sed -n 's/^VERSION = //p' Makefile) soname=$(sed -n 's/^SONAME = //p' Makefile)
+version=$(sed -n 's/^#define FOX_VERSION "\(.*\)"$/\1/p' include/fox.h) soname=$(sed -n 's/^SONAME = //p' Makefile)
 
 # Installed under a mask that would shut others out.
 installs() {
     (umask 077 && make install "PREFIX=$room/prefix") || return 1
     expected="$(printf '%s\n' ./include/fox.h ./lib/libfox.a "./lib/libfox.so.$version" ./lib/libfox_card.a \
-        ./lib/pkgconfig/fox.pc ./lib/pkgconfig/fox_card.pc)"
+        ./lib/pkgconfig/fox.pc ./lib/pkgconfig/fox_card.pc ./share/man/man1/stretch.1)"
     same_text "$expected" "$(cd "$room/prefix" && find . -type f -perm 644 | sort)" &&
-        same_text "4" "$(find "$room/prefix" -type d -perm 755 | wc -l | tr -d ' ')" &&
+        same_text ./bin/stretch "$(cd "$room/prefix" && find . -type f -perm 755)" &&
+        same_text "8" "$(find "$room/prefix" -type d -perm 755 | wc -l | tr -d ' ')" &&
         same_text "libfox.so.$version" "$(readlink "$room/prefix/lib/$soname")" &&
         same_text "$soname" "$(readlink "$room/prefix/lib/libfox.so")" || return 1
     for file in libfox.a libfox_card.a "libfox.so.$version"; do
         cmp "$OUT/$file" "$room/prefix/lib/$file" || return 1
     done
-    cmp include/fox.h "$room/prefix/include/fox.h"
+    cmp include/fox.h "$room/prefix/include/fox.h" && cmp "$OUT/stretch" "$room/prefix/bin/stretch"
+}
+
+# The program by its installed name, and its page as man sets it, with no complaint of its maker.
+installs_stretch() {
+    same_text "stretch $version" "$(run_host "$room/prefix/bin/stretch" --version)" &&
+        ! grep '@' "$room/prefix/share/man/man1/stretch.1" || return 1
+    command -v groff >/dev/null 2>&1 || return 0
+    groff -man -Tascii -ww "$room/prefix/share/man/man1/stretch.1" >"$room/page" 2>"$room/error"
+    same_text '' "$(cat "$room/error")" && grep -q "stretch $version" "$room/page"
 }
 
 # The flags that a file for pkg-config asks for, taken out of it by hand.
@@ -59,9 +69,12 @@ builds_from_both() { # WORDS COMMAND
 }
 
 says_its_version() {
+    [ -n "$version" ] || return 1
     for file in fox fox_card; do
         same_text "$version" "$(sed -n 's/^Version: //p' "$room/prefix/lib/pkgconfig/$file.pc")" || return 1
     done
+    # The header is the one place where it stands.
+    same_text include/fox.h "$(grep -rlF "$version" Makefile README.md *.in c crates.txt examples include tests tools docs/[!L]*)" || return 1
     said=$($(tool objdump) -p "$OUT/libfox.so" | awk '$1 == "SONAME" { print $2 }')
     same_text "$soname" "$said"
 }
@@ -80,7 +93,8 @@ uninstalls() {
         make uninstall "PREFIX=$room/nowhere" && [ ! -e "$room/nowhere" ]
 }
 
-check "make install: the libraries, the header and the files for pkg-config, readable by all" installs
+check "make install: the libraries, the header, stretch and the files for pkg-config, readable by all" installs
+check "make install: stretch runs and has its page" installs_stretch
 if command -v pkg-config >/dev/null 2>&1; then
     builds_from_both pkg-config flags_by_pkg_config
 else

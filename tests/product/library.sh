@@ -38,9 +38,38 @@ symbols() { # LIBRARY EXPRESSION WORDS..: those of nm
     same_text '' "$(grep -v -x -e memcpy -e memset "$room/wanted")"
 }
 
-# The tests' table of engines, and its verbs, leave out no call of the header but the one for texts.
+# The tests' table of engines, and its verbs, leave out no call of the header but those that no engine has, each of which has
+# a test of its own.
 every_call() {
-    same_text "$(declared . | grep -v -x fox_refusal_text)" "$(run_host "$room/calls" names | sort)"
+    same_text "$(declared . | grep -v -x -e fox_refusal_text -e fox_counter -e fox_wipe -e fox_wipe_stack)" \
+        "$(run_host "$room/calls" names | sort)"
+}
+
+# A program that keeps to the header is compiled without a word; the compiler tells of an answer that is not looked at, of
+# NULL, and of a buffer that is shorter than its length, where it knows how to.
+told_by_compiler() { # WORD LINE: the warning, and the line of the program that it is for
+    printf '%s\n' '#include "fox.h"' 'uint32_t f(void);' 'uint32_t f(void)' '{' '    uint8_t b[8] = {0}, o[8], s[4] = {0};' \
+        '    (void)s, (void)o;' "    $2" '}' >"$room/warned.c"
+    $CC_HOST -std=c99 -O2 -Wall -Wextra -Iinclude -c -o "$room/warned.o" "$room/warned.c" 2>"$room/error" || return 1
+    cat "$room/error"
+    if [ -z "$1" ]; then
+        [ ! -s "$room/error" ]
+    else
+        grep -q -- "\[-W$1" "$room/error"
+    fi
+}
+
+warned_of() {
+    told_by_compiler '' 'return fox_card_seal_block(FOX64, 16, b, 8, b, 8, o, 8);' &&
+        told_by_compiler unused-result 'fox_card_seal_block(FOX64, 16, b, 8, b, 8, o, 8); return 0;' &&
+        told_by_compiler unused-result 'fox_counter(FOX64, 1, o, 8); return 0;' &&
+        told_by_compiler nonnull 'return fox_server_run(FOX64, 16, NULL, 0, b, 8, 0, b, 8, o, 8);' &&
+        told_by_compiler nonnull 'return fox_card_test_tag(FOX64, 16, b, 8, b, 8, NULL, 8);' || return 1
+    case $($CC_HOST --version) in *clang*) return 0 ;; esac
+    told_by_compiler stringop-overflow 'return fox_card_make_tag(FOX64, 16, b, 8, b, 8, s, 8);' &&
+        told_by_compiler stringop-overflow 'return fox_server_run(FOX64, 16, b, 8, b, 8, 0, b, 8, s, 8);' &&
+        told_by_compiler stringop-overflow 'return fox_counter(FOX64, 1, s, 8);' &&
+        told_by_compiler stringop-overread 'return fox_server_run(FOX64, 16, s, 16, b, 8, 0, b, 8, o, 8);'
 }
 
 # A card's program has no part of the server in it, neither by the card's library nor, where the linker takes out what
@@ -99,9 +128,11 @@ else
     left_out product "the header by clang" "there is no clang (Debian: clang)"
 fi
 check "the archive defines what the header declares, and nothing else" symbols libfox.a .
-check "the card's archive defines the card's calls, and nothing else" symbols libfox_card.a 'fox_card|text'
+check "the card's archive defines all calls but the server's, and nothing else" \
+    symbols libfox_card.a 'fox_(card_|counter|wipe|refusal_text)'
 check "the shared library defines what the header declares, and nothing else" symbols libfox.so . -D
 check "a card's program has nothing of the server's in it" card_alone
+check "the compiler tells of an answer not looked at, of NULL, and of a short buffer" warned_of
 check "every call on vectors, refusals and limits" compiled_and_right calls tests/product/calls.c $engines
 check "every call that the header declares is among those" every_call
 check "four threads at once get the bytes that one alone gets" \

@@ -1,8 +1,8 @@
 # Sourced by tests/product.sh after trouble.sh: the progress line of stretch, on a terminal and elsewhere.
 # The program that makes the terminal is for this processor, as the shell is.
 
-long_last=9999999
-head -c $((long_last + 1)) /dev/zero >"$room/long"
+long_size=10000000
+head -c "$long_size" /dev/zero >"$room/long"
 
 on_terminal() { # OUT WORDS..: what came on the terminal is in the file shown
     out=$1
@@ -12,8 +12,8 @@ on_terminal() { # OUT WORDS..: what came on the terminal is in the file shown
 
 # Rewritten in place: no line's end, more than one text between returns, and in the end blanks over the whole of the last.
 shows_and_clears() {
-    on_terminal "$room/out" $served 0 "$long_last" "$room/long" || return 1
-    same_text "$((long_last + 1))" "$(wc -c <"$room/out" | tr -d ' ')" || return 1
+    on_terminal "$room/out" open $with64 "$room/long" || return 1
+    same_text "$long_size" "$(wc -c <"$room/out" | tr -d ' ')" || return 1
     tr '\r' '\n' <"$room/shown" >"$room/lines"
     cat "$room/lines"
     same_text 0 "$(tr -dc '\n' <"$room/shown" | wc -c | tr -d ' ')" || return 1
@@ -24,11 +24,11 @@ shows_and_clears() {
 }
 
 shows_nothing_of_short_work() {
-    on_terminal "$room/out" $served 0 9999 "$room/long" && same_text "" "$(cat "$room/shown")"
+    on_terminal "$room/out" open $with64 -l 10000 "$room/long" && same_text "" "$(cat "$room/shown")"
 }
 
 shows_nothing_elsewhere() {
-    stretch $served 0 "$long_last" "$room/long" 2>"$room/error" >/dev/null && same_text "" "$(cat "$room/error")"
+    stretch open $with64 "$room/long" 2>"$room/error" >/dev/null && same_text "" "$(cat "$room/error")"
 }
 
 # The message begins on a cleared line.
@@ -36,7 +36,7 @@ clears_before_trouble() {
     rm -f "$room/reader" && mkfifo "$room/reader"
     head -c 2000000 "$room/reader" >/dev/null &
     reader=$!
-    on_terminal "$room/reader" $served 0 "$long_last" "$room/long"
+    on_terminal "$room/reader" open $with64 "$room/long"
     status=$?
     kill "$reader" 2>/dev/null # which waits for ever where nothing opened the pipe
     wait "$reader"

@@ -4,6 +4,11 @@ key64=00112233445566778899AABBCCDDEEFF counter64=0123456789ABCDEF
 key128=00112233445566778899aabbccddeeffffeeddccbbaa99887766554433221100 counter128=0123456789ABCDEFFEDCBA98FFFFFF00
 size=200001 last=200000
 
+# What a file is sealed with, as words of stretch; the key of the second is in a file.
+(umask 077 && printf '%s\n' "$key128" >"$room/key128")
+with64="--cipher 64 --rounds 16 --key $key64 --counter $counter64"
+with128="-c 128 -r 12 -k $room/key128 --counter $counter128"
+
 stretch() {
     run_host "./$OUT/stretch" "$@"
 }
@@ -11,49 +16,61 @@ stretch() {
 # In a list of numbers no stretch comes twice, so one that is off by a byte or a piece shows.
 seq 1 40000 | head -c "$size" >"$room/plain"
 dd if=/dev/zero of="$room/large" bs=1 count=0 seek=5368709120 2>/dev/null
-stretch --card 64 16 "$key64" "$counter64" 0 "$last" "$room/plain" >"$room/sealed64"
-stretch --card 128 12 "$key128" "$counter128" 0 "$last" "$room/plain" >"$room/sealed128"
+stretch seal --card $with64 "$room/plain" >"$room/sealed64" 2>"$room/error"
+stretch seal --card $with128 "$room/plain" >"$room/sealed128" 2>>"$room/error"
 
 opens_whole() {
     cmp "$room/plain" "$room/sealed64" >/dev/null && return 1
-    stretch 64 16 "$key64" "$counter64" 0 "$last" "$room/sealed64" | cmp - "$room/plain" &&
-        stretch 128 12 "$key128" "$counter128" 0 "$last" "$room/sealed128" | cmp - "$room/plain"
+    stretch open $with64 "$room/sealed64" | cmp - "$room/plain" && stretch open $with128 "$room/sealed128" | cmp - "$room/plain"
 }
 
 seals_alike() { # by the server as by the card
-    stretch 64 16 "$key64" "$counter64" 0 "$last" "$room/plain" | cmp - "$room/sealed64" &&
-        stretch 128 12 "$key128" "$counter128" 0 "$last" "$room/plain" | cmp - "$room/sealed128"
+    stretch seal $with64 "$room/plain" | cmp - "$room/sealed64" && stretch seal $with128 "$room/plain" | cmp - "$room/sealed128"
 }
 
-over_zeros() { # CIPHER ROUNDS KEY COUNTER FIRST: 16 bytes from there
-    stretch "$1" "$2" "$3" "$4" "$5" "$(($5 + 15))" "$room/large" | od -An -tx1 | tr -d ' \n'
+over_zeros() { # FROM WORDS..: 16 bytes from there
+    first=$1
+    shift
+    stretch seal --from "$first" --length 16 "$@" "$room/large" 2>"$room/error" | od -An -tx1 | tr -d ' \n'
 }
 
 # Over zeros the first block of a run is the sealed counter, and these counters are blocks of vectors, the first two of the
 # specification.
 seals_vectors() {
-    same_text b85d6b766dce952e "$(over_zeros 64 16 "$key64" "$counter64" 0 | head -c 16)" &&
-        same_text 45ccb1030f67b768247f530266bc4996 "$(over_zeros 128 16 "$key128" 0123456789abcdefFEDCBA9876543210 0)" &&
-        same_text f48bd8d15d5f5f79 "$(over_zeros 64 16 '' 30177A5F4C28FD51 0 | head -c 16)"
+    same_text b85d6b766dce952e "$(over_zeros 0 $with64 | head -c 16)" &&
+        same_text 45ccb1030f67b768247f530266bc4996 \
+            "$(over_zeros 0 -c 128 -r 16 --key "$key128" --counter 0123456789abcdefFEDCBA9876543210)" &&
+        same_text f48bd8d15d5f5f79 "$(over_zeros 0 -c 64 -r 16 --empty-key --counter 30177A5F4C28FD51 | head -c 16)"
 }
 
 # A run later on is a run that begins with the counter that is reached there, as worked out by hand: after a first piece,
 # and at the end of the longest run. For FOX128 the counter's last word carries into the one before it.
 counts_on() {
-    same_text "$(over_zeros 64 16 "$key64" 0123456789ABEDEF 0)" "$(over_zeros 64 16 "$key64" "$counter64" 65536)" &&
-        same_text "$(over_zeros 64 16 "$key64" 0123456791ABCDED 0)" \
-            "$(over_zeros 64 16 "$key64" "$counter64" 1073741808)" &&
-        same_text "$(over_zeros 128 12 "$key128" 0123456789ABCDEFFEDCBA9900000F00 0)" \
-            "$(over_zeros 128 12 "$key128" "$counter128" 65536)" &&
-        same_text "$(over_zeros 128 12 "$key128" 0123456789ABCDEFFEDCBA9903FFFEFF 0)" \
-            "$(over_zeros 128 12 "$key128" "$counter128" 1073741808)"
+    by64="-c 64 -r 16 --key $key64" by128="-c 128 -r 12 -k $room/key128"
+    same_text "$(over_zeros 0 $by64 --counter 0123456789ABEDEF)" "$(over_zeros 65536 $with64)" &&
+        same_text "$(over_zeros 0 $by64 --counter 0123456791ABCDED)" "$(over_zeros 1073741808 $with64)" &&
+        same_text "$(over_zeros 0 $by128 --counter 0123456789ABCDEFFEDCBA9900000F00)" "$(over_zeros 65536 $with128)" &&
+        same_text "$(over_zeros 0 $by128 --counter 0123456789ABCDEFFEDCBA9903FFFEFF)" "$(over_zeros 1073741808 $with128)"
+}
+
+# The counter that a number stands for, as worked out by hand, at the run's beginning and end.
+numbers() {
+    for triple in 0:00000000 1:00000001 41:00000029 65536:00010000 4294967295:FFFFFFFF; do
+        n=${triple%:*} digits=${triple#*:}
+        for at in 0 1073741808; do
+            same_text "$(over_zeros $at -c 64 -r 16 --key "$key64" --counter "${digits}00000000")" \
+                "$(over_zeros $at -c 64 -r 16 --key "$key64" -n "$n")" &&
+                same_text "$(over_zeros $at -c 128 -r 12 -k "$room/key128" --counter "0000000000000000${digits}00000000")" \
+                    "$(over_zeros $at -c 128 -r 12 -k "$room/key128" --number "$n")" || return 1
+        done
+    done
 }
 
 one_stretch() { # FIRST LAST WORDS..
     first=$1 end=$2
     shift 2
     tail -c "+$((first + 1))" "$room/plain" | head -c "$((end - first + 1))" >"$room/expected"
-    stretch "$@" >"$room/found" && cmp "$room/expected" "$room/found" && return
+    stretch open -f "$first" -l "$((end - first + 1))" "$@" >"$room/found" && cmp "$room/expected" "$room/found" && return
     echo "stretch $first to $end"
     return 1
 }
@@ -66,43 +83,123 @@ stretches='0:0 0:7 7:8 8:15 1:16 15:31 0:65534 0:65535 0:65536 1:65535 65535:655
 all_stretches() {
     for pair in $stretches; do
         f=${pair%:*} l=${pair#*:}
-        one_stretch "$f" "$l" 64 16 "$key64" "$counter64" "$f" "$l" "$room/sealed64" || return 1
-        one_stretch "$f" "$l" 128 12 "$key128" "$counter128" "$f" "$l" "$room/sealed128" || return 1
+        one_stretch "$f" "$l" $with64 "$room/sealed64" && one_stretch "$f" "$l" $with128 "$room/sealed128" || return 1
     done
 }
 
 card_stretches() {
     for pair in 0:0 7:8 65535:65536 65530:65550 199990:200000; do
         f=${pair%:*} l=${pair#*:}
-        one_stretch "$f" "$l" --card 64 16 "$key64" "$counter64" "$f" "$l" "$room/sealed64" || return 1
-        one_stretch "$f" "$l" --card 128 12 "$key128" "$counter128" "$f" "$l" "$room/sealed128" || return 1
+        one_stretch "$f" "$l" --card $with64 "$room/sealed64" && one_stretch "$f" "$l" --card $with128 "$room/sealed128" ||
+            return 1
+    done
+}
+
+# From a byte on to the end, from the very end, no bytes, and a file that has none.
+ends_and_none() {
+    : >"$room/empty"
+    for from in 0 1 65536 199999 200001; do
+        tail -c "+$((from + 1))" "$room/plain" >"$room/expected"
+        stretch open --from "$from" $with64 "$room/sealed64" | cmp - "$room/expected" || return 1
+    done
+    for words in "seal $with64 $room/empty" "open $with128 $room/empty" "open -f 0 -l 0 $with64 $room/empty" \
+        "open -f 77 -l 0 $with64 $room/sealed64"; do
+        stretch $words >"$room/found" 2>"$room/error" && same_text 0 "$(wc -c <"$room/found" | tr -d ' ')" || return 1
+    done
+    stretch seal $with64 -o "$room/empty.sealed" "$room/empty" 2>"$room/error" && [ -f "$room/empty.sealed" ] &&
+        [ ! -s "$room/empty.sealed" ]
+}
+
+# The key as it may stand in a file or come on standard input: with and without a line's end, of either kind.
+key_forms() {
+    for form in '%s' '%s\n' '%s\r\n'; do
+        (umask 077 && printf "$form" "$key64" >"$room/key.form")
+        for words in "-k $room/key.form" "--key-file=$room/key.form" "-k -"; do
+            stretch open -c 64 -r 16 $words --counter "$counter64" "$room/sealed64" <"$room/key.form" 2>"$room/error" |
+                cmp - "$room/plain" && same_text '' "$(cat "$room/error")" || return 1
+        done
+    done
+}
+
+# Into a file, also over an older and longer one; nothing comes on standard output.
+writes_files() {
+    head -c 300000 /dev/zero >"$room/out.file"
+    for word in -o --output; do
+        stretch open $with64 $word "$room/out.file" "$room/sealed64" >"$room/out" && cmp "$room/plain" "$room/out.file" &&
+            [ ! -s "$room/out" ] || return 1
     done
 }
 
 engine_called() { # WORDS..
-    run_host "$room/stand_in" "$@" 64 16 "$key64" "$counter64" 0 9 "$room/plain"
+    run_host "$room/stand_in" seal "$@" $with64 "$room/plain" 2>"$room/error"
 }
 
 calls_its_engine() {
-    compiled stand_in examples/stretch.c tests/product/stand_in.c &&
+    compiled stand_in -Iexamples examples/stretch.c examples/stretch_job.c tests/product/stand_in.c &&
         same_text card "$(engine_called --card)" && same_text server "$(engine_called)"
 }
 
 # A size that is kept in 32 bits would come out as 10 bytes for the first.
 large_files() {
     dd if=/dev/zero of="$room/odd" bs=1 count=0 seek=4294967306 2>/dev/null || return 1
-    same_text 21 "$(stretch 64 16 "$key64" "$counter64" 0 20 "$room/odd" | wc -c | tr -d ' ')" || return 1
-    stretch 64 16 "$key64" "$counter64" 1073676280 1073741823 "$room/large" >"$room/end" || return 1
+    same_text 21 "$(stretch open $with64 -l 21 "$room/odd" | wc -c | tr -d ' ')" || return 1
+    stretch open $with64 -f 1073676280 -l 65544 "$room/large" >"$room/end" || return 1
     same_text 65544 "$(wc -c <"$room/end" | tr -d ' ')" &&
-        stretch --card 64 16 "$key64" "$counter64" 1073741800 1073741823 "$room/large" >"$room/end.card" &&
+        stretch open --card $with64 -f 1073741800 -l 24 "$room/large" >"$room/end.card" &&
         tail -c 24 "$room/end" | cmp - "$room/end.card"
+}
+
+# Blocks of 16 bytes, a line each. Of a file of zeros sealed they are the sealed counter blocks, which are the same exactly
+# where the counter blocks are.
+blocks_of() { # FILE
+    od -An -v -tx1 -w16 "$1"
+}
+
+shared_blocks() { # FILE FILE: how many blocks of the one are in the other
+    blocks_of "$1" | sort -u >"$room/blocks.one"
+    blocks_of "$2" | sort -u >"$room/blocks.other"
+    comm -12 "$room/blocks.one" "$room/blocks.other" | wc -l | tr -d ' '
+}
+
+# Two files of zeros are sealed by the commands that --help and README.md show, as they stand there.
+followed() { # FILE: where the commands are
+    follow=$room/follow
+    rm -rf "$follow"
+    mkdir "$follow"
+    sed -n 's/^ *\((umask 077; od .*\)$/\1/p' "$1" >"$room/commands"
+    sed -n 's/^ *\(stretch seal .*\)$/\1/p' "$1" >>"$room/commands"
+    same_text 3 "$(wc -l <"$room/commands" | tr -d ' ')" || return 1
+    for name in scan1 scan2; do head -c "$size" /dev/zero >"$follow/$name.raw"; done
+    program=$PWD/$OUT/stretch
+    (
+        stretch() { run_host "$program" "$@"; }
+        cd "$follow" && . "$room/commands"
+    ) || return 1
+    same_text 12501 "$(blocks_of "$follow/scan1.sealed" | sort -u | wc -l | tr -d ' ')" &&
+        same_text 0 "$(shared_blocks "$follow/scan1.sealed" "$follow/scan2.sealed")"
+}
+
+# And counters that are one apart as numbers, as the names of two nights are, are seen to share all blocks but one.
+shares_no_block() {
+    stretch --help >"$room/help" && followed "$room/help" && followed README.md || return 1
+    for night in 31 32; do
+        head -c "$size" /dev/zero >"$room/zeros"
+        stretch seal -c 128 -r 16 --key "$key64" --counter "000000000000000000004E4947485430$night" -o "$room/night$night" \
+            "$room/zeros" 2>"$room/error"
+    done
+    same_text 12499 "$(shared_blocks "$room/night31" "$room/night32")"
 }
 
 check "stretch: what the card sealed, the server opens" opens_whole
 check "stretch: the server seals as the card" seals_alike
 check "stretch: over zeros come known vectors, for a key in either case and the empty key" seals_vectors
 check "stretch: later bytes are those of the counter that is reached there" counts_on
+check "stretch: a run's number stands before the last four bytes of its counter" numbers
 check "stretch: stretches by the server" all_stretches
 check "stretch: stretches by the card" card_stretches
+check "stretch: to the end, no bytes, and an empty file" ends_and_none
+check "stretch: the key from a file and from standard input, with and without a line's end" key_forms
+check "stretch: into a file" writes_files
 check "stretch: --card calls the card engine, and else the server's is called" calls_its_engine
 check "stretch: the end of the longest run in files above 4 GiB" large_files
+check "stretch: two files sealed as --help and README.md show share no counter block" shares_no_block

@@ -1,12 +1,10 @@
 # Sourced by tests/product.sh after stretch.sh: what stretch says and does where it cannot serve.
 
-served="64 16 $key64 $counter64"
-
 # One line that begins with the program's name and has these words, that exit status, and nothing on standard output.
 says() { # STATUS TEXT WORDS..
     asked=$1 text=$2
     shift 2
-    timeout 20 $EMULATOR "./$OUT/stretch" "$@" >"$room/out" 2>"$room/error"
+    timeout 20 $EMULATOR "./$OUT/stretch" "$@" >"$room/out" 2>"$room/error" </dev/null
     told "$asked" "$text" "$?" && same_text 1 "$(wc -l <"$room/error" | tr -d ' ')"
 }
 
@@ -23,91 +21,167 @@ told() { # STATUS TEXT FOUND-STATUS
     }
 }
 
-refuses() { # NUMBER WORDS..: with the library's own text
-    number=$1
-    shift
-    says 1 "refusal $number: $(run_host "$room/texts" "$number")" "$@"
+refuses() { # NUMBER WHAT WORDS..: the value that is wrong, and the library's own text
+    number=$1 what=$2
+    shift 2
+    says 1 "$what (refusal $number): $(run_host "$room/texts" "$number")" open "$@" "$room/plain"
 }
 
-refuses_words() {
-    long=$key64$key64 rest="0 9 $room/plain"
-    refuses 1 65 16 "$key64" "$counter64" $rest && refuses 1 --card 0 11 "$key64" "$counter64" $rest &&
-        refuses 2 64 11 "$key64" "$counter64" $rest && refuses 2 64 256 "${long}00" "$counter64" $rest &&
-        refuses 3 64 16 "${long}00" "$counter64" $rest && refuses 3 128 16 "$long$long$long" '' $rest &&
-        refuses 4 64 16 "$key64" "$counter128" $rest && refuses 4 --card 128 16 "$key64" "$counter64" $rest &&
-        refuses 4 64 16 "$key64" '' $rest && refuses 4 64 16 "$long" 01234567 0 1073741824 "$room/plain"
+refuses_values() {
+    long=$key64$key64 k="--key $key64" n="-n 7"
+    refuses 1 "--cipher is 65" -c 65 -r 16 $k $n && refuses 1 "--cipher is 0" --card -c 0 -r 11 $k --counter 00 &&
+        refuses 2 "--rounds is 11" -c 64 -r 11 $k $n && refuses 2 "--rounds is 256" -c 64 -r 256 --key "${long}00" $n &&
+        refuses 3 "the key has 33 bytes" -c 64 -r 16 --key "${long}00" $n &&
+        refuses 3 "the key has 96 bytes" -c 128 -r 16 --key "$long$long$long" --counter '' &&
+        refuses 4 "--counter has 16 bytes" -c 64 -r 16 $k --counter "$counter128" &&
+        refuses 4 "--counter has 8 bytes" --card -c 128 -r 16 $k --counter "$counter64" &&
+        refuses 4 "--counter has 0 bytes" -c 64 -r 16 $k --counter ''
 }
 
 # A stretch of which only the end is too far, too, and numbers that come out small when cut to 32 bits.
 refuses_the_end() {
-    for pair in 0:1073741824 1073741824:1073741824 1073676000:1073741824 4294967301:4294967310 5:4294967310 \
-        0:18446744073709551615 18446744073709551615:18446744073709551615; do
-        refuses 7 $served "${pair%:*}" "${pair#*:}" "$room/large" || return 1
+    text=$(run_host "$room/texts" 7)
+    for triple in 0:1073741825 1073741824:1 1073676000:65825 4294967301:10 5:4294967310; do
+        from=${triple%:*} length=${triple#*:}
+        says 1 "the stretch ends at byte $((from + length)) (refusal 7): $text" open $with64 -f "$from" -l "$length" \
+            "$room/large" || return 1
     done
+    says 1 "the stretch ends at byte 5368709120 (refusal 7): $text" open $with64 "$room/large"
 }
 
 wrong_hex() {
-    says 2 "digit 7 of KEY" 64 16 001122x344 "$counter64" 0 9 "$room/plain" &&
-        says 2 "digit 1 of KEY" 64 16 ' 0' "$counter64" 0 9 "$room/plain" &&
-        says 2 "digit 4 of KEY" 64 16 001g "$counter64" 0 9 "$room/plain" &&
-        says 2 "digit 2 of COUNTER" 64 16 "$key64" 0x23456789ABCDEF 0 9 "$room/plain" &&
-        says 2 "digit 3 of COUNTER" 64 16 "$key64" 00é0 0 9 "$room/plain" &&
-        says 2 "KEY has 3 hex digits" 64 16 001 "$counter64" 0 9 "$room/plain" &&
-        says 2 "COUNTER has 15 hex digits" 64 16 "$key64" 0123456789ABCDE 0 9 "$room/plain"
+    c="-c 64 -r 16" k="--key $key64"
+    says 2 "digit 7 of --key is 'x', and should be a hex digit" open $c --key 001122x344 -n 1 "$room/plain" &&
+        says 2 "digit 1 of --key is the byte 20" open $c --key ' 0' -n 1 "$room/plain" &&
+        says 2 "digit 4 of --key is 'g'" open $c --key 001g -n 1 "$room/plain" &&
+        says 2 "digit 2 of --counter is 'x'" open $c $k --counter 0x23456789ABCDEF "$room/plain" &&
+        says 2 "digit 3 of --counter is the byte C3" open $c $k --counter 00é0 "$room/plain" &&
+        says 2 "--key has 3 hex digits, an odd number" open $c --key 001 -n 1 "$room/plain" &&
+        says 2 "--counter has 15 hex digits" open $c $k --counter 0123456789ABCDE "$room/plain" &&
+        says 2 "--key has 258 hex digits, more than any that is right" \
+            open $c --key "$(printf '%0258d' 0)" -n 1 "$room/plain"
 }
 
 wrong_numbers() {
-    says 2 "CIPHER is 'fox'" fox 16 "$key64" "$counter64" 0 9 "$room/plain" &&
-        says 2 "CIPHER is 4294967360, and can be at most 4294967295" \
-            4294967360 16 "$key64" "$counter64" 0 9 "$room/plain" &&
-        says 2 "ROUNDS is ''" 64 '' "$key64" "$counter64" 0 9 "$room/plain" &&
-        says 2 "ROUNDS is 4294967312" 64 4294967312 "$key64" "$counter64" 0 9 "$room/plain" &&
-        says 2 "FIRST is '-1'" $served -1 9 "$room/plain" && says 2 "FIRST is '1e3'" $served 1e3 9 "$room/plain" &&
-        says 2 "LAST is '0x9'" $served 0 0x9 "$room/plain" && says 2 "LAST is '9 '" $served 0 '9 ' "$room/plain" &&
-        says 2 "LAST is 18446744073709551616, and can be at most 18446744073709551615" \
-            $served 0 18446744073709551616 "$room/plain" &&
-        says 2 "LAST is 184467440737095516150" $served 0 184467440737095516150 "$room/plain" &&
-        says 2 "FIRST is 10, above LAST, which is 9" $served 10 9 "$room/plain"
+    rest="--key $key64 --counter $counter64"
+    says 2 "--cipher is 'fox', and should be a number" open -c fox -r 16 $rest "$room/plain" &&
+        says 2 "--cipher is 4294967360, and can be at most 4294967295" open -c 4294967360 -r 16 $rest "$room/plain" &&
+        says 2 "--rounds is ''" open -c 64 -r '' $rest "$room/plain" &&
+        says 2 "--rounds is 4294967312" open -c 64 -r 4294967312 $rest "$room/plain" &&
+        says 2 "--number is 4294967296, and can be at most 4294967295" \
+            open -c 64 -r 16 --key "$key64" -n 4294967296 "$room/plain" &&
+        says 2 "--number is '0x1'" open -c 64 -r 16 --key "$key64" -n 0x1 "$room/plain" &&
+        says 2 "--from is '-1'" open $with64 -f -1 "$room/plain" && says 2 "--from is '1e3'" open $with64 -f 1e3 "$room/plain" &&
+        says 2 "--length is '9 '" open $with64 -l '9 ' "$room/plain" &&
+        says 2 "--length is 18446744073709551616, and can be at most 18446744073709551615" \
+            open $with64 -l 18446744073709551616 "$room/plain"
 }
 
-# Here the usage follows the message.
-wrong_count() {
-    for words in "" "--card" "$served 0 9" "$served 0 9 a b" "--card $served 0 9"; do
-        stretch $words >"$room/out" 2>"$room/error"
-        told 2 "words came, and CIPHER to FILE are 7" "$?" || return 1
-        grep -q '^usage: stretch \[--card\] CIPHER' "$room/error" || return 1
+wrong_words() {
+    says 2 "the first word is '', and should be seal or open" &&
+        says 2 "the first word is 'close', and should be seal or open" close $with64 "$room/plain" &&
+        says 2 "the first word is '--card', and should be seal or open" --card seal $with64 "$room/plain" &&
+        says 2 "--cipher is missing: give 64 or 128" seal -r 16 -k - -n 1 "$room/plain" &&
+        says 2 "--rounds is missing: give 12 to 255" seal -c 64 -k - -n 1 "$room/plain" &&
+        says 2 "0 of --key-file, --key and --empty-key were given" seal -c 64 -r 16 -n 1 "$room/plain" &&
+        says 2 "2 of --key-file, --key and --empty-key were given" seal -c 64 -r 16 -k - --empty-key -n 1 "$room/plain" &&
+        says 2 "0 of --number and --counter were given" seal -c 64 -r 16 -k - "$room/plain" &&
+        says 2 "2 of --number and --counter were given" seal $with64 -n 1 "$room/plain" &&
+        says 2 "0 files were named, and it is to be one" seal $with64 && says 2 "2 files were named" seal $with64 a b &&
+        says 2 "--from was given twice" seal $with64 -f 1 --from=2 a && says 2 "--fast is no option" seal --fast $with64 a &&
+        says 2 "-x is no option" seal -x $with64 a && says 2 "-o wants a value after it" seal $with64 a -o
+}
+
+# From an unset variable of the shell, as a word, as a file, and on standard input.
+refuses_empty_keys() {
+    : >"$room/none.key" && printf '\n' >"$room/line.key" && chmod 600 "$room/none.key" "$room/line.key" || return 1
+    says 2 "--key is empty (is a variable of the shell not set?); --empty-key takes the key of 0 bytes" \
+        seal -c 64 -r 16 --key "${not_set:-}" -n 1 "$room/plain" &&
+        says 2 "$room/none.key is empty" seal -c 64 -r 16 -k "$room/none.key" -n 1 "$room/plain" &&
+        says 2 "$room/line.key is empty" seal -c 64 -r 16 -k "$room/line.key" -n 1 "$room/plain" &&
+        says 2 "the key on standard input is empty" seal -c 64 -r 16 -k - -n 1 "$room/plain"
+}
+
+wrong_key_files() {
+    (umask 077 && printf '%s\n%s\n' "$key64" "$key64" >"$room/two.key" && printf '%01000d\n' 0 >"$room/long.key")
+    says 1 "$room/no.key cannot be opened: No such file" seal -c 64 -r 16 -k "$room/no.key" -n 1 "$room/plain" &&
+        says 1 "$room cannot be read: Is a directory" seal -c 64 -r 16 -k "$room" -n 1 "$room/plain" &&
+        says 2 "digit 33 of $room/two.key is the byte 0A" seal -c 64 -r 16 -k "$room/two.key" -n 1 "$room/plain" &&
+        says 2 "$room/long.key has 260 hex digits, more than any" seal -c 64 -r 16 -k "$room/long.key" -n 1 "$room/plain"
+}
+
+warns() { # TEXT WORDS..: one line, the work is done, and no warning where the text is empty
+    text=$1
+    shift
+    stretch "$@" >"$room/out" 2>"$room/error" || return 1
+    cat "$room/error"
+    [ -s "$room/out" ] && grep -cF -- "stretch: warning: $text" "$room/error" >"$room/times"
+    same_text "$([ -z "$text" ] && echo 0 || echo 1)" "$(wc -l <"$room/error" | tr -d ' ')" &&
+        { [ -z "$text" ] || same_text 1 "$(cat "$room/times")"; }
+}
+
+# A key's file that others can read, and a counter that leads to shared blocks, where it seals.
+warnings() {
+    cp "$room/key128" "$room/shown.key"
+    for mode in 644 640 604; do
+        chmod "$mode" "$room/shown.key"
+        warns "$room/shown.key can be read by others (its mode is $mode, and should be 600): chmod 600 $room/shown.key" \
+            open -c 128 -r 12 -k "$room/shown.key" --counter "$counter128" "$room/sealed128" || return 1
     done
-    says 2 "--fast is no option" --fast $served 0 9 "$room/plain"
+    for mode in 600 400; do
+        chmod "$mode" "$room/shown.key"
+        warns '' open -c 128 -r 12 -k "$room/shown.key" --counter "$counter128" "$room/sealed128" || return 1
+    done
+    warns "the last four bytes of --counter should be zero" seal $with64 "$room/plain" && warns '' open $with64 "$room/plain" &&
+        warns '' seal -c 64 -r 16 --key "$key64" --counter 0123456700000000 "$room/plain" &&
+        warns '' seal -c 64 -r 16 --key "$key64" -n 4294967295 "$room/plain"
 }
 
+# The help, the man page and the program's own list have the same options, and the help says what a user has to know.
 helps() {
-    stretch --help >"$room/out" 2>"$room/error" && [ ! -s "$room/error" ] || return 1
-    for word in CIPHER ROUNDS KEY COUNTER FIRST LAST FILE --card seal 'see the key' 'exit status'; do
-        grep -q -- "$word" "$room/out" || {
-            echo "the usage does not have: $word"
-            return 1
-        }
+    for word in --help -h; do
+        stretch $word >"$room/help" 2>"$room/error" && [ ! -s "$room/error" ] || return 1
+        stretch seal $word | cmp - "$room/help" || return 1
     done
+    sed -n 's/^    \[[A-Z_]*\] = {"\([a-z-]*\)", .*/--\1/p' examples/stretch_job.c | sort >"$room/known"
+    echo --version >>"$room/known" && sort -o "$room/known" "$room/known"
+    sed -n 's/^  \(-[a-z], \)\{0,1\} *\(--[a-z-]*\) .*/\2/p' "$room/help" | sort >"$room/helped"
+    sed -n 's/\\-/-/g; s/^\.BR\{0,1\} \(-[a-z] ", " \)\{0,1\}\(--[a-z-]*\).*/\2/p' examples/stretch.1.in | sort -u >"$room/manned"
+    same_text "$(cat "$room/known")" "$(cat "$room/helped")" && same_text "$(cat "$room/known")" "$(cat "$room/manned")" || return 1
+    for file in "$room/help" examples/stretch.1.in README.md include/fox.h; do
+        tr -s '\n *' ' ' <"$file" >"$room/flat"
+        for words in 'ach run under one key another value in the bytes before the last four, and set the last four to zero' 'GiB'; do
+            grep -qF -- "$words" "$room/flat" || {
+                echo "$file does not say: $words"
+                return 1
+            }
+        done
+    done
+    for words in 'can see it' 'is not noticed when a file is opened' 'exit status' 'only four such bytes'; do
+        tr -s '\n ' ' ' <"$room/help" | grep -qF -- "$words" || return 1
+    done
+    same_text "stretch $version" "$(stretch --version)"
 }
 
 # As root every file can be read, so there the last is left out.
 wrong_files() {
-    : >"$room/empty"
     mkfifo "$room/pipe"
-    says 1 "$room/none cannot be opened: No such file" $served 0 9 "$room/none" &&
-        says 1 "$room is a directory" $served 0 9 "$room" && says 1 "is a pipe or device" $served 0 9 "$room/pipe" &&
-        says 1 "is a pipe or device" $served 0 9 /dev/zero && says 1 "it has 0 bytes" $served 0 0 "$room/empty" &&
-        says 1 "it has $size bytes, counted from 0, and LAST is $size" $served 0 "$size" "$room/plain" &&
-        says 1 "it has $size bytes" $served 65536 1073741823 "$room/plain" || return 1
+    says 1 "$room/none cannot be opened: No such file" open $with64 "$room/none" &&
+        says 1 "$room is a directory" open $with64 "$room" && says 1 "is a pipe or device" open $with64 "$room/pipe" &&
+        says 1 "is a pipe or device" open $with64 /dev/zero &&
+        says 1 "it has 0 bytes from byte 0 on, and --length is 1" open $with64 -l 1 "$room/empty" &&
+        says 1 "it has $size bytes, and --from is $((size + 1))" open $with64 -f $((size + 1)) "$room/plain" &&
+        says 1 "it has 1 bytes from byte $last on, and --length is 2" open $with64 -f "$last" -l 2 "$room/plain" &&
+        says 1 "--length is 18446744073709551615" open $with64 -f 3 -l 18446744073709551615 "$room/plain" || return 1
     [ "$(id -u)" -ne 0 ] || return 0
-    : >"$room/shut" && chmod 0 "$room/shut" && says 1 "cannot be opened: Permission denied" $served 0 9 "$room/shut"
+    : >"$room/shut" && chmod 0 "$room/shut" && says 1 "cannot be opened: Permission denied" open $with64 "$room/shut"
 }
 
 # Once a byte has come, stretch has looked at the file's length; what a pipe does not take of 1 MB it has not read yet.
 shrinking_file() {
     head -c 1000000 /dev/zero >"$room/shrinking"
     {
-        stretch $served 0 999999 "$room/shrinking" 2>"$room/error"
+        stretch open $with64 "$room/shrinking" 2>"$room/error"
         echo "$?" >"$room/status"
     } | {
         head -c 1 >/dev/null
@@ -121,20 +195,38 @@ shrinking_file() {
 # A device that is full, a pipe whose reader has gone, and no standard output at all.
 wrong_output() {
     : >"$room/out"
-    stretch $served 0 9 "$room/plain" 2>"$room/error" >/dev/full
+    stretch open $with64 -l 10 "$room/plain" 2>"$room/error" >/dev/full
     told 1 "standard output cannot be written: No space" "$?" || return 1
-    { stretch $served 0 "$last" "$room/plain" 2>"$room/error"; echo "$?" >"$room/status"; } | head -c 1 >/dev/null
+    { stretch open $with64 "$room/plain" 2>"$room/error"; echo "$?" >"$room/status"; } | head -c 1 >/dev/null
     told 1 "standard output cannot be written: Broken pipe" "$(cat "$room/status")" || return 1
-    stretch $served 0 9 "$room/plain" 2>"$room/error" >&-
+    stretch open $with64 -l 10 "$room/plain" 2>"$room/error" >&-
     told 1 "standard output cannot be written: Bad file" "$?"
 }
 
-check "stretch: refusals 1 to 4, the first that applies, with their texts and nothing written" refuses_words
+# The file that is read is never written over, by whatever name; one that is not whole is taken away, and a refused command
+# makes none.
+wrong_output_files() {
+    cp "$room/plain" "$room/kept" && ln -s kept "$room/kept.link"
+    for name in kept kept.link; do
+        says 1 "$room/$name is the file that is read" open $with64 -o "$room/$name" "$room/kept" || return 1
+    done
+    cmp "$room/kept" "$room/plain" && says 1 "$room/no/where cannot be opened for writing" open $with64 -o "$room/no/where" "$room/plain" &&
+        says 1 "refusal 2" open -c 64 -r 11 --key "$key64" -n 1 -o "$room/refused" "$room/plain" && [ ! -e "$room/refused" ] || return 1
+    (ulimit -f 100 && trap '' XFSZ && stretch open $with64 -o "$room/cut" "$room/plain" 2>"$room/error")
+    told 1 "$room/cut cannot be written: File too large" "$?" && [ ! -e "$room/cut" ] &&
+        says 1 "/dev/full cannot be written: No space" open $with64 -o /dev/full "$room/plain" && [ -e /dev/full ]
+}
+
+check "stretch: refusals 1 to 4, the first that applies, with the value, the text and nothing written" refuses_values
 check "stretch: refusal 7, also where the stretch begins before the end" refuses_the_end
-check "stretch: hex that is wrong or odd, and which digit" wrong_hex
-check "stretch: numbers that are none, too large or in the wrong order" wrong_numbers
-check "stretch: too many and too few words, and an unknown option" wrong_count
-check "stretch: --help says all" helps
+check "stretch: hex that is wrong, odd or too long, and which digit" wrong_hex
+check "stretch: numbers that are none, or too large" wrong_numbers
+check "stretch: words that are missing, twice there, too many or unknown" wrong_words
+check "stretch: an empty key is refused unless it is asked for" refuses_empty_keys
+check "stretch: key files that are not there, too long, or have two keys" wrong_key_files
+check "stretch: warnings of a key that others can read and of a counter that leads to shared blocks" warnings
+check "stretch: --help and the man page have every option, and say what has to be known" helps
 check "stretch: files that are not there, too short, directories, pipes and devices" wrong_files
 check "stretch: a file that becomes shorter" shrinking_file
 check "stretch: standard output full, closed and broken" wrong_output
+check "stretch: files to write that cannot be written, and the one that is read" wrong_output_files

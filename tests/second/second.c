@@ -92,6 +92,21 @@ uint32_t second_run(uint32_t cipher, uint32_t rounds, const uint8_t *key, size_t
     return 0;
 }
 
+/* Byte by byte from the end: four zeros, the number from its lowest byte on, and zeros. */
+uint32_t second_counter(uint32_t cipher, uint32_t number, uint8_t *counter, size_t counter_len)
+{
+    if (cipher != 64 && cipher != 128)
+        return 1;
+    if (counter_len != block_size(cipher))
+        return 4;
+    for (size_t back = 1; back <= counter_len; back++) {
+        counter[counter_len - back] = back <= 4 ? 0 : (uint8_t)number;
+        if (back > 4)
+            number >>= 8;
+    }
+    return 0;
+}
+
 /* `other_length` is what a tag of another length than the block's is refused with. */
 static uint32_t tag_refusal(uint32_t cipher, uint32_t rounds, size_t key_len, size_t message_len, size_t tag_len,
                             uint32_t other_length)

@@ -16,6 +16,9 @@ uint32_t second_run(uint32_t cipher, uint32_t rounds, const uint8_t *key, size_t
                     size_t counter_len, uint64_t offset, const uint8_t *data, size_t data_len,
                     uint8_t *out, size_t out_len);
 
+/* The counter block that a run of this number begins with. */
+uint32_t second_counter(uint32_t cipher, uint32_t number, uint8_t *counter, size_t counter_len);
+
 /* A tag over a message, made, or a stored one tested. */
 uint32_t second_make_tag(uint32_t cipher, uint32_t rounds, const uint8_t *key, size_t key_len, const uint8_t *message,
                          size_t message_len, uint8_t *tag, size_t tag_len);

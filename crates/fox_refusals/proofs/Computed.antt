@@ -1,12 +1,12 @@
 -- The order of refusals and their limits, computed by the definitions and stated as lists: each pair of neighbouring faults at once, of which the first is
--- given, for a key, a block, a stretch and a tag; and the last value that is served beside the first that is not.
+-- given, for a key, a block, a stretch, a counter block and a tag; and the last value that is served beside the first that is not.
 -- Assumes nothing.
 use mathlib.Core.Path.{_≡_, refl}
 use mathlib.Core.Bool.{true, false}
 use mathlib.Core.List.{[], _∷_, _++_}
 use lib.ListN.{replicate}
 use Rattle.fox_refusals.specs.Refusals.{refusalOf, blockSize, wrongCipher, wrongRounds, longKey, wrongBlockLength, longData, wrongOutputLength}
-use Rattle.fox_refusals.specs.Refusals.{pastEnd, forKey, forBlock, forStretch, forRun, longMessage, wrongTagLength, same, otherTag, forTag, forTagTest}
+use Rattle.fox_refusals.specs.Refusals.{pastEnd, forKey, forBlock, forStretch, forRun, forCounter, longMessage, wrongTagLength, same, otherTag, forTag, forTagTest}
 
 pub known :
     -- a key: 1 before 2 before 3; cipher 64 and 128 alone, rounds 12 to 255, keys of 0 to 32 bytes
@@ -47,6 +47,19 @@ pub known :
     ++ (0 ∷ 7 ∷ [])
 unfolding refusalOf blockSize wrongCipher wrongRounds longKey wrongBlockLength longData wrongOutputLength pastEnd forKey forBlock forStretch forRun
 known = refl
+
+pub known-counters :
+    -- making a counter block: 1 before 4; cipher 64 and 128 alone, room of 8 and of 16 bytes
+    (refusalOf (forCounter 65 7) ∷ refusalOf (forCounter 0 16) ∷ refusalOf (forCounter 63 8) ∷ refusalOf (forCounter 127 16) ∷ refusalOf (forCounter 129 16) ∷ [])
+    ++ (refusalOf (forCounter 64 0) ∷ refusalOf (forCounter 64 7) ∷ refusalOf (forCounter 64 9) ∷ refusalOf (forCounter 64 16) ∷ [])
+    ++ (refusalOf (forCounter 128 8) ∷ refusalOf (forCounter 128 15) ∷ refusalOf (forCounter 128 17) ∷ [])
+    ++ (refusalOf (forCounter 64 8) ∷ refusalOf (forCounter 128 16) ∷ [])
+    ≡ (1 ∷ 1 ∷ 1 ∷ 1 ∷ 1 ∷ [])
+    ++ (4 ∷ 4 ∷ 4 ∷ 4 ∷ [])
+    ++ (4 ∷ 4 ∷ 4 ∷ [])
+    ++ (0 ∷ 0 ∷ [])
+unfolding refusalOf blockSize wrongCipher wrongBlockLength forCounter
+known-counters = refl
 
 pub known-tags :
     -- making a tag: 1 before 2 before 3 before 5 before 6; messages of 0 to 1,073,741,824 bytes, a buffer of B bytes

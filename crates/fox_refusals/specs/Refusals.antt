@@ -102,6 +102,10 @@ forStretch cipher counterLen offset inputLen outLen =
 unfoldable pub forRun : ℕ → ℕ → ℕ → ℕ → ℕ → ℕ → ℕ → List Refusal
 forRun cipher rounds keyLen counterLen offset inputLen outLen = forKey cipher rounds keyLen ++ forStretch cipher counterLen offset inputLen outLen
 
+-- the refusals of a call that makes a run's first counter block from the run's number
+unfoldable pub forCounter : ℕ → ℕ → List Refusal
+forCounter cipher counterLen = wrongCipher cipher ∷ wrongBlockLength cipher counterLen ∷ []
+
 -- the refusals of a call that makes a tag; of one that tests a tag all but 10, which comes after them
 unfoldable pub forTag : Bool → ℕ → ℕ → ℕ → ℕ → ℕ → List Refusal
 forTag making cipher rounds keyLen messageLen tagLen =

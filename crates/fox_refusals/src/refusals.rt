@@ -27,7 +27,7 @@ pub fn block_size(cipher: u32) -> usize
     }
 }
 
-fn wrong_cipher(cipher: u32) -> bool
+pub(crate) fn wrong_cipher(cipher: u32) -> bool
     ensures { λ r. ⌜ r ≡ wrongCipher cipher .applies ⌝ }
 {
     if cipher == 64 {

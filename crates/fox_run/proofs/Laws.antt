@@ -6,3 +6,4 @@ pub mod Loop
 pub mod Parts
 pub mod Served
 pub mod FourBlocks
+pub mod Numbers

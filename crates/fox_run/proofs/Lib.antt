@@ -4,3 +4,4 @@ pub mod Bytes
 pub mod Runs
 pub mod Stretches
 pub mod Counters
+pub mod Numbers

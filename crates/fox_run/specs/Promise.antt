@@ -1,12 +1,14 @@
--- What a call on a stretch of a run promises, whole: refusal number, count and every byte of the output, for all inputs. Every engine's call cites it.
+-- What a call on a stretch of a run promises, whole: refusal number, count and every byte of the output, for all inputs. Every engine's call cites it. And what
+-- a call promises that makes a run's first counter block.
 -- Assumes nothing.
 use Prim.Native.Nat.{ℕ}
 use mathlib.Core.List.{List}
 use lib.ListN.{length}
-use Rattle.fox_refusals.specs.Refusals.{forRun}
+use Rattle.fox_refusals.specs.Refusals.{forRun, forCounter}
 use Rattle.fox_refusals.specs.Reply.{Reply}
 use Rattle.fox_refusals.specs.declared.answer.Answer.{Answer}
 use Rattle.fox_key_schedule.specs.Schedule.{roundKeys}
+use Rattle.fox_run.specs.Counter.{firstCounter}
 use Rattle.fox_run.specs.Run.{runWith}
 
 -- from cipher, rounds, key length, a list of round keys, counter block, offset and input, with the output before and after
@@ -17,3 +19,7 @@ RunsWith cipher rounds keyLen rks counter offset input before after r =
 -- from cipher, rounds and key bytes, with the round keys of this key
 abbrev pub Runs : ℕ → ℕ → List ℕ → List ℕ → ℕ → List ℕ → List ℕ → List ℕ → Answer → Type 0
 Runs cipher rounds key = RunsWith cipher rounds (length key) (roundKeys cipher rounds key)
+
+-- from cipher and the run's number, with the output before and after
+abbrev pub MakesCounter : ℕ → ℕ → List ℕ → List ℕ → Answer → Type 0
+MakesCounter cipher number before after r = Reply (forCounter cipher (length before)) (firstCounter cipher number) before after r

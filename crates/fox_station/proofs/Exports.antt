@@ -3,7 +3,8 @@
 use mathlib.Core.Path.{_≡_, refl, sym, ap, _∙_}
 use mathlib.Core.Bool.{Bool, not, cond}
 use mathlib.Core.List.{List}
-use Prim.Native.Nat.{ℕ, _+_, _/_, _%_, _≤_, _<_}
+use mathlib.Core.Logic.{_⊎_}
+use Prim.Native.Nat.{ℕ, _+_, _/_, _%_, _^_, _≤_, _<_}
 use lib.Dec.{eqb}
 use lib.ListN.{length, getD, take, drop}
 use Rattle.fox_layers.specs.Words.{_⊕_}
@@ -17,17 +18,18 @@ use Rattle.fox_key_schedule.specs.Schedule.{roundKeys}
 use Rattle.fox_block.specs.Block.{turnBlock, sealBlock, BlockOf}
 use Rattle.fox_block.specs.Promise.{TurnedBack}
 use Rattle.fox_block.proofs.Blocks.{block-served, blocks-same, turned-back-calls}
-use Rattle.fox_run.specs.Counter.{counterBlock}
+use Rattle.fox_run.specs.Counter.{counterBlock, firstCounter}
 use Rattle.fox_run.specs.Run.{run}
 use Rattle.fox_run.specs.Promise.{Runs}
 use Rattle.fox_run.specs.Cuts.{CallsOf, CutOf}
 use Rattle.fox_run.proofs.Laws.Served.{call-served}
 use Rattle.fox_run.proofs.Bytes.{call-byte}
 use Rattle.fox_run.proofs.Runs.{opened-sealed, runs-same}
+use Rattle.fox_run.proofs.Numbers.{counter-made, made-apart}
 use Rattle.fox_run.proofs.Stretches.{stretch-opened-alone, cuts-joined, cuts-agree, cuts-undone, cuts-opened, stretch-of-cuts}
 use Rattle.fox_tag.specs.Tag.{tag}
 use Rattle.fox_tag.proofs.Tags.{tag-made, right-passes, other-told, passed-right, told-other, made-passes, tags-same}
-use Rattle.fox_station.specs.Exports.{TurnHanded, RunHanded, RunExport, MakeTagHanded, TestTagHanded}
+use Rattle.fox_station.specs.Exports.{TurnHanded, RunHanded, RunExport, CounterHanded, MakeTagHanded, TestTagHanded}
 
 -- a refused export leaves the output as it was, and its count is 0
 pub export-refused : {rs : List Refusal} {value before after : List ℕ} {n : ℕ} → Handed rs value before after n → (n ≡ 0 → ⊥)
@@ -135,6 +137,20 @@ module _ (c rounds : ℕ) (key counter : List ℕ) where
         → CutOf (RunExport c rounds key counter) 0 whole outputs → at + m ≤ length whole → m ≤ 65536 → length before ≡ m
         → RunExport c rounds key counter at (take m (drop at whole)) before after r → Served m (take m (drop at outputs)) after r
     stretch-of-exports = stretch-of-cuts c rounds (length key) (roundKeys c rounds key) counter (RunExport c rounds key counter) export-runs k size
+
+-- first counter blocks
+
+-- a buffer of the cipher's block is served, and gets the first counter block of the run with that number
+pub counter-export-made : (c number : ℕ) {before after : List ℕ} {n : ℕ} → (c ≡ 64) ⊎ (c ≡ 128) → length before ≡ blockSize c
+    → CounterHanded c number before after n → Served (blockSize c) (firstCounter c number) after (answer n (length before))
+counter-export-made c number known size call = counter-made c number known size (handed-reply call)
+
+-- runs whose counters the export made from different numbers: no byte of the one is in a block that has the counter block of a byte of the other
+pub counter-exports-apart : (c m n : ℕ) {before₁ after₁ before₂ after₂ : List ℕ} → m < 2 ^ 32 → n < 2 ^ 32 → CounterHanded c m before₁ after₁ 0
+    → CounterHanded c n before₂ after₂ 0 → (m ≡ n → ⊥) → (a b : ℕ) → a < 1073741824 → b < 1073741824
+    → counterBlock after₁ (a / blockSize c) ≡ counterBlock after₂ (b / blockSize c) → ⊥
+unfolding answer
+counter-exports-apart c m n hm hn first second = made-apart c m n hm hn (handed-reply first) refl (handed-reply second) refl
 
 -- tags
 

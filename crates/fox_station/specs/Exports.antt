@@ -6,10 +6,11 @@ use mathlib.Core.List.{List}
 use Prim.Native.Nat.{ℕ}
 use lib.Dec.{eqb}
 use lib.ListN.{length}
-use Rattle.fox_refusals.specs.Refusals.{refusalOf, forBlock, forRun, forTag, forTagTest}
+use Rattle.fox_refusals.specs.Refusals.{refusalOf, forBlock, forRun, forCounter, forTag, forTagTest}
 use Rattle.fox_refusals.specs.Handed.{Handed}
 use Rattle.fox_refusals.specs.declared.answer.Answer.{Answer}
 use Rattle.fox_block.specs.Block.{turnBlock}
+use Rattle.fox_run.specs.Counter.{firstCounter}
 use Rattle.fox_run.specs.Run.{run}
 use Rattle.fox_tag.specs.Tag.{tag}
 
@@ -23,6 +24,10 @@ abbrev pub RunHanded : ℕ → ℕ → List ℕ → List ℕ → ℕ → List �
 RunHanded cipher rounds key counter offset input before after r =
     Handed (forRun cipher rounds (length key) (length counter) offset (length input) (length before)) (run cipher rounds key counter offset input) before
     after r
+
+-- a run's first counter block, from cipher and the run's number, with the output before and after
+abbrev pub CounterHanded : ℕ → ℕ → List ℕ → List ℕ → ℕ → Type 0
+CounterHanded cipher number before after r = Handed (forCounter cipher (length before)) (firstCounter cipher number) before after r
 
 -- the tag of a message made, from cipher, rounds, key bytes and message, with the output before and after
 abbrev pub MakeTagHanded : ℕ → ℕ → List ℕ → List ℕ → List ℕ → List ℕ → ℕ → Type 0

@@ -13,7 +13,7 @@ use borrow.Author.Tests.{ltb-false, eqb-true, eqb-false, le-ltb, eq-eqb, ne-eqb,
 use Rattle.fox_layers.proofs.Laws.Lists.{by-test}
 use Rattle.fox_refusals.specs.Refusals.{Refusal, refusalOf, First, here, later, orElse, differs, blockSize, wrongCipher, wrongRounds, longKey}
 use Rattle.fox_refusals.specs.Refusals.{wrongBlockLength, longData, wrongOutputLength, pastEnd, forKey, forBlock, forStretch, forRun, Keyed}
-use Rattle.fox_refusals.specs.Refusals.{Blocked, Stretched, longMessage, wrongTagLength, same, otherTag, forTag, forTagTest, Tagged}
+use Rattle.fox_refusals.specs.Refusals.{Blocked, Stretched, longMessage, wrongTagLength, same, otherTag, forTag, forTagTest, Tagged, forCounter}
 
 -- no test of the list applies
 unfoldable pub Passed : List Refusal → Type 0
@@ -201,6 +201,18 @@ stretched c r k b n d o e =
       output = differs-known o d (q .1 .1 .0);
       end = ltb-false 1073741824 (n + d) (q .1 .1 .1 .0);
     }
+
+-- a counter block that is made
+
+pub counter-served : (c n : ℕ) → (c ≡ 64) ⊎ (c ≡ 128) → n ≡ blockSize c → refusalOf (forCounter c n) ≡ 0
+unfolding Passed forCounter wrongBlockLength
+counter-served c n known size = passed-served (forCounter c n) (cipher-passed c known, (differs-passed n (blockSize c) size, tt))
+
+pub counter-known : (c n : ℕ) → refusalOf (forCounter c n) ≡ 0 → ((c ≡ 64) ⊎ (c ≡ 128)) × (n ≡ blockSize c)
+unfolding Passed numbered forCounter wrongCipher wrongBlockLength
+counter-known c n e =
+    let p = served-passed (forCounter c n) refl e in
+    (cipher-known c (p .0), differs-known n (blockSize c) (p .1 .0))
 
 -- a tag
 

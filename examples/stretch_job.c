@@ -1,0 +1,338 @@
+/* The words of stretch's command, the key's file, and the counter that is made from a run's number. */
+#define _POSIX_C_SOURCE 200809L
+#include "stretch_job.h"
+#include "fox.h"
+
+#include <errno.h>
+#include <fcntl.h>
+#include <getopt.h>
+#include <inttypes.h>
+#include <stdarg.h>
+#include <stdio.h>
+#include <string.h>
+#include <sys/stat.h>
+#include <unistd.h>
+
+const char usage[] =
+    "usage: stretch seal|open --cipher 64|128 --rounds N KEY COUNTER [OPTION].. FILE\n"
+    "\n"
+    "Seals a file or opens a sealed one: all of it, or a stretch, which is some bytes from any byte on.\n"
+    "\n"
+    "  -c, --cipher 64|128   FOX64 or FOX128\n"
+    "  -r, --rounds N        12 to 255; take 16 or more to seal something new\n"
+    "KEY is one of\n"
+    "  -k, --key-file NAME   the key from a file, or from standard input where NAME is -: up to 64 hex digits, two to\n"
+    "                        a byte, with or without a line feed after them; take 32 digits or more, made at random\n"
+    "      --key DIGITS      the key itself: every user of the machine can see it in the list of processes when the\n"
+    "                        command begins, and the shell may keep it among its old commands\n"
+    "      --empty-key       the key of 0 bytes, which is no secret; without this an empty key is refused\n"
+    "COUNTER is one of\n"
+    "  -n, --number N        the number of the run, 0 to 4294967295: its counter block is made from it\n"
+    "      --counter DIGITS  the counter block that the run begins with, 16 hex digits for cipher 64 and 32 for 128\n"
+    "OPTION is any of\n"
+    "  -f, --from BYTE       the first byte of the stretch, counted from 0; without it 0\n"
+    "  -l, --length BYTES    how many bytes; without it all to the file's end\n"
+    "  -o, --output NAME     write to this file, and not to standard output\n"
+    "      --card            work by the card engine, which is slow; the bytes are the same\n"
+    "  -h, --help            say this\n"
+    "      --version         say the version\n"
+    "\n"
+    "Give each run under one key another value in the bytes before the last four, and set the last four to zero:\n"
+    "--number does so with another number for each run. Two files that share a counter block can be read from one\n"
+    "another without the key. With cipher 64 there are only four such bytes, and one key should seal no more than\n"
+    "1 GiB in all.\n"
+    "A wrong key, counter, cipher or round count is not noticed when a file is opened: other bytes come out.\n"
+    "A file has at most 1073741824 bytes. The exit status is 0 for success, 1 for a refusal or trouble with a file,\n"
+    "2 for wrong words.\n"
+    "\n"
+    "A night's key, two files sealed, and 100 bytes of one opened:\n"
+    "  (umask 077; od -An -v -tx1 -N16 /dev/urandom | tr -d ' ' >night.key)\n"
+    "  stretch seal -c 128 -r 16 -k night.key -n 1 -o scan1.sealed scan1.raw\n"
+    "  stretch seal -c 128 -r 16 -k night.key -n 2 -o scan2.sealed scan2.raw\n"
+    "  stretch open -c 128 -r 16 -k night.key -n 1 -f 4096 -l 100 scan1.sealed\n";
+
+int complain(int status, const char *format, ...)
+{
+    va_list values;
+    va_start(values, format);
+    fputs("stretch: ", stderr);
+    vfprintf(stderr, format, values);
+    fputc('\n', stderr);
+    va_end(values);
+    return status;
+}
+
+/* The options: what each was given with, and NULL for those that were not given. */
+
+enum { CIPHER, ROUNDS, KEY_FILE, KEY, EMPTY_KEY, NUMBER, COUNTER, FROM, LENGTH, OUTPUT, CARD, HELP, OPTIONS };
+
+/* Those with no letter have a number above all letters. */
+static const struct option known[OPTIONS + 1] = {
+    [CIPHER] = {"cipher", required_argument, NULL, 'c'},
+    [ROUNDS] = {"rounds", required_argument, NULL, 'r'},
+    [KEY_FILE] = {"key-file", required_argument, NULL, 'k'},
+    [KEY] = {"key", required_argument, NULL, 256 + KEY},
+    [EMPTY_KEY] = {"empty-key", no_argument, NULL, 256 + EMPTY_KEY},
+    [NUMBER] = {"number", required_argument, NULL, 'n'},
+    [COUNTER] = {"counter", required_argument, NULL, 256 + COUNTER},
+    [FROM] = {"from", required_argument, NULL, 'f'},
+    [LENGTH] = {"length", required_argument, NULL, 'l'},
+    [OUTPUT] = {"output", required_argument, NULL, 'o'},
+    [CARD] = {"card", no_argument, NULL, 256 + CARD},
+    [HELP] = {"help", no_argument, NULL, 'h'},
+};
+
+static int not_known(char **words, int found)
+{
+    if (found == ':')
+        return complain(WRONG_WORDS, "%s wants a value after it", words[optind - 1]);
+    if (optopt > 0 && optopt < 256)
+        return complain(WRONG_WORDS, "-%c is no option; stretch --help says which there are", optopt);
+    return complain(WRONG_WORDS, "%s is no option; stretch --help says which there are", words[optind - 1]);
+}
+
+static int read_options(int count, char **words, char **given)
+{
+    int found;
+    opterr = 0;
+    while ((found = getopt_long(count, words, ":c:r:k:n:f:l:o:h", known, NULL)) != -1) {
+        size_t i = 0;
+        while (i < OPTIONS && known[i].val != found)
+            i++;
+        if (i == OPTIONS)
+            return not_known(words, found);
+        if (given[i] != NULL)
+            return complain(WRONG_WORDS, "--%s was given twice, and is to be given once", known[i].name);
+        given[i] = known[i].has_arg == no_argument ? words[0] : optarg;
+    }
+    return DONE;
+}
+
+/* What has to be there. */
+
+static int one_of(char **given, size_t first, size_t last, const char *what)
+{
+    int count = 0;
+    for (size_t i = first; i <= last; i++)
+        count += given[i] != NULL;
+    if (count == 1)
+        return DONE;
+    return complain(WRONG_WORDS, "%d of %s were given, and it is to be one of them", count, what);
+}
+
+static int all_there(char **given, int files)
+{
+    if (given[CIPHER] == NULL)
+        return complain(WRONG_WORDS, "--cipher is missing: give 64 or 128, that which the file is sealed with");
+    if (given[ROUNDS] == NULL)
+        return complain(WRONG_WORDS, "--rounds is missing: give 12 to 255, as many to open as to seal");
+    int status = one_of(given, KEY_FILE, EMPTY_KEY, "--key-file, --key and --empty-key");
+    if (status == DONE)
+        status = one_of(given, NUMBER, COUNTER, "--number and --counter");
+    if (status == DONE && files != 1)
+        status = complain(WRONG_WORDS, "%d files were named, and it is to be one", files);
+    return status;
+}
+
+/* Numbers and hex digits. */
+
+static int read_number(const char *name, const char *word, uint64_t most, uint64_t *value)
+{
+    *value = 0;
+    for (const char *at = word; at == word || *at != 0; at++) {
+        if (*at < '0' || *at > '9')
+            return complain(WRONG_WORDS, "%s is '%s', and should be a number in decimal digits", name, word);
+        uint64_t digit = (uint64_t)(*at - '0');
+        if (*value > (most - digit) / 10)
+            return complain(WRONG_WORDS, "%s is %s, and can be at most %" PRIu64, name, word, most);
+        *value = *value * 10 + digit;
+    }
+    return DONE;
+}
+
+static int read_small(const char *name, const char *word, uint32_t *value)
+{
+    uint64_t wide;
+    int status = read_number(name, word, UINT32_MAX, &wide);
+    *value = (uint32_t)wide;
+    return status;
+}
+
+static int hex_digit(char c)
+{
+    if (c >= '0' && c <= '9')
+        return c - '0';
+    if (c >= 'A' && c <= 'F')
+        return c - 'A' + 10;
+    if (c >= 'a' && c <= 'f')
+        return c - 'a' + 10;
+    return -1;
+}
+
+static int no_digit(const char *name, size_t place, char c)
+{
+    const char *right = "and should be a hex digit: 0 to 9, A to F, a to f";
+    if (c > ' ' && c <= '~')
+        return complain(WRONG_WORDS, "digit %zu of %s is '%c', %s", place, name, c, right);
+    return complain(WRONG_WORDS, "digit %zu of %s is the byte %02X, %s", place, name, (unsigned)(uint8_t)c, right);
+}
+
+static int read_hex(const char *name, const char *text, size_t digits, uint8_t *bytes, size_t *count)
+{
+    for (size_t i = 0; i < digits; i++)
+        if (hex_digit(text[i]) < 0)
+            return no_digit(name, i + 1, text[i]);
+    if (digits % 2 != 0)
+        return complain(WRONG_WORDS, "%s has %zu hex digits, an odd number, and two make a byte", name, digits);
+    if (digits > 2 * MOST_BYTES)
+        return complain(WRONG_WORDS, "%s has %zu hex digits, more than any that is right", name, digits);
+    for (size_t i = 0; i < digits / 2; i++)
+        bytes[i] = (uint8_t)(hex_digit(text[2 * i]) * 16 + hex_digit(text[2 * i + 1]));
+    *count = digits / 2;
+    return DONE;
+}
+
+/* The key. */
+
+static int key_digits(const char *name, const char *text, size_t digits, struct job *job)
+{
+    if (digits == 0)
+        return complain(WRONG_WORDS, "%s is empty (is a variable of the shell not set?); --empty-key takes the key of 0 bytes",
+                        name);
+    return read_hex(name, text, digits, job->key, &job->key_len);
+}
+
+static void warn_of_readers(const char *name, int file)
+{
+    struct stat about;
+    if (fstat(file, &about) == 0 && S_ISREG(about.st_mode) && (about.st_mode & (S_IRGRP | S_IROTH)) != 0)
+        complain(DONE, "warning: %s can be read by others (its mode is %03o, and should be 600): chmod 600 %s", name,
+                 (unsigned)(about.st_mode & 0777), name);
+}
+
+/* As many bytes as there are, or as there is room for; -1 where reading fails. */
+static ssize_t read_some(int file, char *text, size_t room)
+{
+    size_t had = 0;
+    for (ssize_t more = 1; had < room && more != 0; had += more > 0 ? (size_t)more : 0) {
+        more = read(file, text + had, room - had);
+        if (more < 0 && errno != EINTR)
+            return -1;
+    }
+    return (ssize_t)had;
+}
+
+/* A text that is longer than the room fills it, and is longer than any key. */
+static int key_of(const char *name, int file, struct job *job)
+{
+    char text[2 * MOST_BYTES + 4];
+    ssize_t length = read_some(file, text, sizeof text);
+    int status;
+    if (length < 0) {
+        status = complain(TROUBLE, "%s cannot be read: %s", name, strerror(errno));
+    } else {
+        size_t digits = (size_t)length;
+        if (digits > 0 && text[digits - 1] == '\n')
+            digits--;
+        if (digits > 0 && digits < (size_t)length && text[digits - 1] == '\r')
+            digits--;
+        status = key_digits(name, text, digits, job);
+    }
+    fox_wipe(text, sizeof text);
+    return status;
+}
+
+static int key_from(const char *name, struct job *job)
+{
+    if (strcmp(name, "-") == 0)
+        return key_of("the key on standard input", STDIN_FILENO, job);
+    int file = open(name, O_RDONLY | O_NOCTTY | O_CLOEXEC);
+    if (file < 0)
+        return complain(TROUBLE, "%s cannot be opened: %s", name, strerror(errno));
+    warn_of_readers(name, file);
+    int status = key_of(name, file, job);
+    close(file);
+    return status;
+}
+
+static int read_key(char **given, struct job *job)
+{
+    if (given[EMPTY_KEY] != NULL)
+        return DONE;
+    if (given[KEY_FILE] != NULL)
+        return key_from(given[KEY_FILE], job);
+    int status = key_digits("--key", given[KEY], strlen(given[KEY]), job);
+    fox_wipe(given[KEY], strlen(given[KEY]));
+    return status;
+}
+
+/* The counter. */
+
+static int made_counter(const char *word, struct job *job)
+{
+    uint32_t number;
+    int status = read_small("--number", word, &number);
+    job->counter_len = job->cipher == FOX64 ? FOX64_BLOCK : FOX128_BLOCK;
+    if (status != DONE || fox_counter(job->cipher, number, job->counter, job->counter_len) == FOX_SERVED)
+        return status;
+    return complain(TROUBLE, "--cipher is %" PRIu32 " (refusal 1): %s", job->cipher, fox_refusal_text(FOX_REFUSED_CIPHER));
+}
+
+/* Of a counter block that the library will refuse nothing is said here. */
+static void warn_of_sharing(const struct job *job)
+{
+    static const uint8_t zeros[4];
+    if (job->sealing && job->counter_len > sizeof zeros &&
+        memcmp(job->counter + job->counter_len - sizeof zeros, zeros, sizeof zeros) != 0)
+        complain(DONE, "warning: the last four bytes of --counter should be zero, so that no two runs share a counter block");
+}
+
+static int read_counter(char **given, struct job *job)
+{
+    if (given[NUMBER] != NULL)
+        return made_counter(given[NUMBER], job);
+    int status = read_hex("--counter", given[COUNTER], strlen(given[COUNTER]), job->counter, &job->counter_len);
+    if (status == DONE)
+        warn_of_sharing(job);
+    return status;
+}
+
+static int read_job(char **given, struct job *job)
+{
+    int status = read_small("--cipher", given[CIPHER], &job->cipher);
+    if (status == DONE)
+        status = read_small("--rounds", given[ROUNDS], &job->rounds);
+    if (status == DONE && given[FROM] != NULL)
+        status = read_number("--from", given[FROM], UINT64_MAX, &job->from);
+    job->to_end = given[LENGTH] == NULL;
+    if (status == DONE && !job->to_end)
+        status = read_number("--length", given[LENGTH], UINT64_MAX, &job->length);
+    if (status == DONE)
+        status = read_key(given, job);
+    if (status == DONE)
+        status = read_counter(given, job);
+    job->card = given[CARD] != NULL;
+    job->output = given[OUTPUT];
+    return status;
+}
+
+int read_words(int count, char **words, struct job *job)
+{
+    char *given[OPTIONS] = {NULL};
+    *job = (struct job){.sealing = count > 0 && strcmp(words[0], "seal") == 0};
+    if (count == 0 || (!job->sealing && strcmp(words[0], "open") != 0 && words[0][0] != '-'))
+        return complain(WRONG_WORDS, "the first word is '%s', and should be seal or open; stretch --help says the rest",
+                        count == 0 ? "" : words[0]);
+    if (words[0][0] == '-' && strcmp(words[0], "-h") != 0 && strcmp(words[0], "--help") != 0)
+        return complain(WRONG_WORDS, "the first word is '%s', and should be seal or open, before all options", words[0]);
+    job->helping = words[0][0] == '-';
+    int status = job->helping ? DONE : read_options(count, words, given);
+    job->helping |= given[HELP] != NULL;
+    if (status != DONE || job->helping)
+        return status;
+    status = all_there(given, count - optind);
+    if (status == DONE)
+        status = read_job(given, job);
+    job->path = words[optind];
+    return status;
+}
