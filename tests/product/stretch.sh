@@ -184,7 +184,7 @@ shares_no_block() {
     stretch --help >"$room/help" && followed "$room/help" && followed README.md || return 1
     for night in 31 32; do
         head -c "$size" /dev/zero >"$room/zeros"
-        stretch seal -c 128 -r 16 --key "$key64" --counter "000000000000000000004E4947485430$night" -o "$room/night$night" \
+        stretch seal -c 128 -r 16 --key "$key64" --counter "00000000000000004E494748543034$night" -o "$room/night$night" \
             "$room/zeros" 2>"$room/error"
     done
     same_text 12499 "$(shared_blocks "$room/night31" "$room/night32")"

@@ -40,13 +40,13 @@ refuses_values() {
 
 # A stretch of which only the end is too far, too, and numbers that come out small when cut to 32 bits.
 refuses_the_end() {
-    text=$(run_host "$room/texts" 7)
+    end_text=$(run_host "$room/texts" 7)
     for triple in 0:1073741825 1073741824:1 1073676000:65825 4294967301:10 5:4294967310; do
         from=${triple%:*} length=${triple#*:}
-        says 1 "the stretch ends at byte $((from + length)) (refusal 7): $text" open $with64 -f "$from" -l "$length" \
+        says 1 "the stretch ends at byte $((from + length)) (refusal 7): $end_text" open $with64 -f "$from" -l "$length" \
             "$room/large" || return 1
     done
-    says 1 "the stretch ends at byte 5368709120 (refusal 7): $text" open $with64 "$room/large"
+    says 1 "the stretch ends at byte 5368709120 (refusal 7): $end_text" open $with64 "$room/large"
 }
 
 wrong_hex() {

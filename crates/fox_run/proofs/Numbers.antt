@@ -6,8 +6,9 @@ use mathlib.Core.Path.{_≡_, refl, sym, ap, ap₂, _∙_}
 use mathlib.Core.Logic.{_⊎_}
 use mathlib.Core.List.{List, [], _∷_}
 use Prim.Native.Nat.{ℕ, _+_, _*_, _/_, _%_, _^_, _≤_, _<_}
-use native.Mathlib.Nat.{mod-eq-of-lt, div-mul-le-self, mul-le-mul-left, lt-of-lt-of-le}
+use native.Mathlib.Nat.{mod-eq-of-lt, div-mul-le-self, mul-le-mul-left, lt-trans}
 use native.Mathlib.Omega.{arith}
+use lib.Pow.{pow-lt}
 use lib.ListN.{length}
 use Rattle.fox_layers.specs.Words.{joined, split}
 use Rattle.fox_layers.proofs.Laws.Words.{length-split, joined-split}
@@ -38,7 +39,7 @@ length-first c n = length-split (blockSize c) _
 
 -- a number below 2 ^ 64 fits a counter block of either cipher
 fits : (c w : ℕ) → w < 2 ^ 64 → w < 2 ^ (8 * blockSize c)
-fits c w h = by-cipher c (λ e. rw (size-64 c e) (omega arith)) (λ n. rw (size-128 c n) (omega arith))
+fits c w h = by-cipher c (λ e. rw (size-64 c e) (omega arith)) (λ n. rw (size-128 c n) (lt-trans h (pow-lt {i = 64} {j = 128} (omega arith))))
 
 -- a run has fewer than 2 ^ 30 blocks
 few : (c i : ℕ) → i * blockSize c < 1073741824 → i < 2 ^ 30

@@ -2,6 +2,7 @@
 // follows: the output length, or 0.
 ghost use Rattle.fox_station.specs.Exports.{CounterHanded};
 use crate::counter::make;
+
 pub mod counter;
 
 #[no_mangle]

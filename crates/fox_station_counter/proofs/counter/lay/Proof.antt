@@ -8,16 +8,16 @@ use Rattle.fox_station_counter.proofs.counter.lay.Statement.{statement}
 use Rattle.fox_station_counter.proofs.counter.lay.Tie as tie
 
 store8-requires : tie.Need-store8-requires
-store8-requires c κs = c .before .before .pre ∙ size-64 _ (c .if1 .taken)
+store8-requires c κs = let at = c .before in at .before .before .pre ∙ size-64 _ (at .if1 .taken)
 
 store16-requires : tie.Need-store16-requires
-store16-requires c κs = c .before .before .pre ∙ size-128 _ (c .if1 .left)
+store16-requires c κs = let at = c .before in at .before .before .pre ∙ size-128 _ (at .if1 .left)
 
 returns : tie.Need-returns
-returns c = let done = c .before .before in done .store8 .ensures ∙ first-64 _ _ (done .before .if1 .taken)
+returns c = let done = c .before .before in done .store8 .ensures ∙ first-64 _ _ (done .before .before .if1 .taken)
 
 returns-2 : tie.Need-returns-2
-returns-2 c = let done = c .before .before in done .store16 .ensures ∙ first-128 _ _ (done .before .if1 .left) (search needs)
+returns-2 c = let done = c .before .before in done .store16 .ensures ∙ first-128 _ _ (done .before .before .if1 .left) (search needs)
 
 pub lay-spec : {M : Type 1} → statement M
-lay-spec = tie.close (tie.spec store8-requires (λ c. search needs) returns store16-requires (λ c. search needs) returns-2)
+lay-spec = tie.close (tie.spec store8-requires store16-requires (λ c. search needs) returns (λ c. search needs) returns-2)

@@ -12,14 +12,14 @@ returns : tie.Need-returns
 returns c = let at = c .before in refused-reply (at .before .for-counter .ensures) (at .if1 .taken) (c .refused .ensures)
 
 lay-requires : tie.Need-lay-requires
-lay-requires c κs = counter-known _ _ (sym (c .before .for-counter .ensures) ∙ c .if1 .left) .1
+lay-requires c κs = let at = c .before in counter-known _ _ (sym (at .before .for-counter .ensures) ∙ at .if1 .left) .1
 
 returns-2 : tie.Need-returns-2
 returns-2 c =
     let laid = c .before .before .before in
     let at = laid .before .before in
     let zero = sym (at .before .for-counter .ensures) ∙ at .if1 .left in
-    served-reply _ _ _ _ _ zero (c .served .ensures .0) (c .served .ensures .1) (laid .lay .ensures)
+    served-reply _ _ _ _ _ zero (c .served .ensures .0) (c .served .ensures .1 ∙ laid .lay .kept .1 .1 .0) (laid .lay .ensures)
 
 pub make-spec : {M : Type 1} → statement M
 make-spec =
