@@ -1,6 +1,6 @@
 -- `counter::lay` meets its contract: the words that it writes are those of the definition, for either cipher.
 -- Assumes nothing.
-use mathlib.Core.Path.{sym, ap, _∙_}
+use mathlib.Core.Path.{_∙_}
 use Rattle.fox_block.proofs.Laws.Block.{size-64, size-128}
 use Rattle.fox_run.proofs.Laws.Numbers.{first-64, first-128}
 use borrow.Author.Needs.{needs}
