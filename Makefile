@@ -59,7 +59,7 @@ $(TEXTS): c/fox_refusal_text.c include/fox.h tools/build.sh
 $(WIPE): deepest = FOX_SERVER_STACK
 $(WIPE_CARD): deepest = FOX_CARD_STACK
 $(WIPE) $(WIPE_CARD): c/fox_wipe.c include/fox.h tools/build.sh
-	$(BUILD) object $@ $< -DDEEPEST=$(deepest)
+	$(BUILD) object $@ $< -DDEEPEST=$(deepest) -fstack-clash-protection
 
 $(OUT)/libfox.a: $(CALLS) $(TEXTS) $(WIPE)
 $(OUT)/libfox_card.a: $(filter-out %_server.o,$(CALLS)) $(TEXTS) $(WIPE_CARD)

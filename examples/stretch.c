@@ -1,5 +1,5 @@
-/* Seals a file of any size, or opens it, or a stretch of it, by calls of libfox on pieces. `stretch --help` says how it is
- * called; stretch_job.c reads the words of the command. */
+/* Seals a file, or opens it, or a stretch of it, by calls of libfox on pieces. `stretch --help` says how it is called;
+ * stretch_job.c reads the words of the command. */
 #define _POSIX_C_SOURCE 200809L
 #define _FILE_OFFSET_BITS 64
 #include "fox.h"
@@ -31,6 +31,9 @@ struct progress {
     double began, next;
 };
 
+/* The signal that asks to end, once it has come. */
+static volatile sig_atomic_t stopped;
+
 /* A piece as it was read, and as it is written. */
 static uint8_t taken[FOX_MOST_DATA], made[FOX_MOST_DATA];
 
@@ -56,6 +59,8 @@ static int refused(const struct work *w, uint32_t number)
     case FOX_REFUSED_BLOCK:
         return complain(TROUBLE, "--counter has %zu bytes (refusal 4): %s", job->counter_len, text);
     case FOX_REFUSED_END:
+        if (job->to_end)
+            return complain(TROUBLE, "%s has %" PRIu64 " bytes (refusal 7): %s", w->in_name, w->end, text);
         return complain(TROUBLE, "the stretch ends at byte %" PRIu64 " (refusal 7): %s", w->end, text);
     default:
         return complain(TROUBLE, "refusal %" PRIu32 ": %s", number, text);
@@ -103,20 +108,44 @@ static int open_input(struct work *w)
     return find_stretch(w, (uint64_t)size);
 }
 
-/* Not over the file that is read: its bytes would be gone before they are read. */
-static int open_output(struct work *w)
+/* Whether both are one file on a disk. */
+static int one_file(int in, int out)
 {
-    struct stat in, out;
-    w->out = STDOUT_FILENO, w->out_name = "standard output";
-    if (w->job->output == NULL)
-        return DONE;
+    struct stat a, b;
+    return fstat(in, &a) == 0 && fstat(out, &b) == 0 && S_ISREG(b.st_mode) && a.st_dev == b.st_dev && a.st_ino == b.st_ino;
+}
+
+/* A file of its own, which others can read only if they can read what it is made from. A file that is there is not written
+ * over, be it the file that is read, the key's, or the last that there is of a sample. */
+static int make_output(struct work *w)
+{
+    struct stat in, there;
+    mode_t mode = fstat(w->in, &in) == 0 && S_ISREG(in.st_mode) ? (in.st_mode & 0666) | 0600 : 0666;
     w->out_name = w->job->output;
-    if (fstat(w->in, &in) == 0 && stat(w->out_name, &out) == 0 && in.st_dev == out.st_dev && in.st_ino == out.st_ino)
-        return complain(TROUBLE, "%s is the file that is read, and should be another", w->out_name);
-    w->out = open(w->out_name, O_WRONLY | O_CREAT | O_TRUNC | O_NOCTTY | O_CLOEXEC, 0666);
+    w->out = open(w->out_name, O_WRONLY | O_CREAT | O_EXCL | O_NOCTTY | O_CLOEXEC, mode);
+    if (w->out < 0 && errno == EEXIST) {
+        if (stat(w->out_name, &there) != 0 || S_ISREG(there.st_mode))
+            return complain(TROUBLE, "%s is there already: name another file, or remove it first", w->out_name);
+        w->out = open(w->out_name, O_WRONLY | O_NOCTTY | O_CLOEXEC);
+    }
     if (w->out < 0)
         return complain(TROUBLE, "%s cannot be opened for writing: %s", w->out_name, strerror(errno));
     return DONE;
+}
+
+static int open_output(struct work *w)
+{
+    w->out = STDOUT_FILENO, w->out_name = "standard output";
+    if (w->job->output != NULL)
+        return make_output(w);
+    if (one_file(w->in, w->out))
+        return complain(TROUBLE, "standard output is the file that is read, %s, and should be another", w->in_name);
+    return DONE;
+}
+
+static int not_written(const struct work *w, int error)
+{
+    return complain(TROUBLE, "%s cannot be written: %s", w->out_name, strerror(error));
 }
 
 /* A regular file that is not whole is taken away, so that it is not taken for the whole. */
@@ -125,10 +154,26 @@ static int close_output(const struct work *w, int status)
     struct stat about;
     int regular = fstat(w->out, &about) == 0 && S_ISREG(about.st_mode);
     if (close(w->out) != 0 && status == DONE)
-        status = complain(TROUBLE, "%s cannot be written: %s", w->out_name, strerror(errno));
-    if (status != DONE && regular && w->job->output != NULL)
-        unlink(w->out_name);
+        status = not_written(w, errno);
+    if (status != DONE && regular && w->job->output != NULL && unlink(w->out_name) != 0)
+        complain(TROUBLE, "%s is not whole, and cannot be removed: %s", w->out_name, strerror(errno));
     return status;
+}
+
+/* Signals that ask to end: the piece at hand is given up, and all is left as after any other trouble. One that is ignored
+ * stays so. */
+static void stop_at(int number)
+{
+    stopped = number;
+}
+
+static void catch_signals(void)
+{
+    static const int numbers[] = {SIGHUP, SIGINT, SIGQUIT, SIGTERM};
+    struct sigaction action = {.sa_handler = stop_at}, before;
+    for (size_t i = 0; i < sizeof numbers / sizeof *numbers; i++)
+        if (sigaction(numbers[i], NULL, &before) == 0 && before.sa_handler != SIG_IGN)
+            sigaction(numbers[i], &action, NULL);
 }
 
 static double seconds(void)
@@ -170,7 +215,7 @@ static int read_whole(int file, uint8_t *bytes, size_t len, uint64_t at)
         ssize_t more = pread(file, bytes + had, len - had, (off_t)(at + had));
         if (more == 0)
             return ENDED;
-        if (more < 0 && errno != EINTR)
+        if (more < 0 && (errno != EINTR || stopped))
             return errno;
         had += more > 0 ? (size_t)more : 0;
     }
@@ -182,7 +227,7 @@ static int write_whole(int file, const uint8_t *bytes, size_t len)
 {
     for (size_t had = 0; had < len;) {
         ssize_t more = write(file, bytes + had, len - had);
-        if (more < 0 && errno != EINTR)
+        if (more < 0 && (errno != EINTR || stopped))
             return errno;
         had += more > 0 ? (size_t)more : 0;
     }
@@ -196,23 +241,29 @@ static int not_read(const struct work *w, int error)
     return complain(TROUBLE, "%s cannot be read: %s", w->in_name, strerror(error));
 }
 
+/* A signal is said by main, which ends the program by it. */
 static int one_piece(const struct work *w, uint64_t at, size_t len, struct progress *p)
 {
-    int error = read_whole(w->in, taken, len, at);
-    if (error != 0) {
-        clear_progress(p);
-        return not_read(w, error);
-    }
-    uint32_t number = run(w->job, at, taken, len, made);
-    if (number != FOX_SERVED) {
-        clear_progress(p);
-        return refused(w, number);
-    }
-    error = write_whole(w->out, made, len);
-    if (error != 0) {
-        clear_progress(p);
-        return complain(TROUBLE, "%s cannot be written: %s", w->out_name, strerror(error));
-    }
+    uint32_t number = FOX_SERVED;
+    int not_taken = read_whole(w->in, taken, len, at), not_given = 0;
+    if (not_taken == 0)
+        number = run(w->job, at, taken, len, made);
+    if (not_taken == 0 && number == FOX_SERVED)
+        not_given = write_whole(w->out, made, len);
+    if (not_taken == 0 && number == FOX_SERVED && not_given == 0 && !stopped)
+        return DONE;
+    clear_progress(p);
+    if (stopped)
+        return TROUBLE;
+    return not_taken != 0 ? not_read(w, not_taken) : number != FOX_SERVED ? refused(w, number) : not_written(w, not_given);
+}
+
+/* A file that is still written to would be sealed without its end. */
+static int check_end(const struct work *w)
+{
+    off_t size = lseek(w->in, 0, SEEK_END);
+    if (w->job->to_end && size >= 0 && (uint64_t)size > w->end)
+        return complain(TROUBLE, "%s became longer while it was read", w->in_name);
     return DONE;
 }
 
@@ -228,7 +279,7 @@ static int all_pieces(const struct work *w)
         status = one_piece(w, at, (size_t)(next - at), &progress);
     }
     clear_progress(&progress);
-    return status;
+    return status == DONE ? check_end(w) : status;
 }
 
 static int do_job(const struct job *job)
@@ -237,6 +288,7 @@ static int do_job(const struct job *job)
     int status = open_input(&w);
     if (status == DONE)
         status = check_refusals(&w);
+    catch_signals();
     if (status == DONE)
         status = open_output(&w);
     if (status == DONE)
@@ -244,24 +296,38 @@ static int do_job(const struct job *job)
     return status;
 }
 
+/* A standard stream that is closed is held by one that fails, or the next file that is opened would take its place. */
+static void hold_streams(void)
+{
+    for (int place = STDIN_FILENO; place <= STDERR_FILENO; place++)
+        if (fcntl(place, F_GETFD) < 0 && open("/dev/null", place == STDIN_FILENO ? O_WRONLY : O_RDONLY) != place)
+            _exit(TROUBLE);
+}
+
 static int say(const char *text)
 {
-    return fputs(text, stdout) >= 0 && fflush(stdout) == 0 ? DONE : TROUBLE;
+    if (fputs(text, stdout) >= 0 && fflush(stdout) == 0)
+        return DONE;
+    return complain(TROUBLE, "standard output cannot be written: %s", strerror(errno));
 }
 
 int main(int count, char **words)
 {
     struct job job;
-    if (count == 2 && strcmp(words[1], "--version") == 0)
-        return say("stretch " FOX_VERSION "\n");
-    /* A reader that goes away shows as an error of write, which has a message, and not as a signal. */
+    hold_streams();
+    /* A reader that goes away, or a file that may not grow, shows as an error of write, which has a message. */
     signal(SIGPIPE, SIG_IGN);
+    signal(SIGXFSZ, SIG_IGN);
     int status = read_words(count - 1, words + 1, &job);
     if (status == DONE)
-        status = job.helping ? say(usage) : do_job(&job);
+        status = job.told != NULL ? say(job.told) : do_job(&job);
     fox_wipe(&job, sizeof job);
     fox_wipe(taken, sizeof taken);
     fox_wipe(made, sizeof made);
     fox_wipe_stack();
+    if (stopped) {
+        signal(stopped, SIG_DFL);
+        raise(stopped);
+    }
     return status;
 }

@@ -12,7 +12,8 @@ enum { DONE = 0, TROUBLE = 1, WRONG_WORDS = 2 };
 enum { MOST_BYTES = 128 };
 
 struct job {
-    int sealing, card, helping;
+    int sealing, card;
+    const char *told; /* a text to print, in the place of any work: --help's, or the version */
     uint32_t cipher, rounds;
     uint8_t key[MOST_BYTES], counter[MOST_BYTES];
     size_t key_len, counter_len;
@@ -27,8 +28,5 @@ int complain(int status, const char *format, ...);
 
 /* The words after the program's name. DONE, or the exit status of what was said. A key among the words is wiped there. */
 int read_words(int count, char **words, struct job *job);
-
-/* All that --help says. */
-extern const char usage[];
 
 #endif

@@ -9,10 +9,15 @@
  * - Give each run under one key another value in the bytes before the last four, and set the last four to
  *   zero: fox_counter makes such a counter block from a number that you give the run. Two runs that share a
  *   counter block can be read from one another, without the key. FOX64 has only four bytes before the last
- *   four, so 4,294,967,296 runs under one key; FOX128 has twelve, of which fox_counter uses four.
- * - With FOX64 seal no more than 1 GiB under one key, all runs together. Its blocks are small, so the odds that
- *   the sealed runs tell something of their data grow fast, with the square of their length: about 1 in 2,000
- *   at 1 GiB, 1 in 32 at 8 GiB, 1 in 2 at 32 GiB. With FOX128 1 in 2,000 comes at 8,589,934,592 GiB.
+ *   four, so 4,294,967,296 runs under one key; FOX128 has twelve, of which fox_counter uses four. A run that is
+ *   sealed again with other data, or a stretch of it that is, is another run; cards that share a key share its
+ *   numbers.
+ * - With FOX64 seal no more than 1 GiB under one key, all runs together and the last block of each counted
+ *   whole. Its blocks are small, so the odds that the sealed runs tell something of their data grow fast, with
+ *   the square of their length: at most 1 in 2,000 at 1 GiB, 1 in 32 at 8 GiB, 1 in 2 at 32 GiB. With FOX128
+ *   1 in 2,000 comes at 8,589,934,592 GiB.
+ * - Keep cipher, rounds and counter block, or its number, with the sealed run: they are no secret, and without
+ *   them it cannot be opened.
  * - Tag what was sealed, and test the tag before opening it (fox_card_make_tag and the calls after it).
  * - Wipe keys when they are done with (fox_wipe, fox_wipe_stack).
  *
@@ -30,8 +35,8 @@
  *   engine         an implementation: card, with little memory, and server, with much
  *   prepared key   the expanded key, which is all round keys; the server engine makes it in each call
  *   refusal        an error number from 1 on; 0 is success
- *   count          the number of bytes written: the output's length for a call that answers 0, and 0 for
- *                  any other; a test of a tag has no output, and count 0 always
+ *   count          the number of bytes written, which the answer tells: the output's length for a call that
+ *                  answers 0, and 0 for any other; a test of a tag has no output, and count 0 always
  *
  * The card engine (fox_card_...) and the server engine (fox_server_...) do the same work: they give the
  * same answer and the same bytes for the same parameters, so what one seals the other opens, and a tag that
@@ -39,15 +44,15 @@
  * The server engine expands the key and makes its tables once in a call, and is fast on many blocks; for one
  * block these preparations are most of the work.
  *
- * Every call answers FOX_SERVED, which is 0, or the number of the first refusal below that applies. A
- * served call has written all of `out`, or of the `tag` that it makes; a refused one has written nothing.
- * fox_refusal_text has a sentence for each number.
+ * Every call of an engine, and fox_counter, answers FOX_SERVED, which is 0, or the number of the first refusal
+ * below that applies. A served call has written all of `out`, or of the `tag` or `counter` that it makes; a
+ * refused one has written nothing. fox_refusal_text has a sentence for each number.
  *
  *    1  FOX_REFUSED_CIPHER      cipher is neither 64 nor 128
- *    2  FOX_REFUSED_ROUNDS      rounds is below 12 or above 255
- *    3  FOX_REFUSED_KEY         key_len is above 32
+ *    2  FOX_REFUSED_ROUNDS      rounds is below 12 or above 255 (not fox_counter)
+ *    3  FOX_REFUSED_KEY         key_len is above 32 (not fox_counter)
  *    4  FOX_REFUSED_BLOCK       block_len, or counter_len, is not the cipher's block: 8 for FOX64, 16 for
- *                               FOX128 (blocks and runs only)
+ *                               FOX128 (blocks, runs and fox_counter)
  *    5  FOX_REFUSED_DATA        a run's data_len is above 65,536, or message_len is above 1,073,741,824
  *    6  FOX_REFUSED_OUTPUT      out_len is not block_len, or not data_len; for a tag that is made, tag_len is
  *                               not the cipher's block
@@ -89,8 +94,8 @@
 
 #define FOX_VERSION "0.2.0"
 
-/* What the compiler is told of the calls, where it knows the words: no pointer is NULL, the answer is to be looked
- * at, and which parameter is the length of what is read or written. */
+/* What the compiler is told of the calls, where it knows the words: that no pointer is NULL, that the answer is to
+ * be looked at, and which parameter is the length of what is read or written. */
 #if defined(__has_attribute)
 #if __has_attribute(nonnull)
 #define FOX_NONNULL __attribute__((nonnull))
@@ -241,9 +246,9 @@ uint32_t fox_server_test_tag(uint32_t cipher, uint32_t rounds, const uint8_t *ke
  *
  * fox_wipe sets bytes to zero, and is not left out by a compiler that sees no use in it: for keys, and for
  * opened data that is done with. fox_wipe_stack sets to zero what is below its caller's own part of the stack,
- * as deep as a call of the library may go: FOX_SERVER_STACK bytes, and from libfox_card.a FOX_CARD_STACK. It
- * takes so much stack itself, and less than 64 bytes more. Call it in the very function that made the calls,
- * after the last of them and in the same thread.
+ * as deep as a call of the library may go: FOX_SERVER_STACK bytes, also after calls by the card engine alone,
+ * and from libfox_card.a FOX_CARD_STACK. It takes so much stack itself, and less than 64 bytes more. Call it in
+ * the very function that made the calls, after the last of them and in the same thread.
  *
  * What stays: the caller's own copies of a key, which fox_wipe is for; processor registers, until other work
  * overwrites them; and what the system has copied, as memory that was swapped out, a core dump, or the

@@ -47,14 +47,14 @@ bench() {
 new_key() {
     echo
     echo "A key of 16 random bytes, in a file that nobody else can read:"
-    typed "(umask 077; od -An -v -tx1 -N16 /dev/urandom | tr -d ' ' >$key)" || stop "no key was made"
+    typed "(umask 077; od -An -v -tx1 -N16 /dev/urandom | tr -dc 0-9a-f >$key)" || stop "no key was made"
 }
 
 # Each run under one key has a number of its own; this is the first.
 seal() {
     echo
     echo "The card engine seals a file under it, $plain, as run number 1 in counter mode:"
-    typed "build/stretch seal --card -c 64 -r 16 -k $key -n 1 -o $sealed $plain" || stop "the file was not sealed"
+    typed "build/stretch seal --card -c 64 -r 16 -k $key -n 1 $plain >$sealed" || stop "the file was not sealed"
     echo "The sealed file begins:"
     od -An -tx1 -N 32 "$sealed" | sed 's/^ */    /'
 }

@@ -121,13 +121,16 @@ key_forms() {
     done
 }
 
-# Into a file, also over an older and longer one; nothing comes on standard output.
+# Into a new file, which others can read only if they can read the file that is read; nothing comes on standard output, but
+# where - is named.
 writes_files() {
-    head -c 300000 /dev/zero >"$room/out.file"
-    for word in -o --output; do
-        stretch open $with64 $word "$room/out.file" "$room/sealed64" >"$room/out" && cmp "$room/plain" "$room/out.file" &&
-            [ ! -s "$room/out" ] || return 1
+    for mode in 600 640 644; do
+        chmod "$mode" "$room/sealed64" && rm -f "$room/out.file"
+        (umask 022 && stretch open $with64 -o "$room/out.file" "$room/sealed64" >"$room/out") &&
+            cmp "$room/plain" "$room/out.file" && [ ! -s "$room/out" ] &&
+            same_text "$mode" "$(stat -c %a "$room/out.file")" || return 1
     done
+    stretch open $with64 --output - "$room/sealed64" | cmp - "$room/plain" && [ ! -e ./- ]
 }
 
 engine_called() { # WORDS..
@@ -182,8 +185,8 @@ followed() { # FILE: where the commands are
 # And counters that are one apart as numbers, as the names of two nights are, are seen to share all blocks but one.
 shares_no_block() {
     stretch --help >"$room/help" && followed "$room/help" && followed README.md || return 1
+    head -c "$size" /dev/zero >"$room/zeros"
     for night in 31 32; do
-        head -c "$size" /dev/zero >"$room/zeros"
         stretch seal -c 128 -r 16 --key "$key64" --counter "00000000000000004E494748543034$night" -o "$room/night$night" \
             "$room/zeros" 2>"$room/error"
     done

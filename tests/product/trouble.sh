@@ -46,35 +46,34 @@ refuses_the_end() {
         says 1 "the stretch ends at byte $((from + length)) (refusal 7): $end_text" open $with64 -f "$from" -l "$length" \
             "$room/large" || return 1
     done
-    says 1 "the stretch ends at byte 5368709120 (refusal 7): $end_text" open $with64 "$room/large"
+    says 1 "$room/large has 5368709120 bytes (refusal 7): $end_text" open $with64 "$room/large"
 }
 
 wrong_hex() {
-    c="-c 64 -r 16" k="--key $key64"
-    says 2 "digit 7 of --key is 'x', and should be a hex digit" open $c --key 001122x344 -n 1 "$room/plain" &&
-        says 2 "digit 1 of --key is the byte 20" open $c --key ' 0' -n 1 "$room/plain" &&
-        says 2 "digit 4 of --key is 'g'" open $c --key 001g -n 1 "$room/plain" &&
-        says 2 "digit 2 of --counter is 'x'" open $c $k --counter 0x23456789ABCDEF "$room/plain" &&
-        says 2 "digit 3 of --counter is the byte C3" open $c $k --counter 00é0 "$room/plain" &&
-        says 2 "--key has 3 hex digits, an odd number" open $c --key 001 -n 1 "$room/plain" &&
-        says 2 "--counter has 15 hex digits" open $c $k --counter 0123456789ABCDE "$room/plain" &&
-        says 2 "--key has 258 hex digits, more than any that is right" \
-            open $c --key "$(printf '%0258d' 0)" -n 1 "$room/plain"
+    by="-c 64 -r 16" k="--key $key64"
+    says 2 "digit 7 of --key is 'x', and should be a hex digit" open $by --key 001122x344 -n 1 "$room/plain" &&
+        says 2 "digit 1 of --key is a blank" open $by --key ' 0' -n 1 "$room/plain" &&
+        says 2 "digit 4 of --key is 'g'" open $by --key 001g -n 1 "$room/plain" &&
+        says 2 "digit 2 of --counter is 'x'" open $by $k --counter 0x23456789ABCDEF "$room/plain" &&
+        says 2 "digit 3 of --counter is the byte C3" open $by $k --counter 00é0 "$room/plain" &&
+        says 2 "--key has 3 hex digits, an odd number" open $by --key 001 -n 1 "$room/plain" &&
+        says 2 "--counter has 15 hex digits" open $by $k --counter 0123456789ABCDE "$room/plain" &&
+        says 2 "--key has more than 256 hex digits; a key has at most 64" \
+            open $by --key "$(printf '%0258d' 0)" -n 1 "$room/plain"
 }
 
 wrong_numbers() {
     rest="--key $key64 --counter $counter64"
-    says 2 "--cipher is 'fox', and should be a number" open -c fox -r 16 $rest "$room/plain" &&
-        says 2 "--cipher is 4294967360, and can be at most 4294967295" open -c 4294967360 -r 16 $rest "$room/plain" &&
-        says 2 "--rounds is ''" open -c 64 -r '' $rest "$room/plain" &&
-        says 2 "--rounds is 4294967312" open -c 64 -r 4294967312 $rest "$room/plain" &&
-        says 2 "--number is 4294967296, and can be at most 4294967295" \
+    says 2 "--cipher is 'fox', and should be 64 or 128" open -c fox -r 16 $rest "$room/plain" &&
+        says 2 "--cipher is '4294967360', and should be 64 or 128" open -c 4294967360 -r 16 $rest "$room/plain" &&
+        says 2 "--rounds is '', and should be 12 to 255" open -c 64 -r '' $rest "$room/plain" &&
+        says 2 "--rounds is '4294967312', and should be 12 to 255" open -c 64 -r 4294967312 $rest "$room/plain" &&
+        says 2 "--number is '4294967296', and should be 0 to 4294967295" \
             open -c 64 -r 16 --key "$key64" -n 4294967296 "$room/plain" &&
         says 2 "--number is '0x1'" open -c 64 -r 16 --key "$key64" -n 0x1 "$room/plain" &&
-        says 2 "--from is '-1'" open $with64 -f -1 "$room/plain" && says 2 "--from is '1e3'" open $with64 -f 1e3 "$room/plain" &&
-        says 2 "--length is '9 '" open $with64 -l '9 ' "$room/plain" &&
-        says 2 "--length is 18446744073709551616, and can be at most 18446744073709551615" \
-            open $with64 -l 18446744073709551616 "$room/plain"
+        says 2 "--from is '-1', and should be 0 to 1073741824" open $with64 --from=-1 "$room/plain" &&
+        says 2 "--from is '1e3'" open $with64 -f 1e3 "$room/plain" && says 2 "--length is '9 '" open $with64 -l '9 ' "$room/plain" &&
+        says 2 "--length is '18446744073709551616'" open $with64 -l 18446744073709551616 "$room/plain"
 }
 
 wrong_words() {
@@ -89,7 +88,25 @@ wrong_words() {
         says 2 "2 of --number and --counter were given" seal $with64 -n 1 "$room/plain" &&
         says 2 "0 files were named, and it is to be one" seal $with64 && says 2 "2 files were named" seal $with64 a b &&
         says 2 "--from was given twice" seal $with64 -f 1 --from=2 a && says 2 "--fast is no option" seal --fast $with64 a &&
-        says 2 "-x is no option" seal -x $with64 a && says 2 "-o wants a value after it" seal $with64 a -o
+        says 2 "-x is no option" seal -x $with64 a && says 2 "--output wants a value after it" seal $with64 a -o &&
+        says 2 "--card takes no value" seal $with64 --card=yes a && says 2 "--c is no option, or short for more" seal --c=1 a
+}
+
+# A variable of the shell that is not set, without quotes around it and with them.
+unset_words() {
+    says 2 "--output has an option where its value should be" seal $with64 -o ${not_set:-} --card "$room/plain" &&
+        says 2 "--cipher has an option where its value should be" seal -c ${not_set:-} -r 16 -k - -n 1 "$room/plain" &&
+        says 2 "--key-file is empty, and should name a file" seal -c 64 -r 16 -k "${not_set:-}" -n 1 "$room/plain" &&
+        says 2 "--output is empty" seal $with64 -o "${not_set:-}" "$room/plain" && says 2 "FILE is empty" seal $with64 "${not_set:-}"
+}
+
+# Of a key that stands among wrong words nothing is shown.
+shows_no_key() {
+    for words in "seal --Key=$key64 -n 1 a" "seal --key $key64 -\303 a" "seal --key $key64 -y a" "--key=$key64 seal a" \
+        "seal --key $key64 -c" "seal --key $key64 --key $key64" "seal -c 64 -r 16 --key ${key64}x -n 1 a"; do
+        says 2 "" $(printf -- "$words") || return 1
+        ! grep 00112233445566778899 "$room/error" || return 1
+    done
 }
 
 # From an unset variable of the shell, as a word, as a file, and on standard input.
@@ -104,10 +121,10 @@ refuses_empty_keys() {
 
 wrong_key_files() {
     (umask 077 && printf '%s\n%s\n' "$key64" "$key64" >"$room/two.key" && printf '%01000d\n' 0 >"$room/long.key")
-    says 1 "$room/no.key cannot be opened: No such file" seal -c 64 -r 16 -k "$room/no.key" -n 1 "$room/plain" &&
+    says 1 "the key file $room/no.key cannot be opened: No such file" seal -c 64 -r 16 -k "$room/no.key" -n 1 "$room/plain" &&
         says 1 "$room cannot be read: Is a directory" seal -c 64 -r 16 -k "$room" -n 1 "$room/plain" &&
-        says 2 "digit 33 of $room/two.key is the byte 0A" seal -c 64 -r 16 -k "$room/two.key" -n 1 "$room/plain" &&
-        says 2 "$room/long.key has 260 hex digits, more than any" seal -c 64 -r 16 -k "$room/long.key" -n 1 "$room/plain"
+        says 2 "digit 33 of $room/two.key is a line feed, and should be a hex digit" seal -c 64 -r 16 -k "$room/two.key" -n 1 "$room/plain" &&
+        says 2 "$room/long.key has more than 256 hex digits" seal -c 64 -r 16 -k "$room/long.key" -n 1 "$room/plain"
 }
 
 warns() { # TEXT WORDS..: one line, the work is done, and no warning where the text is empty
@@ -120,12 +137,12 @@ warns() { # TEXT WORDS..: one line, the work is done, and no warning where the t
         { [ -z "$text" ] || same_text 1 "$(cat "$room/times")"; }
 }
 
-# A key's file that others can read, and a counter that leads to shared blocks, where it seals.
+# A key's file that others can reach; and where it seals, what makes that weak, or leaves bytes that open at one place alone.
 warnings() {
     cp "$room/key128" "$room/shown.key"
-    for mode in 644 640 604; do
+    for mode in 644 640 604 602; do
         chmod "$mode" "$room/shown.key"
-        warns "$room/shown.key can be read by others (its mode is $mode, and should be 600): chmod 600 $room/shown.key" \
+        warns "$room/shown.key can be read or changed by others: its mode is $mode, and should be 600" \
             open -c 128 -r 12 -k "$room/shown.key" --counter "$counter128" "$room/sealed128" || return 1
     done
     for mode in 600 400; do
@@ -133,6 +150,11 @@ warnings() {
         warns '' open -c 128 -r 12 -k "$room/shown.key" --counter "$counter128" "$room/sealed128" || return 1
     done
     warns "the last four bytes of --counter should be zero" seal $with64 "$room/plain" && warns '' open $with64 "$room/plain" &&
+        warns "the key has 15 bytes, and should have 16 or more" seal -c 64 -r 16 --key "${key64#00}" -n 1 "$room/plain" &&
+        warns "the key has 0 bytes" seal -c 64 -r 16 --empty-key -n 1 "$room/plain" &&
+        warns "--rounds is 15, and should be 16 or more" seal -c 64 -r 15 --key "$key64" -n 1 "$room/plain" &&
+        warns "bytes sealed from byte 8 on open only there" seal -c 64 -r 16 --key "$key64" -n 1 -f 8 "$room/plain" &&
+        warns '' open -c 64 -r 12 --key 00 -n 1 -f 8 "$room/plain" &&
         warns '' seal -c 64 -r 16 --key "$key64" --counter 0123456700000000 "$room/plain" &&
         warns '' seal -c 64 -r 16 --key "$key64" -n 4294967295 "$room/plain"
 }
@@ -144,7 +166,6 @@ helps() {
         stretch seal $word | cmp - "$room/help" || return 1
     done
     sed -n 's/^    \[[A-Z_]*\] = {"\([a-z-]*\)", .*/--\1/p' examples/stretch_job.c | sort >"$room/known"
-    echo --version >>"$room/known" && sort -o "$room/known" "$room/known"
     sed -n 's/^  \(-[a-z], \)\{0,1\} *\(--[a-z-]*\) .*/\2/p' "$room/help" | sort >"$room/helped"
     sed -n 's/\\-/-/g; s/^\.BR\{0,1\} \(-[a-z] ", " \)\{0,1\}\(--[a-z-]*\).*/\2/p' examples/stretch.1.in | sort -u >"$room/manned"
     same_text "$(cat "$room/known")" "$(cat "$room/helped")" && same_text "$(cat "$room/known")" "$(cat "$room/manned")" || return 1
@@ -160,7 +181,10 @@ helps() {
     for words in 'can see it' 'is not noticed when a file is opened' 'exit status' 'only four such bytes'; do
         tr -s '\n ' ' ' <"$room/help" | grep -qF -- "$words" || return 1
     done
-    same_text "stretch $version" "$(stretch --version)"
+    same_text "stretch $version" "$(stretch --version)" && same_text "stretch $version" "$(stretch open --version)" || return 1
+    : >"$room/out"
+    stretch --help 2>"$room/error" >/dev/full
+    told 1 "standard output cannot be written: No space" "$?"
 }
 
 # As root every file can be read, so there the last is left out.
@@ -192,7 +216,22 @@ shrinking_file() {
     told 1 "became shorter while it was read" "$(cat "$room/status")"
 }
 
-# A device that is full, a pipe whose reader has gone, and no standard output at all.
+# One that is still written to, while stretch waits for its reader.
+growing_file() {
+    head -c 1000000 /dev/zero >"$room/growing"
+    {
+        stretch seal -c 64 -r 16 --key "$key64" -n 1 "$room/growing" 2>"$room/error"
+        echo "$?" >"$room/status"
+    } | {
+        head -c 1 >/dev/null
+        echo more >>"$room/growing"
+        cat >/dev/null
+    }
+    : >"$room/out"
+    told 1 "became longer while it was read" "$(cat "$room/status")"
+}
+
+# A device that is full, a pipe whose reader has gone, no standard output at all, and the very file that is read.
 wrong_output() {
     : >"$room/out"
     stretch open $with64 -l 10 "$room/plain" 2>"$room/error" >/dev/full
@@ -200,21 +239,45 @@ wrong_output() {
     { stretch open $with64 "$room/plain" 2>"$room/error"; echo "$?" >"$room/status"; } | head -c 1 >/dev/null
     told 1 "standard output cannot be written: Broken pipe" "$(cat "$room/status")" || return 1
     stretch open $with64 -l 10 "$room/plain" 2>"$room/error" >&-
-    told 1 "standard output cannot be written: Bad file" "$?"
+    told 1 "standard output cannot be written: Bad file" "$?" || return 1
+    cp "$room/plain" "$room/both"
+    stretch open $with64 "$room/both" 2>"$room/error" >>"$room/both"
+    told 1 "standard output is the file that is read, $room/both" "$?" && cmp "$room/both" "$room/plain"
 }
 
-# The file that is read is never written over, by whatever name; one that is not whole is taken away, and a refused command
-# makes none.
+# No file is written over: the one that is read, the key's, any other, by its name or by a link; a refused command makes none.
 wrong_output_files() {
-    cp "$room/plain" "$room/kept" && ln -s kept "$room/kept.link"
-    for name in kept kept.link; do
-        says 1 "$room/$name is the file that is read" open $with64 -o "$room/$name" "$room/kept" || return 1
+    cp "$room/plain" "$room/kept" && cp "$room/key128" "$room/kept.key" && ln -s kept "$room/kept.link" &&
+        ln "$room/kept" "$room/kept.hard" && ln -s nowhere "$room/no.link" || return 1
+    for name in kept kept.link kept.hard kept.key no.link; do
+        says 1 "$room/$name is there already: name another file" \
+            open -c 128 -r 12 -k "$room/kept.key" --counter "$counter128" -o "$room/$name" "$room/kept" || return 1
     done
-    cmp "$room/kept" "$room/plain" && says 1 "$room/no/where cannot be opened for writing" open $with64 -o "$room/no/where" "$room/plain" &&
-        says 1 "refusal 2" open -c 64 -r 11 --key "$key64" -n 1 -o "$room/refused" "$room/plain" && [ ! -e "$room/refused" ] || return 1
-    (ulimit -f 100 && trap '' XFSZ && stretch open $with64 -o "$room/cut" "$room/plain" 2>"$room/error")
-    told 1 "$room/cut cannot be written: File too large" "$?" && [ ! -e "$room/cut" ] &&
+    cmp "$room/kept" "$room/plain" && cmp "$room/kept.key" "$room/key128" && [ ! -e "$room/nowhere" ] &&
+        says 1 "$room/no/where cannot be opened for writing" open $with64 -o "$room/no/where" "$room/plain" &&
+        says 1 "refusal 2" open -c 64 -r 11 --key "$key64" -n 1 -o "$room/refused" "$room/plain" && [ ! -e "$room/refused" ] &&
         says 1 "/dev/full cannot be written: No space" open $with64 -o /dev/full "$room/plain" && [ -e /dev/full ]
+}
+
+# One that cannot be written whole, and one whose making a signal ends, are taken away. The signal comes when the file is there,
+# and ends the program, as its exit status says.
+unfinished_files() {
+    : >"$room/out"
+    (ulimit -f 100 && stretch open $with64 -o "$room/cut" "$room/plain" 2>"$room/error")
+    told 1 "$room/cut cannot be written: File too large" "$?" && [ ! -e "$room/cut" ] || return 1
+    for name in TERM HUP; do
+        $EMULATOR "./$OUT/stretch" open --card $with64 -l 1073741824 -o "$room/cut" "$room/large" 2>"$room/error" &
+        at_work=$!
+        tries=0
+        until [ -s "$room/cut" ] || [ "$tries" -gt 100 ]; do sleep 0.1 && tries=$((tries + 1)); done
+        kill -s "$name" "$at_work"
+        wait "$at_work"
+        status=$?
+        [ ! -e "$room/cut" ] && [ "$status" -gt 128 ] && same_text '' "$(cat "$room/error")" || {
+            echo "after $name the exit status is $status, and the file is $(ls "$room/cut" 2>&1)"
+            return 1
+        }
+    done
 }
 
 check "stretch: refusals 1 to 4, the first that applies, with the value, the text and nothing written" refuses_values
@@ -222,11 +285,15 @@ check "stretch: refusal 7, also where the stretch begins before the end" refuses
 check "stretch: hex that is wrong, odd or too long, and which digit" wrong_hex
 check "stretch: numbers that are none, or too large" wrong_numbers
 check "stretch: words that are missing, twice there, too many or unknown" wrong_words
+check "stretch: variables of the shell that are not set" unset_words
+check "stretch: no message shows a key" shows_no_key
 check "stretch: an empty key is refused unless it is asked for" refuses_empty_keys
 check "stretch: key files that are not there, too long, or have two keys" wrong_key_files
-check "stretch: warnings of a key that others can read and of a counter that leads to shared blocks" warnings
+check "stretch: warnings of a key that others can reach, and of weak sealing" warnings
 check "stretch: --help and the man page have every option, and say what has to be known" helps
 check "stretch: files that are not there, too short, directories, pipes and devices" wrong_files
 check "stretch: a file that becomes shorter" shrinking_file
-check "stretch: standard output full, closed and broken" wrong_output
-check "stretch: files to write that cannot be written, and the one that is read" wrong_output_files
+check "stretch: a file that becomes longer" growing_file
+check "stretch: standard output full, closed, broken, and the file that is read" wrong_output
+check "stretch: no file is written over" wrong_output_files
+check "stretch: a file that is not whole is taken away" unfinished_files

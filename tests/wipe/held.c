@@ -19,10 +19,11 @@ static char *words_with_key[] = {"stretch", "seal", "-c", "128", "-r", "16", "--
 static char **words_now;
 static int status;
 
-/* Reading a command's words begins anew. */
+/* Reading a command's words begins anew, and the output is a new file. */
 static void stretch_here(void)
 {
     optind = 0;
+    unlink(words_now[11]);
     status = stretch_main(13, words_now);
 }
 
