@@ -26,9 +26,9 @@ size_t stack_written(void)
     return sizeof painted - i;
 }
 
-static int is_left(const uint8_t *word, size_t len)
+static int is_left(size_t from, const uint8_t *word, size_t len)
 {
-    for (size_t i = 0; i + len <= sizeof painted; i++) {
+    for (size_t i = from; i + len <= sizeof painted; i++) {
         size_t same = 0, turned = 0;
         while (same < len && painted[i + same] == word[same])
             same++;
@@ -42,8 +42,8 @@ static int is_left(const uint8_t *word, size_t len)
 
 size_t words_left(const uint8_t *secret, size_t len, size_t word)
 {
-    size_t count = 0;
+    size_t count = 0, from = sizeof painted - stack_written();
     for (size_t at = 0; at + word <= len; at += word)
-        count += (size_t)is_left(secret + at, word);
+        count += (size_t)is_left(from, secret + at, word);
     return count;
 }
