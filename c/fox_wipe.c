@@ -1,4 +1,4 @@
-/* Wipes bytes, and the stack that finished calls have used. Nothing here is proved; tests/measure/left.c looks for keys. */
+/* Wipes bytes, and the stack that finished calls have used. Nothing here is proved; tests/wipe/left.c looks for keys. */
 #include "fox.h"
 
 #include <string.h>

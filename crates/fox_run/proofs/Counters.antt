@@ -71,11 +71,13 @@ counters-apart counter i j low high e =
 size-low : (c : ℕ) → 8 ≤ blockSize c
 size-low c = by-cipher c (λ e. omega (arith, size-64 c e)) (λ n. omega (arith, size-128 c n))
 
--- a run has fewer blocks than there are numbers of the width
+-- a run has fewer than 2 ^ 30 blocks
+pub run-blocks : (c j : ℕ) → j * blockSize c < 1073741824 → j < 2 ^ 30
+run-blocks c j l = omega (arith, mul-le-mul-left j (size-low c))
+
+-- and fewer than there are numbers of the width
 few-blocks : (c j : ℕ) → j * blockSize c < 1073741824 → j < 2 ^ (8 * blockSize c)
-few-blocks c j l =
-    let few : j < 2 ^ 30 = omega (arith, mul-le-mul-left j (size-low c)) in
-    lt-trans few (pow-lt {i = 30} {j = 8 * blockSize c} (omega (arith, size-low c)))
+few-blocks c j l = lt-trans (run-blocks c j l) (pow-lt {i = 30} {j = 8 * blockSize c} (omega (arith, size-low c)))
 
 -- the counter blocks of a run all differ, for a counter block of the cipher's size
 pub counters-differ : (c : ℕ) (counter : List ℕ) (i j : ℕ) → length counter ≡ blockSize c → i < j → j * blockSize c < 1073741824

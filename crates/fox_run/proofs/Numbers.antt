@@ -5,8 +5,8 @@
 use mathlib.Core.Path.{_≡_, refl, sym, ap, ap₂, _∙_}
 use mathlib.Core.Logic.{_⊎_}
 use mathlib.Core.List.{List, [], _∷_}
-use Prim.Native.Nat.{ℕ, _+_, _*_, _/_, _%_, _^_, _≤_, _<_}
-use native.Mathlib.Nat.{mod-eq-of-lt, div-mul-le-self, mul-le-mul-left, lt-trans}
+use Prim.Native.Nat.{ℕ, _+_, _*_, _/_, _%_, _^_, _<_}
+use native.Mathlib.Nat.{mod-eq-of-lt, div-mul-le-self, lt-trans}
 use native.Mathlib.Omega.{arith}
 use lib.Pow.{pow-lt}
 use lib.ListN.{length}
@@ -20,7 +20,7 @@ use Rattle.fox_refusals.proofs.Laws.Reply.{served}
 use Rattle.fox_block.proofs.Laws.Block.{by-cipher, size-64, size-128}
 use Rattle.fox_run.specs.Counter.{counterBlock, firstCounter}
 use Rattle.fox_run.specs.Promise.{MakesCounter}
-use Rattle.fox_run.proofs.Counters.{counting}
+use Rattle.fox_run.proofs.Counters.{counting, run-blocks}
 
 -- known values: the number stands in the four bytes before the last four
 pub first-values : firstCounter 64 0 ∷ firstCounter 64 16909060 ∷ firstCounter 64 4294967295 ∷ firstCounter 128 16909060 ∷ firstCounter 128 4294967295 ∷ []
@@ -41,12 +41,6 @@ length-first c n = length-split (blockSize c) _
 fits : (c w : ℕ) → w < 2 ^ 64 → w < 2 ^ (8 * blockSize c)
 fits c w h = by-cipher c (λ e. rw (size-64 c e) (omega arith)) (λ n. rw (size-128 c n) (lt-trans h (pow-lt {i = 64} {j = 128} (omega arith))))
 
--- a run has fewer than 2 ^ 30 blocks
-few : (c i : ℕ) → i * blockSize c < 1073741824 → i < 2 ^ 30
-few c i l =
-    let some : 1 ≤ blockSize c = by-cipher c (λ e. omega (arith, size-64 c e)) (λ n. omega (arith, size-128 c n)) in
-    omega (arith, mul-le-mul-left i some)
-
 -- counter block i of run number m, as one number
 pub number-of : (c m i : ℕ) → m < 2 ^ 32 → i * blockSize c < 1073741824 → joined (counterBlock (firstCounter c m) i) ≡ m * 2 ^ 32 + i
 unfolding firstCounter
@@ -54,14 +48,14 @@ number-of c m i hm hi =
     let first : joined (firstCounter c m) ≡ m * 2 ^ 32 = joined-split (blockSize c) (m * 2 ^ 32) (fits c (m * 2 ^ 32) (omega arith)) in
     counting (firstCounter c m) i
     ∙ ap₂ (λ (w n : ℕ). (w + i) % 2 ^ (8 * n)) first (length-first c m)
-    ∙ mod-eq-of-lt (fits c (m * 2 ^ 32 + i) (omega (arith, few c i hi)))
+    ∙ mod-eq-of-lt (fits c (m * 2 ^ 32 + i) (omega (arith, run-blocks c i hi)))
 
 -- a counter block tells the run's number and the block's place in the run
 pub runs-apart : (c m n i j : ℕ) → m < 2 ^ 32 → n < 2 ^ 32 → i * blockSize c < 1073741824 → j * blockSize c < 1073741824
     → counterBlock (firstCounter c m) i ≡ counterBlock (firstCounter c n) j → (m ≡ n) × (i ≡ j)
 runs-apart c m n i j hm hn hi hj e =
     let same : m * 2 ^ 32 + i ≡ n * 2 ^ 32 + j = sym (number-of c m i hm hi) ∙ ap joined e ∙ number-of c n j hn hj in
-    (omega (arith, few c i hi, few c j hj), omega (arith, few c i hi, few c j hj))
+    (omega (arith, run-blocks c i hi, run-blocks c j hj), omega (arith, run-blocks c i hi, run-blocks c j hj))
 
 -- the calls that make first counter blocks
 
