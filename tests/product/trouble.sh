@@ -260,24 +260,24 @@ wrong_output_files() {
 }
 
 # One that cannot be written whole, and one whose making a signal ends, are taken away. The signal comes when the file is there,
-# and ends the program, as its exit status says.
+# and ends the program, as its exit status says. It is TERM: of a program in the background the shell has INT ignored, and where
+# all this runs without a terminal HUP may be. A program that goes on all the same is killed, and its file is still there then.
 unfinished_files() {
     : >"$room/out"
     (ulimit -f 100 && stretch open $with64 -o "$room/cut" "$room/plain" 2>"$room/error")
     told 1 "$room/cut cannot be written: File too large" "$?" && [ ! -e "$room/cut" ] || return 1
-    for name in TERM HUP; do
-        $EMULATOR "./$OUT/stretch" open --card $with64 -l 1073741824 -o "$room/cut" "$room/large" 2>"$room/error" &
-        at_work=$!
-        tries=0
-        until [ -s "$room/cut" ] || [ "$tries" -gt 100 ]; do sleep 0.1 && tries=$((tries + 1)); done
-        kill -s "$name" "$at_work"
-        wait "$at_work"
-        status=$?
-        [ ! -e "$room/cut" ] && [ "$status" -gt 128 ] && same_text '' "$(cat "$room/error")" || {
-            echo "after $name the exit status is $status, and the file is $(ls "$room/cut" 2>&1)"
-            return 1
-        }
-    done
+    $EMULATOR "./$OUT/stretch" open --card $with64 -l 1073741824 -o "$room/cut" "$room/large" 2>"$room/error" &
+    at_work=$! tries=0
+    until [ -s "$room/cut" ] || [ "$tries" -gt 100 ]; do sleep 0.1 && tries=$((tries + 1)); done
+    kill -s TERM "$at_work"
+    tries=0
+    while kill -0 "$at_work" 2>/dev/null && [ "$tries" -le 100 ]; do sleep 0.1 && tries=$((tries + 1)); done
+    kill -s KILL "$at_work" 2>/dev/null
+    wait "$at_work"
+    status=$?
+    [ ! -e "$room/cut" ] && [ "$status" -gt 128 ] && same_text '' "$(cat "$room/error")" && return
+    echo "after the signal the exit status is $status, and the file: $(ls "$room/cut" 2>&1)"
+    return 1
 }
 
 check "stretch: refusals 1 to 4, the first that applies, with the value, the text and nothing written" refuses_values
