@@ -5,4 +5,6 @@ pub mod Words
 pub mod Bytewise
 pub mod Field
 pub mod Matrix
+pub mod Bits
+pub mod Nibbles
 pub mod Tables

@@ -5,4 +5,5 @@ pub mod Field
 pub mod Substitution
 pub mod Diffusion
 pub mod Tables
+pub mod Bits
 pub mod Structs

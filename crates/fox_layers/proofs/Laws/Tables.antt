@@ -29,7 +29,13 @@ map-sbox-bytes [] h i = zero-lt-suc 255
 map-sbox-bytes (x ∷ xs) h zero = sbox-lt x (h 0)
 map-sbox-bytes (x ∷ xs) h (suc i) = map-sbox-bytes xs (λ k. h (suc k)) i
 
--- the bytes of a substituted word
+-- a substituted word of n bytes, and its bytes
+pub sigma-lt : (n w : ℕ) → sigma n w < 2 ^ (8 * n)
+unfolding sigma
+sigma-lt n w =
+    let same : length (map sbox (split n w)) ≡ n = simp (length-map, length-split) in
+    rw same at (joined-lt (map sbox (split n w)) (map-sbox-bytes (split n w) (split-bytes n w)))
+
 pub split-sigma : (n w : ℕ) → split n (sigma n w) ≡ map sbox (split n w)
 unfolding sigma
 split-sigma n w =
@@ -116,6 +122,16 @@ both-halves w =
     let at : (m : ℕ) → sbox (w / 0x100000000 / m % 256) ≡ sbox (w / (0x100000000 * m) % 256) =
     λ m. ap (λ (k : ℕ). sbox (k % 256)) (div-div-eq-div-mul w 0x100000000 m) in
     omega (arith, at 0x1000000, at 0x10000, at 0x100, at 1)
+
+-- its lowest four bytes, and the lowest of these
+pub sigma-low : (w : ℕ) → sigma 8 w % 2 ^ 32 ≡ sigma 4 w
+sigma-low w = omega (arith, both-halves w, sigma-lt 4 w)
+
+pub sigma-byte : (x : ℕ) → x < 256 → sigma 4 x % 256 ≡ sbox x
+unfolding sigma joined split
+sigma-byte x h =
+    let same : x / 1 % 256 ≡ x = omega arith in
+    omega (arith, sbox-lt x h, ap sbox same)
 
 pub sigma-halves : (w : ℕ) → sigma 4 (w / 2 ^ 32) * 2 ^ 32 + sigma 4 (w % 2 ^ 32) ≡ sigma 8 w
 sigma-halves w = rw (low-half w) (both-halves w)

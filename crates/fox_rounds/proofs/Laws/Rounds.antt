@@ -2,16 +2,13 @@
 -- XOR that is the round function's input. No step leaves 32 bits.
 -- Assumes nothing.
 use mathlib.Core.Path.{_≡_, sym, ap, ap₂, _∙_, subst}
-use mathlib.Core.List.{map}
 use Prim.Native.Nat.{ℕ, _+_, _*_, _^_, _<_}
 use lib.Arith.{digits-lt}
-use lib.ListN.{length-map}
-use Rattle.fox_layers.specs.Words.{_⊕_, joined, split}
-use Rattle.fox_layers.specs.Substitution.{sbox, sigma}
+use Rattle.fox_layers.specs.Words.{_⊕_}
+use Rattle.fox_layers.specs.Substitution.{sigma}
 use Rattle.fox_layers.specs.Diffusion.{mu4}
 use Rattle.fox_layers.proofs.Laws.Xor.{xor-comm, xor-cancel, xor-cancel-right, xor-medial, xor-same, xor-zero, xor-lt}
-use Rattle.fox_layers.proofs.Laws.Words.{joined-lt, length-split, split-bytes}
-use Rattle.fox_layers.proofs.Laws.Tables.{map-sbox-bytes}
+use Rattle.fox_layers.proofs.Laws.Tables.{sigma-lt}
 use Rattle.fox_rounds.specs.Rounds.{left, right, or, io, f, f32, f64, lmid64, or64, io64, xor128, elmid128, or128, io128}
 use Rattle.fox_rounds.specs.declared.fox64.Fox64.{Fox64}
 use Rattle.fox_rounds.specs.declared.fox128.Fox128.{Fox128}
@@ -53,13 +50,6 @@ or-io w h =
     ap₂ (λ (a b : ℕ). b * 2 ^ 16 + (a ⊕ b)) there here
     ∙ ap (λ (b : ℕ). p * 2 ^ 16 + b) (xor-comm (p ⊕ q) p ∙ xor-cancel p q)
     ∙ pair 16 w h
-
--- a substituted word of n bytes
-pub sigma-lt : (n w : ℕ) → sigma n w < 2 ^ (8 * n)
-unfolding sigma
-sigma-lt n w =
-    subst (λ (k : ℕ). joined (map sbox (split n w)) < 2 ^ (8 * k)) (length-map (split n w) sbox ∙ length-split n w)
-    (joined-lt (map sbox (split n w)) (map-sbox-bytes (split n w) (split-bytes n w)))
 
 pub f-lt : (n : ℕ) (mu : ℕ → ℕ) (x rk : ℕ) → f n mu x rk < 2 ^ (8 * n)
 unfolding f

@@ -1,15 +1,12 @@
--- `substitution::sigma4` meets its contract: each byte of the split goes through the S-box, and the results are joined.
+-- `substitution::sigma4` meets its contract: the lowest four bytes of a substituted word are its lowest four bytes substituted.
 -- Assumes nothing.
-use Rattle.fox_layers.specs.Substitution.{sigma}
+use borrow.Author.Needs.{needs}
+use Rattle.fox_layers.proofs.Laws.Tables.{sigma-low}
 use Rattle.fox_layers.proofs.substitution.sigma4.Statement.{statement}
 use Rattle.fox_layers.proofs.substitution.sigma4.Tie as tie
 
 returns : tie.Need-returns
-unfolding sigma
-returns c =
-    let c2 = c .before .before in
-    let c4 = c2 .before .before in
-    rw (c .join4 .ensures, c .before .sbox4 .ensures, c2 .sbox3 .ensures, c2 .before .sbox2 .ensures, c4 .sbox .ensures, ← (c4 .before .split4 .ensures))
+returns c = rw (c .sigma8 .ensures) (sigma-low (c .before .args .w))
 
 pub sigma4-spec : {M : Type 1} → statement M
-sigma4-spec = tie.close (tie.spec (λ c κs. tt) (λ c κs. tt) (λ c κs. tt) (λ c κs. tt) (λ c κs. tt) (λ c κs. tt) returns)
+sigma4-spec = tie.close (tie.spec (λ c κs. tt) (λ c. search needs) returns)
