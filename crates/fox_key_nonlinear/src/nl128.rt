@@ -33,10 +33,10 @@ fn layers128(d: Key32, flip: bool) -> Longs4
     let x2 = first8(d.c);
     let x3 = first8(d.d);
     Longs4 {
-        w0: second8(x1, x2, x3, 0xB7E1_5162_8AED_2A6A, flip),
-        w1: second8(x0, x2, x3, 0xBF71_5880_9CF4_F3C7, flip),
-        w2: second8(x0, x1, x3, 0x62E7_160F_38B4_DA56, flip),
-        w3: second8(x0, x1, x2, 0xA784_D904_5190_CFEF, flip),
+        w0: second8(x1 ^ (x2 ^ x3) ^ 0xB7E1_5162_8AED_2A6A, flip),
+        w1: second8(x0 ^ (x2 ^ x3) ^ 0xBF71_5880_9CF4_F3C7, flip),
+        w2: second8(x0 ^ (x1 ^ x3) ^ 0x62E7_160F_38B4_DA56, flip),
+        w3: second8(x0 ^ (x1 ^ x2) ^ 0xA784_D904_5190_CFEF, flip),
     }
 }
 

@@ -5,8 +5,8 @@ ghost use Prim.Native.Nat.{_+_, _*_, _^_};
 ghost use Rattle.fox_layers.specs.Diffusion.{mu4};
 ghost use Rattle.fox_key_mixing.specs.KeyBytes.{bytes16};
 ghost use Rattle.fox_key_nonlinear.specs.Nonlinear.{words, mix64, layers, NL64};
-use crate::one_word::first4;
-use crate::one_word::second4;
+use crate::one_word::first44;
+use crate::one_word::second44;
 use fox_key_mixing::key_bytes::Key16;
 use fox_rounds::fox64::Fox64;
 use fox_rounds::fox128::pair;
@@ -22,15 +22,23 @@ struct Words4 {
 fn layers64(d: Key16, flip: bool) -> Words4
     ensures { λ r. ⌜ r .w0 ∷ r .w1 ∷ r .w2 ∷ r .w3 ∷ [] ≡ layers 4 4 mu4 mix64 flip (words 4 4 (bytes16 d)) ⌝ }
 {
-    let x0 = first4((d.a / 0x1_0000_0000) as u32);
-    let x1 = first4((d.a % 0x1_0000_0000) as u32);
-    let x2 = first4((d.b / 0x1_0000_0000) as u32);
-    let x3 = first4((d.b % 0x1_0000_0000) as u32);
+    let x = first44(d.a);
+    let y = first44(d.b);
+    let v = second44(
+        x.right ^ (y.left ^ y.right) ^ 0xB7E1_5162,
+        x.left ^ (y.left ^ y.right) ^ 0x8AED_2A6A,
+        flip,
+    );
+    let w = second44(
+        x.left ^ (x.right ^ y.right) ^ 0xBF71_5880,
+        x.left ^ (x.right ^ y.left) ^ 0x9CF4_F3C7,
+        flip,
+    );
     Words4 {
-        w0: second4(x1, x2, x3, 0xB7E1_5162, flip),
-        w1: second4(x0, x2, x3, 0x8AED_2A6A, flip),
-        w2: second4(x0, x1, x3, 0xBF71_5880, flip),
-        w3: second4(x0, x1, x2, 0x9CF4_F3C7, flip),
+        w0: v.left,
+        w1: v.right,
+        w2: w.left,
+        w3: w.right,
     }
 }
 

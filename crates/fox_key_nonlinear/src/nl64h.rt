@@ -5,8 +5,8 @@ ghost use Rattle.fox_layers.specs.Diffusion.{mu4};
 ghost use Rattle.fox_key_mixing.specs.KeyBytes.{bytes32};
 ghost use Rattle.fox_key_nonlinear.specs.Nonlinear.{words, mix64h, layers, NL64h};
 use crate::nl64::number;
-use crate::one_word::first4;
-use crate::one_word::second4;
+use crate::one_word::first44;
+use crate::one_word::second44;
 use fox_key_mixing::key_bytes::Key32;
 use fox_rounds::fox64::Fox64;
 
@@ -26,23 +26,39 @@ fn layers64h(d: Key32, flip: bool) -> Words8
     ensures { λ r. ⌜ r .w0 ∷ r .w1 ∷ r .w2 ∷ r .w3 ∷ r .w4 ∷ r .w5 ∷ r .w6 ∷ r .w7 ∷ []
         ≡ layers 4 8 mu4 mix64h flip (words 4 8 (bytes32 d)) ⌝ }
 {
-    let x0 = first4((d.a / 0x1_0000_0000) as u32);
-    let x1 = first4((d.a % 0x1_0000_0000) as u32);
-    let x2 = first4((d.b / 0x1_0000_0000) as u32);
-    let x3 = first4((d.b % 0x1_0000_0000) as u32);
-    let x4 = first4((d.c / 0x1_0000_0000) as u32);
-    let x5 = first4((d.c % 0x1_0000_0000) as u32);
-    let x6 = first4((d.d / 0x1_0000_0000) as u32);
-    let x7 = first4((d.d % 0x1_0000_0000) as u32);
+    let x = first44(d.a);
+    let y = first44(d.b);
+    let z = first44(d.c);
+    let v = first44(d.d);
+    let a = second44(
+        y.left ^ (z.left ^ v.left) ^ 0xB7E1_5162,
+        y.right ^ (z.right ^ v.right) ^ 0x8AED_2A6A,
+        flip,
+    );
+    let b = second44(
+        x.left ^ (z.left ^ v.left) ^ 0xBF71_5880,
+        x.right ^ (z.right ^ v.right) ^ 0x9CF4_F3C7,
+        flip,
+    );
+    let c = second44(
+        x.left ^ (y.left ^ v.left) ^ 0x62E7_160F,
+        x.right ^ (y.right ^ v.right) ^ 0x38B4_DA56,
+        flip,
+    );
+    let d = second44(
+        x.left ^ (y.left ^ z.left) ^ 0xA784_D904,
+        x.right ^ (y.right ^ z.right) ^ 0x5190_CFEF,
+        flip,
+    );
     Words8 {
-        w0: second4(x2, x4, x6, 0xB7E1_5162, flip),
-        w1: second4(x3, x5, x7, 0x8AED_2A6A, flip),
-        w2: second4(x0, x4, x6, 0xBF71_5880, flip),
-        w3: second4(x1, x5, x7, 0x9CF4_F3C7, flip),
-        w4: second4(x0, x2, x6, 0x62E7_160F, flip),
-        w5: second4(x1, x3, x7, 0x38B4_DA56, flip),
-        w6: second4(x0, x2, x4, 0xA784_D904, flip),
-        w7: second4(x1, x3, x5, 0x5190_CFEF, flip),
+        w0: a.left,
+        w1: a.right,
+        w2: b.left,
+        w3: b.right,
+        w4: c.left,
+        w5: c.right,
+        w6: d.left,
+        w7: d.right,
     }
 }
 

@@ -1,20 +1,29 @@
-// The layers of the non-linear parts, on one word (001 §2.3.10 to §2.3.12).
+// The layers of the non-linear parts (001 §2.3.10 to §2.3.12) on one word of 64 bits, or on two of 32 bits at once.
 ghost use mathlib.Core.Path.{_≡_};
 ghost use mathlib.Core.Bool.{cond};
-ghost use Rattle.fox_layers.specs.Words.{_⊕_};
+ghost use Prim.Native.Nat.{_/_, _%_, _^_};
 ghost use Rattle.fox_layers.specs.Substitution.{sigma};
 ghost use Rattle.fox_layers.specs.Diffusion.{mu4, mu8};
 ghost use Rattle.fox_key_nonlinear.specs.Nonlinear.{flipped};
 use fox_layers::diffusion::mu4;
 use fox_layers::diffusion::mu8;
-use fox_layers::substitution::sigma4;
 use fox_layers::substitution::sigma8;
+use fox_rounds::fox128::pair;
+
+pub struct Words2 {
+    pub left: u32,
+    pub right: u32,
+}
 
 // The layers before the mixing: substitution and diffusion.
-pub(crate) fn first4(w: u32) -> u32
-    ensures { λ r. ⌜ r ≡ mu4 (sigma 4 w) ⌝ }
+pub(crate) fn first44(w: u64) -> Words2
+    ensures { λ r. ⌜ (r .left ≡ mu4 (sigma 4 (w / 2 ^ 32))) × (r .right ≡ mu4 (sigma 4 (w % 2 ^ 32))) ⌝ }
 {
-    mu4(sigma4(w))
+    let s = sigma8(w);
+    Words2 {
+        left: mu4((s / 0x1_0000_0000) as u32),
+        right: mu4((s % 0x1_0000_0000) as u32),
+    }
 }
 
 pub(crate) fn first8(w: u64) -> u64
@@ -23,22 +32,20 @@ pub(crate) fn first8(w: u64) -> u64
     mu8(sigma8(w))
 }
 
-// The layers from the mixing on: the XOR of three words, XOR with the pad's word, the flip, the substitution.
-pub(crate) fn second4(x: u32, y: u32, z: u32, pad: u32, flip: bool) -> u32
-    ensures { λ r. ⌜ r ≡ sigma 4 (cond flip (flipped 4 ((x ⊕ y ⊕ z) ⊕ pad)) ((x ⊕ y ⊕ z) ⊕ pad)) ⌝ }
+// The layers after the XOR with the pad: the flip, the substitution.
+pub(crate) fn second44(a: u32, b: u32, flip: bool) -> Words2
+    ensures { λ r. ⌜ (r .left ≡ sigma 4 (cond flip (flipped 4 a) a)) × (r .right ≡ sigma 4 (cond flip (flipped 4 b) b)) ⌝ }
 {
-    let w = x ^ (y ^ z) ^ pad;
-    if flip {
-        sigma4(w ^ 0xFFFF_FFFF)
-    } else {
-        sigma4(w)
+    let w = second8(pair(a, b), flip);
+    Words2 {
+        left: (w / 0x1_0000_0000) as u32,
+        right: (w % 0x1_0000_0000) as u32,
     }
 }
 
-pub(crate) fn second8(x: u64, y: u64, z: u64, pad: u64, flip: bool) -> u64
-    ensures { λ r. ⌜ r ≡ sigma 8 (cond flip (flipped 8 ((x ⊕ y ⊕ z) ⊕ pad)) ((x ⊕ y ⊕ z) ⊕ pad)) ⌝ }
+pub(crate) fn second8(w: u64, flip: bool) -> u64
+    ensures { λ r. ⌜ r ≡ sigma 8 (cond flip (flipped 8 w) w) ⌝ }
 {
-    let w = x ^ (y ^ z) ^ pad;
     if flip {
         sigma8(w ^ 0xFFFF_FFFF_FFFF_FFFF)
     } else {

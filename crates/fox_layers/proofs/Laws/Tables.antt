@@ -123,18 +123,24 @@ both-halves w =
     λ m. ap (λ (k : ℕ). sbox (k % 256)) (div-div-eq-div-mul w 0x100000000 m) in
     omega (arith, at 0x1000000, at 0x10000, at 0x100, at 1)
 
+pub sigma-halves : (w : ℕ) → sigma 4 (w / 2 ^ 32) * 2 ^ 32 + sigma 4 (w % 2 ^ 32) ≡ sigma 8 w
+sigma-halves w = rw (low-half w) (both-halves w)
+
+pub sigma-parts : (w : ℕ) → (sigma 8 w / 2 ^ 32 ≡ sigma 4 (w / 2 ^ 32)) × (sigma 8 w % 2 ^ 32 ≡ sigma 4 (w % 2 ^ 32))
+sigma-parts w =
+    let whole = sigma-halves w in
+    let below = sigma-lt 4 (w % 2 ^ 32) in
+    (omega (arith, whole, below), omega (arith, whole, below))
+
 -- its lowest four bytes, and the lowest of these
 pub sigma-low : (w : ℕ) → sigma 8 w % 2 ^ 32 ≡ sigma 4 w
-sigma-low w = omega (arith, both-halves w, sigma-lt 4 w)
+sigma-low w = sigma-parts w .1 ∙ low-half w
 
 pub sigma-byte : (x : ℕ) → x < 256 → sigma 4 x % 256 ≡ sbox x
 unfolding sigma joined split
 sigma-byte x h =
     let same : x / 1 % 256 ≡ x = omega arith in
     omega (arith, sbox-lt x h, ap sbox same)
-
-pub sigma-halves : (w : ℕ) → sigma 4 (w / 2 ^ 32) * 2 ^ 32 + sigma 4 (w % 2 ^ 32) ≡ sigma 8 w
-sigma-halves w = rw (low-half w) (both-halves w)
 
 joined-zeros : (rows : List (List ℕ)) → joined (map (λ (row : List ℕ). 0) rows) ≡ 0
 unfolding joined

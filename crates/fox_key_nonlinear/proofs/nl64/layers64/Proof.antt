@@ -1,6 +1,5 @@
 -- `nl64::layers64` meets its contract: the key's words are those that the definition reads, and each goes through the layers as the definition has it.
 -- Assumes nothing.
-use borrow.Author.Needs.{needs}
 use mathlib.Core.Path.{sym, ap, _∙_}
 use mathlib.Core.List.{[], _∷_}
 use Rattle.fox_layers.specs.Words.{xorEach}
@@ -14,17 +13,17 @@ use Rattle.fox_key_nonlinear.proofs.nl64.layers64.Tie as tie
 returns : tie.Need-returns
 unfolding mix64 xorEach
 returns c =
-    let c4 = c .before .before .before .before in
-    let c8 = c4 .before .before .before .before in
-    let start = c8 .before .before .before .before in
+    let c7 = c .before .before .before .before .before .before .before in
+    let c12 = c7 .before .before .before .before .before in
+    let start = c12 .before .before in
     let fits = start .good .0 .1 .1 in
-    (λ i. c .before .before .before .second4 .ensures i ∷ c .before .before .second42 .ensures i
-    ∷ c .before .second43 .ensures i ∷ c .second44 .ensures i ∷ [])
-    ∙ layers-made 4 4 mu4 mix64 (start .args .flip) _
-    (λ i. c8 .before .before .first4 .ensures i ∷ c8 .first42 .ensures i ∷ c4 .before .before .first43 .ensures i ∷ c4 .first44 .ensures i ∷ []) pad-4-4
+    let x = c12 .before .first44 .ensures in
+    let y = c12 .first442 .ensures in
+    let v = c7 .second44 .ensures in
+    let w = c .second442 .ensures in
+    (λ i. v .0 i ∷ v .1 i ∷ w .0 i ∷ w .1 i ∷ [])
+    ∙ layers-made 4 4 mu4 mix64 (start .args .flip) _ (λ i. x .0 i ∷ x .1 i ∷ y .0 i ∷ y .1 i ∷ []) pad-4-4
     ∙ ap (layers 4 4 mu4 mix64 (start .args .flip)) (sym (halves16 (start .args .d) (fits .0 .1) (fits .1 .0 .1)))
 
 pub layers64-spec : {M : Type 1} → statement M
-layers64-spec =
-    tie.close (tie.spec (λ c. search needs) (λ c κs. tt) (λ c. search needs) (λ c κs. tt) (λ c. search needs) (λ c κs. tt) (λ c. search needs)
-    (λ c κs. tt) (λ c κs. tt) (λ c κs. tt) (λ c κs. tt) (λ c κs. tt) returns)
+layers64-spec = tie.close (tie.spec (λ c κs. tt) (λ c κs. tt) (λ c κs. tt) (λ c κs. tt) returns)

@@ -1,6 +1,5 @@
 -- `nl64h::layers64h` meets its contract: the key's words are those that the definition reads, and each goes through the layers as the definition has it.
 -- Assumes nothing.
-use borrow.Author.Needs.{needs}
 use mathlib.Core.Path.{sym, ap, _∙_}
 use mathlib.Core.List.{[], _∷_}
 use Rattle.fox_layers.specs.Words.{xorEach}
@@ -14,24 +13,26 @@ use Rattle.fox_key_nonlinear.proofs.nl64h.layers64h.Tie as tie
 returns : tie.Need-returns
 unfolding mix64h xorEach
 returns c =
-    let c4 = c .before .before .before .before in
-    let c8 = c4 .before .before .before .before in
-    let c12 = c8 .before .before .before .before in
-    let c16 = c12 .before .before .before .before in
-    let c20 = c16 .before .before .before .before in
-    let start = c20 .before .before .before .before in
+    let c7 = c .before .before .before .before .before .before .before in
+    let c14 = c7 .before .before .before .before .before .before .before in
+    let c21 = c14 .before .before .before .before .before .before .before in
+    let c28 = c21 .before .before .before .before .before .before .before in
+    let start = c28 .before .before .before .before in
     let fits = start .good .0 .1 .1 in
-    (λ i. c4 .before .before .before .second4 .ensures i ∷ c4 .before .before .second42 .ensures i
-    ∷ c4 .before .second43 .ensures i ∷ c4 .second44 .ensures i ∷ c .before .before .before .second45 .ensures i
-    ∷ c .before .before .second46 .ensures i ∷ c .before .second47 .ensures i ∷ c .second48 .ensures i ∷ [])
+    let x = c28 .before .before .before .first44 .ensures in
+    let y = c28 .before .before .first442 .ensures in
+    let z = c28 .before .first443 .ensures in
+    let v = c28 .first444 .ensures in
+    let p = c21 .second44 .ensures in
+    let q = c14 .second442 .ensures in
+    let r = c7 .second443 .ensures in
+    let s = c .second444 .ensures in
+    (λ i. p .0 i ∷ p .1 i ∷ q .0 i ∷ q .1 i ∷ r .0 i ∷ r .1 i ∷ s .0 i ∷ s .1 i ∷ [])
     ∙ layers-made 4 8 mu4 mix64h (start .args .flip) _
-    (λ i. c20 .before .before .first4 .ensures i ∷ c20 .first42 .ensures i ∷ c16 .before .before .first43 .ensures i ∷ c16 .first44 .ensures i
-    ∷ c12 .before .before .first45 .ensures i ∷ c12 .first46 .ensures i ∷ c8 .before .before .first47 .ensures i ∷ c8 .first48 .ensures i ∷ []) pad-4-8
+    (λ i. x .0 i ∷ x .1 i ∷ y .0 i ∷ y .1 i ∷ z .0 i ∷ z .1 i ∷ v .0 i ∷ v .1 i ∷ []) pad-4-8
     ∙ ap (layers 4 8 mu4 mix64h (start .args .flip))
     (sym (halves32 (start .args .d) (fits .0 .1) (fits .1 .0 .1) (fits .1 .1 .0 .1) (fits .1 .1 .1 .0 .1)))
 
 pub layers64h-spec : {M : Type 1} → statement M
 layers64h-spec =
-    tie.close (tie.spec (λ c. search needs) (λ c κs. tt) (λ c. search needs) (λ c κs. tt) (λ c. search needs) (λ c κs. tt) (λ c. search needs)
-    (λ c κs. tt) (λ c. search needs) (λ c κs. tt) (λ c. search needs) (λ c κs. tt) (λ c. search needs) (λ c κs. tt) (λ c. search needs) (λ c κs. tt)
-    (λ c κs. tt) (λ c κs. tt) (λ c κs. tt) (λ c κs. tt) (λ c κs. tt) (λ c κs. tt) (λ c κs. tt) (λ c κs. tt) returns)
+    tie.close (tie.spec (λ c κs. tt) (λ c κs. tt) (λ c κs. tt) (λ c κs. tt) (λ c κs. tt) (λ c κs. tt) (λ c κs. tt) (λ c κs. tt) returns)
