@@ -13,11 +13,12 @@ made trace libfox.a
 built trace traced -no-pie -Wl,-z,now tests/trace/*.c tests/measure/planted/branches.c $c/chance.c $engines "$OUT/libfox.a"
 traced=./$OUT/traced
 
-try() { # COMMAND ENGINE PLAN
+counted() { # COMMAND..
     add "$room/said" "$@"
 }
 
-# A store that goes with a load before it would never succeed with a line of trace between them, without the hint.
+# Without the hint Arm's exclusive stores never succeed, since lines are written between each of them and its load, and the
+# program does not end.
 with_lackey() { # COMMAND..: its trace is written to 3
     timeout 300 valgrind --tool=lackey --basic-counts=no --trace-mem=yes --sim-hints=fallback-llsc --log-fd=3 "$@"
 }
@@ -37,15 +38,15 @@ by_steps() { # ENGINE PLAN
 # The planted engines and those with tables first, to see that what differs is found.
 all_by_lackey() {
     for engine in constant faulty $(engine_names | grep -vx card); do
-        try by_lackey "$engine" brief
+        counted by_lackey "$engine" brief
     done
-    try by_lackey card whole
+    counted by_lackey card whole
 }
 
 instructions_by() { # COMMAND PLAN
-    try "$1" constant brief
-    try "$1" faulty brief
-    try "$1" card "$2"
+    counted "$1" constant brief
+    counted "$1" faulty brief
+    counted "$1" card "$2"
 }
 
 no_lackey() { # why there is no trace of data; nothing where there is
@@ -57,7 +58,7 @@ no_lackey() { # why there is no trace of data; nothing where there is
 }
 
 for engine in $(engine_names); do
-    try run_host "$traced" calls "$engine" whole
+    counted run_host "$traced" calls "$engine" whole
 done
 if [ -n "$EMULATOR" ]; then
     instructions_by by_emulator whole

@@ -1,6 +1,4 @@
 /* What is seen of each call, held to what was seen of the first call of its group, one thing after the other. */
-#include "count.h"
-#include "fox.h"
 #include "tally.h"
 #include "trace.h"
 
@@ -9,7 +7,8 @@
 #include <stdlib.h>
 #include <string.h>
 
-/* At which step of the call, counted in instructions. Kind 0 is the end of the call. */
+/* An instruction or an access to data, and in which step of the call, each instruction being one. Kind 0 is the end of the
+ * call. */
 struct seen {
     uint64_t address;
     size_t step;
@@ -40,9 +39,9 @@ static struct found {
 static const struct engine *engine;
 static const struct plan *plan;
 static const char *const *names;
-static int inside, ended;
+static int inside, entered, ended;
 static size_t begun, done;
-static uint64_t instruction;
+static uint64_t instruction, entry;
 
 void compare_begin(const struct engine *of, const struct plan *by, const char *const what[SORTS])
 {
@@ -101,10 +100,27 @@ static void take(enum sort sort, struct seen s)
     t->at++;
 }
 
+/* The instruction that a call of the engine begins with, which shows that it was made. */
+static uint64_t entry_of(enum verb verb)
+{
+    switch (verb) {
+    case RUN:
+        return (uintptr_t)engine->run;
+    case MAKE_TAG:
+        return (uintptr_t)engine->make_tag;
+    case TEST_TAG:
+        return (uintptr_t)engine->test_tag;
+    default:
+        return verb == OPEN ? (uintptr_t)engine->open : (uintptr_t)engine->seal;
+    }
+}
+
 static void begin_call(void)
 {
     inside = 1;
+    entered = 0;
     begun++;
+    entry = entry_of(group_of(begun - 1)->verb);
     for (int i = 0; i < SORTS; i++) {
         if (is_first())
             trails[i].length = 0;
@@ -125,7 +141,7 @@ static void end_call(void)
         o->most = t->at > o->most ? t->at : o->most;
     }
     f->calls++;
-    done++;
+    done += (size_t)entered;
     inside = 0;
 }
 
@@ -134,6 +150,7 @@ void saw(char kind, uint64_t address, unsigned size)
 {
     if (kind == 'I') {
         instruction = address;
+        entered |= address == entry;
         if (address == (uintptr_t)mark_before)
             begin_call();
         else if (inside && address == (uintptr_t)mark_after)
@@ -145,10 +162,10 @@ void saw(char kind, uint64_t address, unsigned size)
     }
     enum sort sort = kind == 'I' ? INSTRUCTIONS : DATA;
     if (inside && names[sort] != NULL)
-        take(sort, (struct seen){address, trails[INSTRUCTIONS].at, size, kind});
+        take(sort, (struct seen){address, trails[INSTRUCTIONS].at + (kind == 'I'), size, kind});
 }
 
-/* What is asked of a verb: that its calls are the same in a sort, that they differ, or neither. */
+/* What is asked of a verb's calls: that all of a group are the same in a sort, that some are not, or neither. */
 enum asked { SAME, DIFFERENT, EITHER };
 
 static enum asked asked(enum verb verb, enum sort sort)
@@ -191,9 +208,9 @@ static void put_words(char *words, size_t room, const struct of_sort *o, const c
 {
     size_t end = strlen(words);
     if (o->differ == 0)
-        snprintf(words + end, room - end, ", the same %s, %zu to %zu", what, o->least, o->most);
+        snprintf(words + end, room - end, ", all with the same %s, %zu to %zu", what, o->least, o->most);
     else
-        snprintf(words + end, room - end, ", other %s than the group's first in %zu calls", what, o->differ);
+        snprintf(words + end, room - end, ", %zu with other %s than the group's first", o->differ, what);
 }
 
 static void of_verb(enum verb verb, size_t planned)
@@ -222,7 +239,7 @@ void compare_end(void)
     for (size_t i = 0; i < plan->count; i++)
         planned[plan->groups[i].verb] += plan->calls;
     if (!ended || inside || begun != done || done != plan->count * plan->calls) {
-        printf("trace: the trace has %zu calls that begin and %zu that end, to be %zu%s\n", begun, done,
+        printf("trace: the trace has %zu calls that begin and %zu that were made and end, to be %zu%s\n", begun, done,
                plan->count * plan->calls, ended ? "" : ", and is cut short");
         ended = 0;
     }

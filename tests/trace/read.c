@@ -34,7 +34,7 @@ void read_lackey(void)
     while (fgets(line, sizeof line, stdin) != NULL) {
         count++;
         if (!lackey_line(line)) {
-            figure(0, "line %ld of valgrind's trace is none: %s", count, line);
+            figure(0, "line %ld of valgrind's trace is none: %.*s", count, (int)strcspn(line, "\n"), line);
             return;
         }
     }
