@@ -18,15 +18,29 @@ enum { MOST_CALLS = 8, MOST_DATA = 40, SEED = 7 };
 
 /* Keys of every schedule, padded and not, in every verb; messages of no byte, of whole blocks, and of others. */
 static const struct group whole[] = {
-    BLOCKS(FOX64, 12, 5),   BLOCKS(FOX64, 16, 16),  BLOCKS(FOX64, 12, 17),  BLOCKS(FOX64, 12, 32),
-    BLOCKS(FOX128, 12, 5),  BLOCKS(FOX128, 12, 17), BLOCKS(FOX128, 12, 32), STRETCH(FOX64, 5, 8),
-    STRETCH(FOX64, 16, 15), STRETCH(FOX64, 17, 2),  STRETCH(FOX64, 32, 2),  STRETCH(FOX128, 5, 8),
-    STRETCH(FOX128, 16, 30), STRETCH(FOX128, 32, 8), TESTED(FOX64, 5, 0),   TESTED(FOX64, 16, 11),
-    TESTED(FOX64, 17, 8),   MADE(FOX64, 32, 3),     MADE(FOX128, 5, 7),     TESTED(FOX128, 32, 16),
+    BLOCKS(FOX64, 12, 5),
+    BLOCKS(FOX64, 16, 16),
+    BLOCKS(FOX64, 12, 17),
+    BLOCKS(FOX64, 12, 32),
+    BLOCKS(FOX128, 12, 16),
+    BLOCKS(FOX128, 12, 32),
+    STRETCH(FOX64, 5, 8),
+    STRETCH(FOX64, 16, 15),
+    STRETCH(FOX64, 17, 2),
+    STRETCH(FOX64, 32, 2),
+    STRETCH(FOX128, 17, 8),
+    STRETCH(FOX128, 32, 30),
+    MADE(FOX64, 5, 0),
+    MADE(FOX64, 17, 3),
+    MADE(FOX128, 5, 0),
+    MADE(FOX128, 17, 7),
+    TESTED(FOX64, 16, 11),
+    TESTED(FOX64, 32, 8),
+    TESTED(FOX128, 32, 16),
 };
 
 static const struct group brief[] = {
-    BLOCKS(FOX64, 12, 16), BLOCKS(FOX128, 12, 32), STRETCH(FOX64, 17, 2), STRETCH(FOX128, 16, 7), TESTED(FOX64, 16, 3),
+    BLOCKS(FOX64, 12, 16), BLOCKS(FOX128, 12, 32), STRETCH(FOX64, 17, 2), TESTED(FOX64, 16, 3),
 };
 
 static const struct plan plans[] = {
