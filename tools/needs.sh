@@ -19,6 +19,7 @@ if [ "${1:-}" = optional ]; then
     wanted "${CXX_HOST%% *}" g++ "the header in C++"
     wanted clang clang "the header by clang"
     wanted pkg-config pkg-config "programs by pkg-config"
+    wanted valgrind valgrind "where calls read and write data"
     PROCESSOR=$(other_processor)
     . tools/machine.sh
     said=$(no_programs)
