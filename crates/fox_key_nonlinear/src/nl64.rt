@@ -22,16 +22,20 @@ struct Words4 {
 fn layers64(d: Key16, flip: bool) -> Words4
     ensures { λ r. ⌜ r .w0 ∷ r .w1 ∷ r .w2 ∷ r .w3 ∷ [] ≡ layers 4 4 mu4 mix64 flip (words 4 4 (bytes16 d)) ⌝ }
 {
-    let x = first44(d.a);
-    let y = first44(d.b);
+    let a = first44(d.a);
+    let b = first44(d.b);
+    let x0 = a.left;
+    let x1 = a.right;
+    let x2 = b.left;
+    let x3 = b.right;
     let v = second44(
-        x.right ^ (y.left ^ y.right) ^ 0xB7E1_5162,
-        x.left ^ (y.left ^ y.right) ^ 0x8AED_2A6A,
+        x1 ^ (x2 ^ x3) ^ 0xB7E1_5162,
+        x0 ^ (x2 ^ x3) ^ 0x8AED_2A6A,
         flip,
     );
     let w = second44(
-        x.left ^ (x.right ^ y.right) ^ 0xBF71_5880,
-        x.left ^ (x.right ^ y.left) ^ 0x9CF4_F3C7,
+        x0 ^ (x1 ^ x3) ^ 0xBF71_5880,
+        x0 ^ (x1 ^ x2) ^ 0x9CF4_F3C7,
         flip,
     );
     Words4 {

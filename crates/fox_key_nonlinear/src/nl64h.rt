@@ -26,39 +26,47 @@ fn layers64h(d: Key32, flip: bool) -> Words8
     ensures { λ r. ⌜ r .w0 ∷ r .w1 ∷ r .w2 ∷ r .w3 ∷ r .w4 ∷ r .w5 ∷ r .w6 ∷ r .w7 ∷ []
         ≡ layers 4 8 mu4 mix64h flip (words 4 8 (bytes32 d)) ⌝ }
 {
-    let x = first44(d.a);
-    let y = first44(d.b);
-    let z = first44(d.c);
-    let v = first44(d.d);
-    let a = second44(
-        y.left ^ (z.left ^ v.left) ^ 0xB7E1_5162,
-        y.right ^ (z.right ^ v.right) ^ 0x8AED_2A6A,
+    let a = first44(d.a);
+    let b = first44(d.b);
+    let c = first44(d.c);
+    let e = first44(d.d);
+    let x0 = a.left;
+    let x1 = a.right;
+    let x2 = b.left;
+    let x3 = b.right;
+    let x4 = c.left;
+    let x5 = c.right;
+    let x6 = e.left;
+    let x7 = e.right;
+    let s = second44(
+        x2 ^ (x4 ^ x6) ^ 0xB7E1_5162,
+        x3 ^ (x5 ^ x7) ^ 0x8AED_2A6A,
         flip,
     );
-    let b = second44(
-        x.left ^ (z.left ^ v.left) ^ 0xBF71_5880,
-        x.right ^ (z.right ^ v.right) ^ 0x9CF4_F3C7,
+    let t = second44(
+        x0 ^ (x4 ^ x6) ^ 0xBF71_5880,
+        x1 ^ (x5 ^ x7) ^ 0x9CF4_F3C7,
         flip,
     );
-    let c = second44(
-        x.left ^ (y.left ^ v.left) ^ 0x62E7_160F,
-        x.right ^ (y.right ^ v.right) ^ 0x38B4_DA56,
+    let u = second44(
+        x0 ^ (x2 ^ x6) ^ 0x62E7_160F,
+        x1 ^ (x3 ^ x7) ^ 0x38B4_DA56,
         flip,
     );
-    let d = second44(
-        x.left ^ (y.left ^ z.left) ^ 0xA784_D904,
-        x.right ^ (y.right ^ z.right) ^ 0x5190_CFEF,
+    let v = second44(
+        x0 ^ (x2 ^ x4) ^ 0xA784_D904,
+        x1 ^ (x3 ^ x5) ^ 0x5190_CFEF,
         flip,
     );
     Words8 {
-        w0: a.left,
-        w1: a.right,
-        w2: b.left,
-        w3: b.right,
-        w4: c.left,
-        w5: c.right,
-        w6: d.left,
-        w7: d.right,
+        w0: s.left,
+        w1: s.right,
+        w2: t.left,
+        w3: t.right,
+        w4: u.left,
+        w5: u.right,
+        w6: v.left,
+        w7: v.right,
     }
 }
 

@@ -13,13 +13,12 @@ use Rattle.fox_key_nonlinear.proofs.nl64.layers64.Tie as tie
 returns : tie.Need-returns
 unfolding mix64 xorEach
 returns c =
-    let c7 = c .before .before .before .before .before .before .before in
-    let c12 = c7 .before .before .before .before .before in
-    let start = c12 .before .before in
+    let c2 = c .before .before in
+    let start = c2 .before .before in
     let fits = start .good .0 .1 .1 in
-    let x = c12 .before .first44 .ensures in
-    let y = c12 .first442 .ensures in
-    let v = c7 .second44 .ensures in
+    let x = c2 .before .first44 .ensures in
+    let y = c2 .first442 .ensures in
+    let v = c .before .second44 .ensures in
     let w = c .second442 .ensures in
     (λ i. v .0 i ∷ v .1 i ∷ w .0 i ∷ w .1 i ∷ [])
     ∙ layers-made 4 4 mu4 mix64 (start .args .flip) _ (λ i. x .0 i ∷ x .1 i ∷ y .0 i ∷ y .1 i ∷ []) pad-4-4

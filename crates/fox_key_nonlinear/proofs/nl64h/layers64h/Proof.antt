@@ -13,19 +13,16 @@ use Rattle.fox_key_nonlinear.proofs.nl64h.layers64h.Tie as tie
 returns : tie.Need-returns
 unfolding mix64h xorEach
 returns c =
-    let c7 = c .before .before .before .before .before .before .before in
-    let c14 = c7 .before .before .before .before .before .before .before in
-    let c21 = c14 .before .before .before .before .before .before .before in
-    let c28 = c21 .before .before .before .before .before .before .before in
-    let start = c28 .before .before .before .before in
+    let c4 = c .before .before .before .before in
+    let start = c4 .before .before .before .before in
     let fits = start .good .0 .1 .1 in
-    let x = c28 .before .before .before .first44 .ensures in
-    let y = c28 .before .before .first442 .ensures in
-    let z = c28 .before .first443 .ensures in
-    let v = c28 .first444 .ensures in
-    let p = c21 .second44 .ensures in
-    let q = c14 .second442 .ensures in
-    let r = c7 .second443 .ensures in
+    let x = c4 .before .before .before .first44 .ensures in
+    let y = c4 .before .before .first442 .ensures in
+    let z = c4 .before .first443 .ensures in
+    let v = c4 .first444 .ensures in
+    let p = c .before .before .before .second44 .ensures in
+    let q = c .before .before .second442 .ensures in
+    let r = c .before .second443 .ensures in
     let s = c .second444 .ensures in
     (λ i. p .0 i ∷ p .1 i ∷ q .0 i ∷ q .1 i ∷ r .0 i ∷ r .1 i ∷ s .0 i ∷ s .1 i ∷ [])
     ∙ layers-made 4 8 mu4 mix64h (start .args .flip) _
