@@ -16,18 +16,22 @@ enum { MOST_CALLS = 8, MOST_DATA = 40, SEED = 7 };
 #define TESTED(cipher, key_len, len) \
     MADE(cipher, key_len, len), {TEST_TAG, cipher, 12, key_len, 0, len, 0}, {TEST_TAG, cipher, 12, key_len, 0, len, 1}
 
-/* Keys of every schedule, padded and not, in every verb; messages of no byte, of whole blocks, and of others. */
+/* Keys of every schedule, padded and not; messages of no byte, of whole blocks, and of others. */
 static const struct group whole[] = {
     BLOCKS(FOX64, 12, 5),
     BLOCKS(FOX64, 16, 16),
     BLOCKS(FOX64, 12, 17),
     BLOCKS(FOX64, 12, 32),
+    BLOCKS(FOX128, 12, 5),
     BLOCKS(FOX128, 12, 16),
+    BLOCKS(FOX128, 12, 17),
     BLOCKS(FOX128, 12, 32),
     STRETCH(FOX64, 5, 8),
     STRETCH(FOX64, 16, 15),
     STRETCH(FOX64, 17, 2),
     STRETCH(FOX64, 32, 2),
+    STRETCH(FOX128, 5, 2),
+    STRETCH(FOX128, 16, 2),
     STRETCH(FOX128, 17, 8),
     STRETCH(FOX128, 32, 30),
     MADE(FOX64, 5, 0),
@@ -36,6 +40,7 @@ static const struct group whole[] = {
     MADE(FOX128, 17, 7),
     TESTED(FOX64, 16, 11),
     TESTED(FOX64, 32, 8),
+    TESTED(FOX128, 16, 0),
     TESTED(FOX128, 32, 16),
 };
 
