@@ -80,14 +80,17 @@
  * bytes of stack, which is 1 KiB. A call by the server engine has its tables and round keys there, and takes
  * less than FOX_SERVER_STACK, which is 40 KiB.
  *
- * Left out: protection against timing measurement. Nothing of it is promised. What is measured: by the card
- * engine, the instructions that a call takes and the addresses that it reads and writes are the same for all
- * keys, blocks, data and messages of the same lengths that were tried; of a test, for all tags that are right,
- * and for all that are wrong. How long an instruction takes is not looked at. The server engine reads its
- * tables at places that depend on key and data bytes. Nor does opening detect a wrong key, counter block or
- * round count, or sealed bytes that were changed: it then gives other bytes. That sealed bytes were changed, a tag over them tells, where one was made and is tested
- * before opening. And no call wipes what it leaves behind: the server engine's round keys, and the card
- * engine's key and mixed key, stay in the stack below the caller until something else is written there;
+ * Left out: protection against timing measurement; nothing of it is promised. What is measured, of the code
+ * that the tests run on: calls by the card engine with the same cipher, rounds, lengths, offset and counter
+ * block take the same instructions, and read and write at the same addresses, for all keys, blocks, data and
+ * messages that are tried; a test of a tag does so for all right tags, and for all wrong ones. Addresses are
+ * seen only for the machine's own processor, and where valgrind is. How long an instruction takes is not
+ * looked at. The server engine reads its tables at places that depend on key and data bytes.
+ *
+ * Opening does not detect a wrong key, counter block or round count, or sealed bytes that were changed: it
+ * then gives other bytes. That sealed bytes were changed, a tag over them tells, where one was made and is
+ * tested before opening. And no call wipes what it leaves behind: the server engine's round keys, and the
+ * card engine's key and mixed key, stay in the stack below the caller until something else is written there;
  * fox_wipe_stack wipes them. What stays even then is named there. */
 #ifndef FOX_H
 #define FOX_H

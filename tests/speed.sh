@@ -4,23 +4,30 @@
 # BEFORE=ARCHIVE, which is a libfox_card.a or libfox.a of another build for this processor, the card is timed beside that
 # build's card too.
 set -u
+before=${BEFORE:+$(realpath -m "$BEFORE")}
 cd "$(dirname "$0")/.." || exit 2
 unset PROCESSOR
 . tests/host.sh
+[ -z "$before" ] || [ -r "$before" ] || failed_to speed "there is no archive $before"
 made speed libfox.a
 compiler=$(
     CC_HOST=clang
     said=$(no_programs)
     [ -n "$said" ] || echo clang
 )
-CC_HOST=${compiler:-$CC_HOST}
+
 # Every name that the other build's archive defines gets `before_` in front, so that both builds fit in one program.
-before=
-if [ -n "${BEFORE:-}" ]; then
-    nm -g --defined-only "$BEFORE" | awk 'NF == 3 { print $3, "before_" $3 }' | sort -u >"$OUT/before.names"
-    objcopy --redefine-syms="$OUT/before.names" "$BEFORE" "$OUT/before.a" || exit 1
-    before="-DBEFORE $OUT/before.a"
+renamed() { # ARCHIVE
+    "$(tool nm)" -g --defined-only "$1" | awk 'NF == 3 { print $3, "before_" $3 }' | sort -u >"$OUT/before.names"
+    [ -s "$OUT/before.names" ] && "$(tool objcopy)" --redefine-syms="$OUT/before.names" "$1" "$OUT/before.a"
+}
+
+other=
+if [ -n "$before" ]; then
+    renamed "$before" || failed_to speed "$before is no archive of the library for $MACHINE"
+    other="-DBEFORE $OUT/before.a"
 fi
-built speed speed -O3 tests/speed/*.c $engines $c/chance.c "$OUT/libfox.a" $before
+CC_HOST=${compiler:-$CC_HOST}
+built speed speed -O3 tests/speed/*.c $engines $c/chance.c "$OUT/libfox.a" $other
 echo "speed: on $MACHINE; the C code is compiled by $CC_HOST -O3"
 "./$OUT/speed"

@@ -1,7 +1,7 @@
 #!/bin/sh
-# Builds and runs tests/trace over libfox.a: calls that have nothing but keys, blocks and data apart, each instruction and each
-# access to data of which is held to those of another one. By the card all are the same; what looks up and what branches is seen
-# to differ. valgrind's tool lackey shows all of it; stepping through a child, and an emulator for the other processor,
+# Builds and runs tests/trace over libfox.a: calls that differ in keys, blocks and data alone, each instruction and each access
+# to data of which is held to those of another one. By the card all are the same; what looks up and what branches is seen to
+# differ. valgrind's tool lackey shows all of it; stepping through a child, and an emulator for the other processor,
 # instructions alone. Last line: 'N passed, M failed'.
 set -u
 cd "$(dirname "$0")/.." || exit 2
@@ -28,11 +28,11 @@ by_lackey() { # ENGINE PLAN
 }
 
 by_emulator() { # ENGINE PLAN
-    "$EMULATOR" -d exec,nochain "$traced" calls "$@" 2>&1 >"$room/calls" | run_host "$traced" emulator "$@"
+    timeout 300 "$EMULATOR" -d exec,nochain "$traced" calls "$@" 2>&1 >"$room/calls" | run_host "$traced" emulator "$@"
 }
 
 by_steps() { # ENGINE PLAN
-    run_host "$traced" step "$@"
+    timeout 300 "$traced" step "$@"
 }
 
 # The planted engines and those with tables first, to see that what differs is found.
@@ -53,7 +53,7 @@ no_lackey() { # why there is no trace of data; nothing where there is
     if ! command -v valgrind >/dev/null 2>&1; then
         echo "there is no valgrind (Debian: valgrind)"
     elif ! with_lackey "$traced" calls constant brief 3>"$room/trace" >"$room/calls" 2>&1; then
-        echo "valgrind's tool lackey does not run here"
+        echo "valgrind's tool lackey does not run here: $(grep -v '^[I ]' "$room/trace" | tail -n 1)"
     fi
 }
 

@@ -1,4 +1,4 @@
-/* Substitution (001 §2.2.6): the box of 256 entries, each worked out from the three small boxes of §3.1, Fig. 13. The
+/* Substitution (001 §2.2.6): the box of 256 entries, each worked out from the three small S-boxes of §3.1, Fig. 13. The
  * box as printed in Fig. 7 is not used, since the scan of it is damaged. */
 #include "parts.h"
 

@@ -1,5 +1,5 @@
-/* FOX64 and FOX128 in plain C: in counter mode by tables one block at a time and four at a time, and by small boxes;
- * tags (CMAC) by tables and by small boxes. */
+/* FOX64 and FOX128 in plain C: in counter mode by tables one block at a time and four at a time, and by small S-boxes;
+ * tags (CMAC) by tables and by small S-boxes. */
 #include "plain.h"
 #include <string.h>
 
@@ -313,7 +313,7 @@ void plain_prepare(struct plain_key *prepared, uint32_t cipher, uint32_t rounds,
             round_key128(&m, &reg, prepared->keys + 2 * i);
 }
 
-/* Blocks sealed: by tables, four by tables, and by small boxes. */
+/* Blocks sealed: by tables, four by tables, and by small S-boxes. */
 
 static inline void seal64(const struct plain_key *k, struct state64 *s)
 {

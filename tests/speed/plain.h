@@ -25,11 +25,11 @@ void plain_run_one(const struct plain_key *prepared, const uint8_t *counter, uin
 void plain_run_four(const struct plain_key *prepared, const uint8_t *counter, uint64_t offset,
                        const uint8_t *input, size_t len, uint8_t *out);
 
-/* By small boxes and products worked out, each round key made anew for each block. */
+/* By small S-boxes and products worked out, each round key made anew for each block. */
 void plain_run_small(uint32_t cipher, uint32_t rounds, const uint8_t *key, size_t key_len, const uint8_t *counter,
                         uint64_t offset, const uint8_t *input, size_t len, uint8_t *out);
 
-/* The tag of a message, as long as a block: by tables and a prepared key, and by small boxes, each round key made anew
+/* The tag of a message, as long as a block: by tables and a prepared key, and by small S-boxes, each round key made anew
  * for each block. */
 void plain_tag(const struct plain_key *prepared, const uint8_t *message, size_t len, uint8_t *tag);
 void plain_tag_small(uint32_t cipher, uint32_t rounds, const uint8_t *key, size_t key_len, const uint8_t *message,

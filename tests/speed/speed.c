@@ -26,7 +26,7 @@ static const struct setting {
 } settings[] = {{FOX64, 16, 2.0}, {FOX64, 32, 2.0}, {FOX128, 16, 1.8}};
 
 /* The same for a tag, in every setting. The blocks of a message cannot go side by side, so C is hard to outrun. And for
- * the card beside the C code with small boxes, which keeps them in memory. */
+ * the card beside the C code with small S-boxes, which keeps them in memory. */
 static const double tag_asked = 0.9, card_asked = 0.9;
 
 static uint8_t key[FOX_MOST_KEY], counter[FOX128_BLOCK], input[LONG_MESSAGE], out[STRETCH], answer[STRETCH];
@@ -58,10 +58,17 @@ static uint32_t card(uint64_t offset, size_t len)
 #ifdef BEFORE
 /* The card of another build, whose names have `before_` in front. */
 __typeof__(fox_card_run) before_fox_card_run;
+__typeof__(fox_card_make_tag) before_fox_card_make_tag;
 
 static uint32_t card_before(uint64_t offset, size_t len)
 {
     return before_fox_card_run(cipher, rounds, key, key_len, counter, cipher / 8, offset, input, len, out, len);
+}
+
+static uint32_t tag_before(uint64_t offset, size_t len)
+{
+    (void)offset;
+    return before_fox_card_make_tag(cipher, rounds, key, key_len, input, len, out, cipher / 8);
 }
 #endif
 
@@ -148,7 +155,7 @@ static int agrees(uint64_t offset, size_t len)
     static const struct {
         const char *name;
         work *work;
-    } kinds[] = {{"one block at a time", one}, {"four blocks at a time", four}, {"small boxes", small},
+    } kinds[] = {{"one block at a time", one}, {"four blocks at a time", four}, {"small S-boxes", small},
 #ifdef BEFORE
                  {"card before", card_before},
 #endif
@@ -170,7 +177,10 @@ static int tags_agree(size_t len)
         return right;
     for (size_t i = 0; right && i < ENGINES; i++)
         right = same(engines[i].name, tag_by_engine(&engines[i], len), 0, len, tag_len);
-    return right && same("tag by small boxes", small_tag(0, len), 0, len, tag_len);
+#ifdef BEFORE
+    right = right && same("card tag before", tag_before(0, len), 0, len, tag_len);
+#endif
+    return right && same("tag by small S-boxes", small_tag(0, len), 0, len, tag_len);
 }
 
 /* Bytes that are the same in every run of this program. */
@@ -347,7 +357,7 @@ static void show_runs(double asked)
     const struct side by_one = {"C, one block", one, 0, STRETCH};
     const struct side by_four = {"C, four blocks", four, 0, STRETCH};
     const struct side by_card = {"card", card, 0, SHORT_STRETCH};
-    const struct side by_small = {"C, small boxes", small, 0, SHORT_STRETCH};
+    const struct side by_small = {"C, small S-boxes", small, 0, SHORT_STRETCH};
     show(&from_start, &by_one, asked, ON_X86_64);
     show(&from_start, &by_four, 0, NOWHERE);
     show(&high, &from_start, 0, NOWHERE);
@@ -364,10 +374,14 @@ static void show_tags(void)
     const struct side of_long = {"server tag, 16 MiB", server_tag, 0, LONG_MESSAGE};
     const struct side by_tables = {"C tag", table_tag, 0, STRETCH};
     const struct side by_card = {"card tag", card_tag, 0, SHORT_STRETCH};
-    const struct side by_small = {"C tag, small boxes", small_tag, 0, SHORT_STRETCH};
+    const struct side by_small = {"C tag, small S-boxes", small_tag, 0, SHORT_STRETCH};
     show(&by_server, &by_tables, tag_asked, EVERYWHERE);
     show(&of_long, &by_server, 0, NOWHERE);
     show(&by_card, &by_small, card_asked, EVERYWHERE);
+#ifdef BEFORE
+    const struct side before = {"card tag before", tag_before, 0, SHORT_STRETCH};
+    show(&by_card, &before, 0, NOWHERE);
+#endif
 }
 
 int main(void)

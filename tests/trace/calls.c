@@ -8,7 +8,7 @@
 
 enum { MOST_CALLS = 8, MOST_DATA = 40, SEED = 7 };
 
-/* A run begins and ends inside a block. Tags that are made are tested then, as they are, and wrong ones. */
+/* A run begins and ends inside a block. Tags that are made are then tested, as they are and spoilt. */
 #define BLOCKS(cipher, rounds, key_len) \
     {SEAL, cipher, rounds, key_len, 0, 0, 0}, {OPEN, cipher, rounds, key_len, 0, 0, 0}
 #define STRETCH(cipher, key_len, len) {RUN, cipher, 12, key_len, 5, len, 0}
@@ -83,29 +83,25 @@ __attribute__((noinline)) void mark_end(void)
     marked = 4;
 }
 
-/* All zeros, all ones, by chance, and keys and data of which one has many ones and the other few. No two keys are the same,
- * since the tag of an empty message has no other secret. */
-static uint8_t keys[MOST_CALLS][FOX_MOST_KEY], inputs[MOST_CALLS][MOST_DATA];
-
-void make_secrets(void)
-{
-    static const int of_key[] = {0x00, 0xFF, -1, 0x01, 0xFE}, of_input[] = {0x00, 0xFF, -1, 0xFF, 0x00};
-    chance_from(SEED);
-    for (size_t n = 0; n < MOST_CALLS; n++) {
-        fill(keys[n], FOX_MOST_KEY);
-        fill(inputs[n], MOST_DATA);
-        if (n >= COUNT(of_key) || of_key[n] < 0)
-            continue;
-        memset(keys[n], of_key[n], FOX_MOST_KEY);
-        memset(inputs[n], of_input[n], MOST_DATA);
-    }
-}
-
 /* The buffers of every call, and what the calls of a group have put out, the tags for the next groups among it. */
 static uint8_t key[FOX_MOST_KEY], first[FOX128_BLOCK], data[MOST_DATA], out[MOST_DATA];
 static uint8_t outputs[MOST_CALLS][MOST_DATA];
 
-/* A stored tag is wrong in its first byte, its last, in all, in all but one, or in any one. */
+/* Keys and data that are all zeros, all ones, of which one has many ones and the other few, and by chance; others in each
+ * group, but for groups that make tags and those that test them. */
+static void set_secrets(const struct group *g, size_t n)
+{
+    static const int of_key[] = {0x00, 0xFF, -1, 0x01, 0xFE}, of_data[] = {0x00, 0xFF, -1, 0xFF, 0x00};
+    chance_from(SEED + n + 16 * (g->key_len + 64 * (g->data_len + 64 * g->cipher)));
+    fill(key, sizeof key);
+    fill(data, sizeof data);
+    if (n < COUNT(of_key) && of_key[n] >= 0) {
+        memset(key, of_key[n], sizeof key);
+        memset(data, of_data[n], sizeof data);
+    }
+}
+
+/* A stored tag is wrong in its first byte, its last, in all, in all but one, or in one other. */
 static void spoil(uint8_t *tag, size_t len, size_t n)
 {
     for (size_t i = 0; i < len; i++) {
@@ -114,21 +110,20 @@ static void spoil(uint8_t *tag, size_t len, size_t n)
     }
 }
 
-/* The counter is all ones, so that every run carries. */
+/* The counter is all ones, so that a run of more than one block carries. */
 static struct call call_of(const struct group *g, size_t n)
 {
     size_t block = block_of(g->cipher);
     struct call c = {g->cipher, g->rounds, key, g->key_len, first, block, g->offset, data, g->data_len, out, 0};
     c.out_len = right_out_len(g->verb, &c);
-    memcpy(key, keys[n], sizeof key);
-    memcpy(data, inputs[n], sizeof data);
+    set_secrets(g, n);
     memset(out, 0, sizeof out);
     if (g->verb == RUN)
         memset(first, 0xFF, sizeof first);
     else if (g->verb == TEST_TAG)
         memcpy(first, outputs[n], block);
     else
-        memcpy(first, inputs[n], block);
+        memcpy(first, data, block);
     if (g->wrong)
         spoil(first, block, n);
     return c;

@@ -1,4 +1,4 @@
-/* Looks at the instructions, and the accesses to data, of calls that have nothing but secrets apart.
+/* Looks at the instructions, and the accesses to data, of calls that differ in secrets alone.
  * Usage: traced can-step: whether a child can be stepped through, as the exit status.
  *        traced calls|lackey|emulator|step ENGINE PLAN: makes the calls; reads what valgrind's tool lackey, or an emulator, has
  *        written while they were made; steps through them. Last line: 'N passed, M failed'. */
@@ -25,7 +25,7 @@ static void by_lackey(const struct engine *engine, const struct plan *plan)
 
 static void by_emulator(const struct engine *engine, const struct plan *plan)
 {
-    static const char *const names[SORTS] = {"stretches of instructions", NULL};
+    static const char *const names[SORTS] = {"pieces of code", NULL};
     compare_begin(engine, plan, names);
     read_emulator();
     compare_end();
@@ -53,7 +53,6 @@ int main(int count, char **words)
     for (size_t i = 0; engine != NULL && plan != NULL && i < COUNT(modes); i++)
         if (strcmp(modes[i].name, words[1]) == 0) {
             tally_begin("trace");
-            make_secrets();
             modes[i].work(engine, plan);
             return tally_end();
         }

@@ -1,5 +1,5 @@
-/* Two engines that are none: their calls answer as the library's do, of bytes that are doubled, halved or looked up and added,
- * and show what a trace finds, and what it does not. */
+/* Two planted engines, which are no part of the library. Their calls take and answer what the library's do, over bytes that are
+ * doubled, halved or looked up and added. A trace finds nothing in the one, and has to find what was planted in the other. */
 #include "fox.h"
 #include "trace.h"
 

@@ -9,11 +9,11 @@
 enum { LINE = 512 };
 
 /* A line of lackey's has a kind, an address in hex and a size, as in 'I  00401a2c,4' or ' L 1ffefffe50,8'. What valgrind says
- * besides begins with '='. */
+ * besides begins with '=', '-' or '#'. */
 static int lackey_line(const char *line)
 {
     char *end, kind = line[0] == ' ' ? line[1] : line[0];
-    if (line[0] == '=')
+    if (strchr("=-#", line[0]) != NULL)
         return 1;
     if (strchr(line[0] == ' ' ? "LSM" : "I", kind) == NULL || line[2] != ' ')
         return 0;
@@ -40,8 +40,8 @@ void read_lackey(void)
     }
 }
 
-/* An emulator says 'Trace 0: HOST [BASE/ADDRESS/..' before each stretch of instructions that none but its last jumps out of.
- * Where such stretches begin says all of the instructions in them. */
+/* An emulator says 'Trace 0: HOST [BASE/ADDRESS/..' before each piece of code that none but its last instruction jumps out of.
+ * Where such pieces begin says all of the instructions in them. */
 void read_emulator(void)
 {
     static char line[LINE];

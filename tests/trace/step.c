@@ -42,12 +42,18 @@ static pid_t stopped_child(const struct engine *engine, const struct plan *plan)
     return child;
 }
 
-/* Whether the child went on by one instruction, and has not ended. */
+/* Whether the child went on by one instruction, and has not ended. Signals from elsewhere are passed on to it. */
 static int stepped(pid_t child)
 {
-    int status;
-    return ptrace(PTRACE_SINGLESTEP, child, NULL, NULL) == 0 && waitpid(child, &status, 0) == child &&
-           WIFSTOPPED(status) && WSTOPSIG(status) == SIGTRAP;
+    long signal = 0;
+    do {
+        int status;
+        if (ptrace(PTRACE_SINGLESTEP, child, NULL, (void *)signal) != 0 || waitpid(child, &status, 0) != child ||
+            !WIFSTOPPED(status))
+            return 0;
+        signal = WSTOPSIG(status) == SIGTRAP ? 0 : WSTOPSIG(status);
+    } while (signal != 0);
+    return 1;
 }
 
 /* Where the child ends early, its trace is cut short. */

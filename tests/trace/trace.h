@@ -30,9 +30,6 @@ const struct plan *plan_of(const char *name);
  * should, or put out what another of their group has put out, so that their secrets did not differ. */
 size_t make_calls(const struct engine *engine, const struct plan *plan);
 
-/* The secrets are made once, before any call. */
-void make_secrets(void);
-
 /* A trace shows these where a call begins, where it has ended, where one went wrong, and behind the last. */
 void mark_before(void);
 void mark_after(void);

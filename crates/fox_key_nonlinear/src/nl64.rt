@@ -5,8 +5,8 @@ ghost use Prim.Native.Nat.{_+_, _*_, _^_};
 ghost use Rattle.fox_layers.specs.Diffusion.{mu4};
 ghost use Rattle.fox_key_mixing.specs.KeyBytes.{bytes16};
 ghost use Rattle.fox_key_nonlinear.specs.Nonlinear.{words, mix64, layers, NL64};
-use crate::one_word::first44;
-use crate::one_word::second44;
+use crate::layers::first_two;
+use crate::layers::second_two;
 use fox_key_mixing::key_bytes::Key16;
 use fox_rounds::fox64::Fox64;
 use fox_rounds::fox128::pair;
@@ -22,27 +22,27 @@ struct Words4 {
 fn layers64(d: Key16, flip: bool) -> Words4
     ensures { λ r. ⌜ r .w0 ∷ r .w1 ∷ r .w2 ∷ r .w3 ∷ [] ≡ layers 4 4 mu4 mix64 flip (words 4 4 (bytes16 d)) ⌝ }
 {
-    let a = first44(d.a);
-    let b = first44(d.b);
-    let x0 = a.left;
-    let x1 = a.right;
-    let x2 = b.left;
-    let x3 = b.right;
-    let v = second44(
+    let a = first_two(d.a);
+    let b = first_two(d.b);
+    let x0 = a.w0;
+    let x1 = a.w1;
+    let x2 = b.w0;
+    let x3 = b.w1;
+    let v = second_two(
         x1 ^ (x2 ^ x3) ^ 0xB7E1_5162,
         x0 ^ (x2 ^ x3) ^ 0x8AED_2A6A,
         flip,
     );
-    let w = second44(
+    let w = second_two(
         x0 ^ (x1 ^ x3) ^ 0xBF71_5880,
         x0 ^ (x1 ^ x2) ^ 0x9CF4_F3C7,
         flip,
     );
     Words4 {
-        w0: v.left,
-        w1: v.right,
-        w2: w.left,
-        w3: w.right,
+        w0: v.w0,
+        w1: v.w1,
+        w2: w.w0,
+        w3: w.w1,
     }
 }
 

@@ -1,11 +1,11 @@
--- The substitution (001 §2.2.6), with the S-box built from the three small boxes S1 to S3 (001 §3.1, Fig. 13).
+-- The substitution (001 §2.2.6), with the S-box built from the three small S-boxes S1 to S3 (001 §3.1, Fig. 13).
 -- Assumes nothing.
 use Prim.Native.Nat.{ℕ, _+_, _*_, _/_, _%_}
 use mathlib.Core.List.{List, [], _∷_, map}
 use lib.ListN.{getD}
 use Rattle.fox_layers.specs.Words.{_⊕_, joined, split}
 
--- Fig. 13: the three small boxes
+-- Fig. 13: the three small S-boxes
 unfoldable pub S₁ : List ℕ
 S₁ = 0x2 ∷ 0x5 ∷ 0x1 ∷ 0x9 ∷ 0xE ∷ 0xA ∷ 0xC ∷ 0x8 ∷ 0x6 ∷ 0x4 ∷ 0x7 ∷ 0xF ∷ 0xD ∷ 0xB ∷ 0x0 ∷ 0x3 ∷ []
 
@@ -30,7 +30,7 @@ whole h = h .left * 16 + h .right
 unfoldable pub or4 : ℕ → ℕ
 or4 x = x % 4 * 4 + (x / 4 ⊕ x % 4)
 
--- §3.1, by §2.2.1: lmid at eight bits: both halves are XORed with the small box's value at left ⊕ right
+-- §3.1, by §2.2.1: lmid at eight bits: both halves are XORed with the small S-box's value at left ⊕ right
 unfoldable pub lmid4 : List ℕ → Halves → Halves
 lmid4 s h = let t = getD s (h .left ⊕ h .right) 0 in record { left = h .left ⊕ t; right = h .right ⊕ t }
 

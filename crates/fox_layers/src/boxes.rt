@@ -1,5 +1,5 @@
-// The three small boxes S1 to S3 (001 §3.1, Fig. 13) by their bits, as circuits of "and", "or" and XOR, each on eight numbers at once. What they compute is
-// held to the figure's entries by the promises; the circuits themselves were found by a search for short ones.
+// The three small S-boxes S1 to S3 (001 §3.1, Fig. 13) by their bits, as circuits of "and", "or" and XOR, each on eight numbers at once. The promises hold
+// them to the figure's entries.
 ghost use Prim.Native.Nat.{ℕ};
 ghost use lib.ListN.{getD};
 ghost use Rattle.fox_layers.specs.Substitution.{S₁, S₂, S₃};

@@ -53,8 +53,8 @@ pub(crate) fn or4(x: Nibbles) -> Nibbles
     }
 }
 
-// The numbers, each in its byte.
-pub(crate) fn numbers(x: Nibbles) -> u64
+// The word that has the numbers as its bytes.
+pub(crate) fn word_of(x: Nibbles) -> u64
     requires { ⌜ (x .b3 ≤ 0x0101010101010101) × (x .b2 ≤ 0x0101010101010101) × (x .b1 ≤ 0x0101010101010101) × (x .b0 ≤ 0x0101010101010101) ⌝ }
     ensures { λ r. ⌜ r ≡ x .b3 * 8 + x .b2 * 4 + x .b1 * 2 + x .b0 ⌝ }
 {

@@ -4,14 +4,15 @@ ghost use Rattle.fox_layers.specs.Substitution.{sbox, sigma};
 use crate::boxes::s1;
 use crate::boxes::s2;
 use crate::boxes::s3;
-use crate::nibbles::numbers;
 use crate::nibbles::or4;
 use crate::nibbles::right_halves;
+use crate::nibbles::word_of;
 use crate::nibbles::xored;
 
 pub fn sigma8(w: u64) -> u64
     ensures { λ r. ⌜ r ≡ sigma 8 w ⌝ }
 {
+    // The left halves are the right halves of the word moved by four bits.
     let l = right_halves(w / 16);
     let r = right_halves(w);
     let t = s1(xored(l, r));
@@ -23,7 +24,7 @@ pub fn sigma8(w: u64) -> u64
     let t = s3(xored(l, r));
     let l = xored(l, t);
     let r = xored(r, t);
-    numbers(l) * 16 + numbers(r)
+    word_of(l) * 16 + word_of(r)
 }
 
 pub fn sigma4(w: u32) -> u32

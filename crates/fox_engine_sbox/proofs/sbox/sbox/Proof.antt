@@ -1,4 +1,4 @@
--- `sbox::sbox` meets its contract: the constant is the list that the three small boxes give, which the prover computes.
+-- `sbox::sbox` meets its contract: the constant is the list that the three small S-boxes give, which the prover computes.
 -- Assumes nothing.
 use mathlib.Core.Path.{refl}
 use Rattle.fox_layers.specs.Substitution.{S₁, S₂, S₃, halves, whole, or4, lmid4, lmor4, sbox}

@@ -16,10 +16,10 @@ returns c =
     let c2 = c .before .before in
     let start = c2 .before .before in
     let fits = start .good .0 .1 .1 in
-    let x = c2 .before .first44 .ensures in
-    let y = c2 .first442 .ensures in
-    let v = c .before .second44 .ensures in
-    let w = c .second442 .ensures in
+    let x = c2 .before .first-two .ensures in
+    let y = c2 .first-two2 .ensures in
+    let v = c .before .second-two .ensures in
+    let w = c .second-two2 .ensures in
     (λ i. v .0 i ∷ v .1 i ∷ w .0 i ∷ w .1 i ∷ [])
     ∙ layers-made 4 4 mu4 mix64 (start .args .flip) _ (λ i. x .0 i ∷ x .1 i ∷ y .0 i ∷ y .1 i ∷ []) pad-4-4
     ∙ ap (layers 4 4 mu4 mix64 (start .args .flip)) (sym (halves16 (start .args .d) (fits .0 .1) (fits .1 .0 .1)))

@@ -16,14 +16,14 @@ returns c =
     let c4 = c .before .before .before .before in
     let start = c4 .before .before .before .before in
     let fits = start .good .0 .1 .1 in
-    let x = c4 .before .before .before .first44 .ensures in
-    let y = c4 .before .before .first442 .ensures in
-    let z = c4 .before .first443 .ensures in
-    let v = c4 .first444 .ensures in
-    let p = c .before .before .before .second44 .ensures in
-    let q = c .before .before .second442 .ensures in
-    let r = c .before .second443 .ensures in
-    let s = c .second444 .ensures in
+    let x = c4 .before .before .before .first-two .ensures in
+    let y = c4 .before .before .first-two2 .ensures in
+    let z = c4 .before .first-two3 .ensures in
+    let v = c4 .first-two4 .ensures in
+    let p = c .before .before .before .second-two .ensures in
+    let q = c .before .before .second-two2 .ensures in
+    let r = c .before .second-two3 .ensures in
+    let s = c .second-two4 .ensures in
     (λ i. p .0 i ∷ p .1 i ∷ q .0 i ∷ q .1 i ∷ r .0 i ∷ r .1 i ∷ s .0 i ∷ s .1 i ∷ [])
     ∙ layers-made 4 8 mu4 mix64h (start .args .flip) _
     (λ i. x .0 i ∷ x .1 i ∷ y .0 i ∷ y .1 i ∷ z .0 i ∷ z .1 i ∷ v .0 i ∷ v .1 i ∷ []) pad-4-8

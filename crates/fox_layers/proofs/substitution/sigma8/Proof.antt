@@ -62,29 +62,30 @@ third c =
     let x = b .before .before in
     mid (bytes₂ (x .before)) S₃ two (second (x .before)) (x .xored7 .ensures) (b .before .s3 .ensures) (b .xored8 .ensures) (c .xored9 .ensures)
 
-numbers-requires : tie.Need-numbers-requires
-numbers-requires c κs = held-le (third c .left)
+word-of-requires : tie.Need-word-of-requires
+word-of-requires c κs = held-le (third c .left)
 
-numbers-requires-2 : tie.Need-numbers-requires-2
-numbers-requires-2 c κs = held-le (third (c .before) .right)
+word-of-requires-2 : tie.Need-word-of-requires-2
+word-of-requires-2 c κs = held-le (third (c .before) .right)
 
 mul-result : tie.Need-mul-result
-mul-result c = omega (arith, c .numbers .ensures, held-le (third (c .before) .left))
+mul-result c = omega (arith, c .word-of .ensures, held-le (third (c .before) .left))
 
 add-result : tie.Need-add-result
 add-result c =
     let b = c .before in
-    omega (arith, b .numbers .ensures, c .numbers2 .ensures, held-le (third (b .before) .left), held-le (third (b .before) .right))
+    omega (arith, b .word-of .ensures, c .word-of2 .ensures, held-le (third (b .before) .left), held-le (third (b .before) .right))
 
 returns : tie.Need-returns
 unfolding sigma sbox whole
 returns c =
     let b = c .before in
     let h = third (b .before) in
-    ap₂ (λ (l r : ℕ). l * 16 + r) (b .numbers .ensures ∙ held-sum (h .left)) (c .numbers2 .ensures ∙ held-sum (h .right))
+    ap₂ (λ (l r : ℕ). l * 16 + r) (b .word-of .ensures ∙ held-sum (h .left)) (c .word-of2 .ensures ∙ held-sum (h .right))
     ∙ joined-sum 16 (λ (x : ℕ). three x .left) (λ (x : ℕ). three x .right) (bytes₃ (b .before))
 
 pub sigma8-spec : {M : Type 1} → statement M
 sigma8-spec =
     tie.close (tie.spec (λ c κs. tt) (λ c κs. tt) (λ c κs. tt) (λ c κs. tt) (λ c κs. tt) (λ c κs. tt) (λ c κs. tt) (λ c κs. tt) (λ c κs. tt)
-    (λ c κs. tt) (λ c κs. tt) (λ c κs. tt) (λ c κs. tt) (λ c κs. tt) (λ c κs. tt) (λ c κs. tt) numbers-requires mul-result numbers-requires-2 add-result returns)
+    (λ c κs. tt) (λ c κs. tt) (λ c κs. tt) (λ c κs. tt) (λ c κs. tt) (λ c κs. tt) (λ c κs. tt) word-of-requires mul-result word-of-requires-2
+    add-result returns)

@@ -1,4 +1,4 @@
-// The layers of the non-linear parts (001 §2.3.10 to §2.3.12) on one word of 64 bits, or on two of 32 bits at once.
+// The layers of the non-linear parts (001 §2.3.10 to §2.3.12) on one word of 64 bits, and on two of 32 bits, which go through the substitution side by side.
 ghost use mathlib.Core.Path.{_≡_};
 ghost use mathlib.Core.Bool.{cond};
 ghost use Prim.Native.Nat.{_/_, _%_, _^_};
@@ -11,18 +11,18 @@ use fox_layers::substitution::sigma8;
 use fox_rounds::fox128::pair;
 
 pub struct Words2 {
-    pub left: u32,
-    pub right: u32,
+    pub w0: u32,
+    pub w1: u32,
 }
 
-// The layers before the mixing: substitution and diffusion.
-pub(crate) fn first44(w: u64) -> Words2
-    ensures { λ r. ⌜ (r .left ≡ mu4 (sigma 4 (w / 2 ^ 32))) × (r .right ≡ mu4 (sigma 4 (w % 2 ^ 32))) ⌝ }
+// The layers before the mixing: substitution and diffusion. Two words come as the halves of one.
+pub(crate) fn first_two(w: u64) -> Words2
+    ensures { λ r. ⌜ (r .w0 ≡ mu4 (sigma 4 (w / 2 ^ 32))) × (r .w1 ≡ mu4 (sigma 4 (w % 2 ^ 32))) ⌝ }
 {
     let s = sigma8(w);
     Words2 {
-        left: mu4((s / 0x1_0000_0000) as u32),
-        right: mu4((s % 0x1_0000_0000) as u32),
+        w0: mu4((s / 0x1_0000_0000) as u32),
+        w1: mu4((s % 0x1_0000_0000) as u32),
     }
 }
 
@@ -33,13 +33,13 @@ pub(crate) fn first8(w: u64) -> u64
 }
 
 // The layers after the XOR with the pad: the flip, the substitution.
-pub(crate) fn second44(a: u32, b: u32, flip: bool) -> Words2
-    ensures { λ r. ⌜ (r .left ≡ sigma 4 (cond flip (flipped 4 a) a)) × (r .right ≡ sigma 4 (cond flip (flipped 4 b) b)) ⌝ }
+pub(crate) fn second_two(a: u32, b: u32, flip: bool) -> Words2
+    ensures { λ r. ⌜ (r .w0 ≡ sigma 4 (cond flip (flipped 4 a) a)) × (r .w1 ≡ sigma 4 (cond flip (flipped 4 b) b)) ⌝ }
 {
     let w = second8(pair(a, b), flip);
     Words2 {
-        left: (w / 0x1_0000_0000) as u32,
-        right: (w % 0x1_0000_0000) as u32,
+        w0: (w / 0x1_0000_0000) as u32,
+        w1: (w % 0x1_0000_0000) as u32,
     }
 }
 
