@@ -1,10 +1,11 @@
 -- Bits of numbers, spread over the bytes of a word: "and", "or" and XOR of such words are taken bit by bit; a word "and" ONES has a bit of each byte; what has
 -- the same bits at all sixteen numbers of four bits has them wherever these stand; and numbers of four bits are the sums of their bits.
 -- Assumes nothing.
-use mathlib.Core.Path.{_≡_, refl, sym, ap, ap₂, _∙_, subst}
+use mathlib.Core.Path.{_≡_, refl, sym, ap, ap₂, _∙_}
 use mathlib.Core.List.{List, [], _∷_, map}
 use Prim.Native.Nat.{ℕ, zero, suc, _+_, _*_, _/_, _%_, _^_, _<_, _≤_}
-use native.Mathlib.Nat.{zero-add, zero-mul, add-mul, mul-assoc, mul-comm, zero-lt-suc, mod-lt, lt-of-le-of-lt, le-refl, add-le-add, mul-le-mul-right, div-div-eq-div-mul}
+use native.Mathlib.Nat.{zero-add, zero-mul, add-mul, mul-assoc, mul-comm, zero-lt-suc, mod-lt}
+use native.Mathlib.Nat.{lt-of-le-of-lt, le-refl, add-le-add, mul-le-mul-right, div-div-eq-div-mul}
 use native.Mathlib.Omega.{arith}
 use lib.Bits.{bitAnd, bitOr, bitXor, and-block, or-block, xor-block, and-mod, or-mod, xor-mod, and-shr, and-mask, and-le-r, xor-lt}
 use lib.ListN.{length, getD, length-map}
@@ -85,28 +86,25 @@ spread-xor f law xs ys e =
     sym (joined-xorEach (map bit xs) (map bit ys) (small xs) (small ys) (length-map xs bit ∙ e ∙ sym (length-map ys bit))) ∙ ap joined (xor-each f law xs ys)
 
 -- two functions with the same values at the numbers below m
-alike : (m : ℕ) (f g : ℕ → ℕ) → numbered f m 0 ≡ numbered g m 0 → (n : ℕ) → n < m → f n ≡ g n
+pub alike : (m : ℕ) (f g : ℕ → ℕ) → numbered f m 0 ≡ numbered g m 0 → (n : ℕ) → n < m → f n ≡ g n
 alike m f g same n h =
     ap f (sym (zero-add n)) ∙ sym (numbered-at f m 0 n 0 h) ∙ ap (λ (t : List ℕ). getD t n 0) same ∙ numbered-at g m 0 n 0 h ∙ ap g (zero-add n)
 
--- bits that are the same at the sixteen numbers of four bits, which is one test
-pub same-bits : (e h g : ℕ → ℕ) (ns : List ℕ) → ((i : ℕ) → getD ns i 0 < 16)
-    → numbered (λ (n : ℕ). e n % 2) 16 0 ≡ numbered (λ (n : ℕ). h (g n) % 2) 16 0 → spread e ns ≡ spread h (map g ns)
+-- bits that are the same at the numbers of four bits
+pub same-bits : (e h g : ℕ → ℕ) → ((n : ℕ) → n < 16 → e n % 2 ≡ h (g n) % 2) → (ns : List ℕ) → ((i : ℕ) → getD ns i 0 < 16) → spread e ns ≡ spread h (map g ns)
 unfolding spread joined
-same-bits e h g [] small same = refl
-same-bits e h g (n ∷ ns) small same =
+same-bits e h g same [] small = refl
+same-bits e h g same (n ∷ ns) small =
     spread-cons e n ns
-    ∙ ap₂ (λ (a b : ℕ). a * 2 ^ (8 * length ns) + b) (alike 16 (λ (n : ℕ). e n % 2) (λ (n : ℕ). h (g n) % 2) same n (small 0))
-    (same-bits e h g ns (λ i. small (suc i)) same)
+    ∙ ap₂ (λ (a b : ℕ). a * 2 ^ (8 * length ns) + b) (same n (small 0)) (same-bits e h g same ns (λ i. small (suc i)))
     ∙ ap (λ (k : ℕ). h (g n) % 2 * 2 ^ (8 * k) + spread h (map g ns)) (sym (length-map ns g))
     ∙ sym (spread-cons h (g n) (map g ns))
 
--- a function with values of four bits at the numbers of four bits, which is one test
-pub small-map : (g : ℕ → ℕ) → numbered (λ (n : ℕ). g n % 16) 16 0 ≡ numbered g 16 0 → (ns : List ℕ) → ((i : ℕ) → getD ns i 0 < 16)
-    → (i : ℕ) → getD (map g ns) i 0 < 16
-small-map g same [] small i = zero-lt-suc 15
-small-map g same (n ∷ ns) small zero = subst (λ (k : ℕ). k < 16) (alike 16 (λ (n : ℕ). g n % 16) g same n (small 0)) (mod-lt (g n) (zero-lt-suc 15))
-small-map g same (n ∷ ns) small (suc i) = small-map g same ns (λ j. small (suc j)) i
+-- a function with values of four bits at the numbers of four bits
+pub small-map : (g : ℕ → ℕ) → ((n : ℕ) → n < 16 → g n < 16) → (ns : List ℕ) → ((i : ℕ) → getD ns i 0 < 16) → (i : ℕ) → getD (map g ns) i 0 < 16
+small-map g below [] small i = zero-lt-suc 15
+small-map g below (n ∷ ns) small zero = below n (small 0)
+small-map g below (n ∷ ns) small (suc i) = small-map g below ns (λ j. small (suc j)) i
 
 pub small-low : (xs : List ℕ) (i : ℕ) → getD (map (λ (x : ℕ). x % 16) xs) i 0 < 16
 small-low [] i = zero-lt-suc 15

@@ -1,19 +1,39 @@
--- The S-box's rounds on the halves of bytes that are held by their bits: an XOR, a box, two XORs and, but for the last round, "or" are a round of each byte.
+-- Numbers of four bits that are held by their bits: a circuit on these is held to a function by one test; and on the halves of bytes an XOR, a box, two XORs
+-- and, but for the last round, "or" are a round of the S-box on each byte.
 -- Assumes nothing.
 use mathlib.Core.Path.{_≡_, refl, ap, _∙_, subst}
 use mathlib.Core.List.{List, [], _∷_, map}
-use Prim.Native.Nat.{ℕ, _+_, _*_, _≤_}
-use lib.ListN.{getD}
+use Prim.Native.Nat.{ℕ, _+_, _*_, _/_, _%_, _<_, _≤_}
+use native.Mathlib.Omega.{arith}
+use lib.ListN.{getD, length-map}
+use Rattle.fox_layers.specs.Bits.{spread}
+use Rattle.fox_layers.specs.Lists.{numbered}
 use Rattle.fox_layers.specs.Words.{_⊕_, joined, xorEach}
 use Rattle.fox_layers.specs.Substitution.{Halves, or4, lmid4, lmor4}
 use Rattle.fox_layers.specs.Structs.{Held, Each, EachXor}
 use Rattle.fox_layers.specs.declared.nibbles.Nibbles.{Nibbles}
-use Rattle.fox_layers.proofs.Laws.Bits.{spread-le, sum-of-bits}
+use Rattle.fox_layers.proofs.Laws.Bits.{alike, same-bits, small-map, spread-le, sum-of-bits}
 
 -- each byte's left half in l and its right half in r
 pub record Sides (f : ℕ → Halves) (xs : List ℕ) (l r : Nibbles) : Type 0 where
   pub left : Held (map (λ (x : ℕ). f x .left) xs) l
   pub right : Held (map (λ (x : ℕ). f x .right) xs) r
+
+-- four words of bits that are those of g's values at the sixteen numbers of four bits, which is one test
+pub circuit : (e₃ e₂ e₁ e₀ g : ℕ → ℕ) (ns : List ℕ) {x : Nibbles} → Held ns x
+    → numbered (λ (n : ℕ). e₃ n % 2 * 8 + e₂ n % 2 * 4 + e₁ n % 2 * 2 + e₀ n % 2) 16 0 ≡ numbered g 16 0
+    → Held (map g ns) (record { b3 = spread e₃ ns; b2 = spread e₂ ns; b1 = spread e₁ ns; b0 = spread e₀ ns })
+circuit e₃ e₂ e₁ e₀ g ns h same =
+    let value : (n : ℕ) → n < 16 → e₃ n % 2 * 8 + e₂ n % 2 * 4 + e₁ n % 2 * 2 + e₀ n % 2 ≡ g n =
+    alike 16 (λ (n : ℕ). e₃ n % 2 * 8 + e₂ n % 2 * 4 + e₁ n % 2 * 2 + e₀ n % 2) g same in
+    record {
+      eight = length-map ns g ∙ h .eight;
+      small = small-map g (λ n l. omega (arith, value n l)) ns (h .small);
+      b3 = same-bits e₃ (λ (n : ℕ). n / 8) g (λ n l. omega (arith, value n l)) ns (h .small);
+      b2 = same-bits e₂ (λ (n : ℕ). n / 4) g (λ n l. omega (arith, value n l)) ns (h .small);
+      b1 = same-bits e₁ (λ (n : ℕ). n / 2) g (λ n l. omega (arith, value n l)) ns (h .small);
+      b0 = same-bits e₀ (λ (n : ℕ). n) g (λ n l. omega (arith, value n l)) ns (h .small);
+    }
 
 map-map : (g f : ℕ → ℕ) (xs : List ℕ) → map g (map f xs) ≡ map (λ (x : ℕ). g (f x)) xs
 map-map g f [] = refl
