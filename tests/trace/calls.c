@@ -87,8 +87,8 @@ __attribute__((noinline)) void mark_end(void)
 static uint8_t key[FOX_MOST_KEY], first[FOX128_BLOCK], data[MOST_DATA], out[MOST_DATA];
 static uint8_t outputs[MOST_CALLS][MOST_DATA];
 
-/* Keys and data that are all zeros, all ones, of which one has many ones and the other few, and by chance; others in each
- * group, but for groups that make tags and those that test them. */
+/* Keys and data that are all zeros, all ones, of which one has many ones and the other few, and by chance. What is by chance goes
+ * by cipher, key length and data length, so that a test has the key and message of the tag that was made. */
 static void set_secrets(const struct group *g, size_t n)
 {
     static const int of_key[] = {0x00, 0xFF, -1, 0x01, 0xFE}, of_data[] = {0x00, 0xFF, -1, 0xFF, 0x00};
