@@ -22,7 +22,8 @@ use Rattle.fox_text.specs.Rules.{isLine, brokenFrom}
 use Rattle.fox_text.specs.Decimal.{allDigits, onward, begins, inRange, isDecimal, digitsText}
 use Rattle.fox_text.specs.Hex.{allHex, nibble, pairsOf, digit, hexText}
 use Rattle.fox_text.specs.Fields.{isDecimalLine, isPairsLine, decimalIn, pairsIn, decimalLineText, pairsLineText}
-use Rattle.fox_sheet.specs.Sheet.{cipherName, roundsName, keyName, sealWay, openWay, blockName, isWayLine, settingTests, taskTests, brokenLine, said, valuesOf}
+use Rattle.fox_text.specs.Names.{cipherName, roundsName}
+use Rattle.fox_sheet.specs.Sheet.{keyName, sealWay, openWay, blockName, isWayLine, settingTests, taskTests, brokenLine, said, valuesOf}
 use Rattle.fox_sheet.specs.Answer.{refusalName, lineName, keybitsName, brokenText, servedText, refusal, blockText, answerOf}
 use Rattle.fox_sheet.specs.Examples.{Printed}
 use Rattle.fox_check_sheet.specs.Examples.{served}

@@ -10,7 +10,8 @@ use Rattle.fox_text.specs.Rules.{isLine, brokenFrom}
 use Rattle.fox_text.specs.Decimal.{allDigits, onward, begins, inRange, isDecimal, digitsText}
 use Rattle.fox_text.specs.Hex.{allHex, nibble, pairsOf}
 use Rattle.fox_text.specs.Fields.{isDecimalLine, isPairsLine, decimalIn, pairsIn, decimalLineText}
-use Rattle.fox_sheet.specs.Sheet.{cipherName, roundsName, keyName, sealWay, openWay, blockName, isWayLine, settingTests, taskTests, brokenLine}
+use Rattle.fox_text.specs.Names.{cipherName, roundsName}
+use Rattle.fox_sheet.specs.Sheet.{keyName, sealWay, openWay, blockName, isWayLine, settingTests, taskTests, brokenLine}
 use Rattle.fox_sheet.specs.Sheet.{said, valuesOf}
 use Rattle.fox_sheet.specs.Answer.{refusalName, lineName, brokenText, refusal, blockText, answerOf}
 use Rattle.fox_sheet.specs.Examples.{Printed, zeros, broken, refused}

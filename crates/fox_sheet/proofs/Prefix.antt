@@ -13,7 +13,8 @@ use Rattle.fox_text.specs.Ascii.{codes, ascii, same}
 use Rattle.fox_text.specs.Lines.{lines}
 use Rattle.fox_text.proofs.Laws.Tests.{by-test}
 use Rattle.fox_text.proofs.Laws.Prefixes.{Prefix, Within, Settled, end, next, broken-prefix, lines-prefix, decimal-within, pairs-within, same-length}
-use Rattle.fox_sheet.specs.Sheet.{cipherName, roundsName, keyName, sealWay, openWay, blockName, isWayLine, settingTests, taskTests, brokenLine, valuesOf}
+use Rattle.fox_text.specs.Names.{cipherName, roundsName}
+use Rattle.fox_sheet.specs.Sheet.{keyName, sealWay, openWay, blockName, isWayLine, settingTests, taskTests, brokenLine, valuesOf}
 use Rattle.fox_sheet.specs.Answer.{answerOf}
 
 either-length : (b : Bool) (l : List ℕ) → same sealWay l ≡ b → (b || same openWay l) ≡ true → length l ≤ 8

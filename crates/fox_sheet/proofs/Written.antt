@@ -11,7 +11,8 @@ use Rattle.fox_text.specs.Lines.{lines}
 use Rattle.fox_text.proofs.Laws.Written.{Plain, Plains, Passing, written-right, written-lines, right-lines}
 use Rattle.fox_text.proofs.Laws.Values.{same-is, decimal-line-right, decimal-line-read, decimal-line-plain, decimal-line-again}
 use Rattle.fox_text.proofs.Laws.Values.{pairs-line-right, pairs-line-read, pairs-line-plain, pairs-line-again}
-use Rattle.fox_sheet.specs.Sheet.{cipherName, roundsName, keyName, sealWay, openWay, blockName, isWayLine, settingTests, taskTests}
+use Rattle.fox_text.specs.Names.{cipherName, roundsName}
+use Rattle.fox_sheet.specs.Sheet.{keyName, sealWay, openWay, blockName, isWayLine, settingTests, taskTests}
 use Rattle.fox_sheet.specs.Sheet.{brokenLine, Values, said, valuesOf}
 use Rattle.fox_sheet.proofs.Laws.{same-values}
 use Rattle.fox_sheet.specs.Written.{wayText, linesOf, sheetText, InRange, WrittenFrom, Says}

@@ -10,7 +10,8 @@ use Rattle.fox_block.specs.Block.{turnBlock}
 use Rattle.fox_text.specs.Ascii.{ascii}
 use Rattle.fox_text.specs.Fields.{decimalLineText, pairsLineText}
 use Rattle.fox_text.specs.Put.{Stored}
-use Rattle.fox_sheet.specs.Sheet.{cipherName, roundsName, blockName, brokenLine, Values, valuesOf}
+use Rattle.fox_text.specs.Names.{cipherName, roundsName}
+use Rattle.fox_sheet.specs.Sheet.{blockName, brokenLine, Values, valuesOf}
 
 unfoldable pub refusalName : List ℕ
 refusalName = ascii "refusal="

@@ -5,15 +5,10 @@ use mathlib.Core.Bool.{Bool, _||_}
 use mathlib.Core.List.{List, [], _∷_, _++_}
 use lib.ListN.{getD}
 use Rattle.fox_text.specs.Ascii.{ascii, same}
+use Rattle.fox_text.specs.Names.{cipherName, roundsName}
 use Rattle.fox_text.specs.Lines.{lines}
 use Rattle.fox_text.specs.Rules.{Test, brokenFrom}
 use Rattle.fox_text.specs.Fields.{isDecimalLine, isPairsLine, decimalIn, pairsIn}
-
-unfoldable pub cipherName : List ℕ
-cipherName = ascii "cipher="
-
-unfoldable pub roundsName : List ℕ
-roundsName = ascii "rounds="
 
 unfoldable pub keyName : List ℕ
 keyName = ascii "key="

@@ -8,7 +8,8 @@ use lib.ListN.{length}
 use Rattle.fox_layers.specs.Words.{Bytes}
 use Rattle.fox_text.specs.Lines.{textOf}
 use Rattle.fox_text.specs.Fields.{decimalLine, pairsLine}
-use Rattle.fox_sheet.specs.Sheet.{cipherName, roundsName, keyName, sealWay, openWay, blockName, brokenLine, Values, valuesOf}
+use Rattle.fox_text.specs.Names.{cipherName, roundsName}
+use Rattle.fox_sheet.specs.Sheet.{keyName, sealWay, openWay, blockName, brokenLine, Values, valuesOf}
 
 unfoldable pub wayText : Bool → List ℕ
 wayText sealing = cond sealing sealWay openWay

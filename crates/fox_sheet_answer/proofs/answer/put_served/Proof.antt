@@ -3,7 +3,8 @@
 use native.Mathlib.Omega.{arith}
 use Rattle.fox_text.specs.Ascii.{codes, ascii}
 use Rattle.fox_text.proofs.Laws.Stores.{then, at-most}
-use Rattle.fox_sheet.specs.Sheet.{cipherName, roundsName, blockName}
+use Rattle.fox_text.specs.Names.{cipherName, roundsName}
+use Rattle.fox_sheet.specs.Sheet.{blockName}
 use Rattle.fox_sheet.specs.Answer.{refusalName, keybitsName, servedText}
 use borrow.Author.Needs.{needs}
 use Rattle.fox_sheet_answer.proofs.answer.put_served.Statement.{statement}

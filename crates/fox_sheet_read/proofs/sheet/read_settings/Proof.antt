@@ -4,7 +4,8 @@ use mathlib.Core.Path.{ap, _∙_}
 use Rattle.fox_text.specs.Ascii.{codes, ascii}
 use Rattle.fox_text.specs.Lines.{afterLine, lines}
 use Rattle.fox_text.specs.Rules.{brokenIn}
-use Rattle.fox_sheet.specs.Sheet.{cipherName, roundsName, keyName, settingTests, said, valuesOf}
+use Rattle.fox_text.specs.Names.{cipherName, roundsName}
+use Rattle.fox_sheet.specs.Sheet.{keyName, settingTests, said, valuesOf}
 use borrow.Author.Needs.{needs}
 use Rattle.fox_sheet_read.proofs.sheet.read_settings.Statement.{statement}
 use Rattle.fox_sheet_read.proofs.sheet.read_settings.Tie as tie

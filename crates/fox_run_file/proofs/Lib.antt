@@ -1,0 +1,1 @@
+-- The laws and theorems on the run file.

@@ -1,0 +1,4 @@
+-- The run file: its text, what it says, the refusals of its calls, and what they promise.
+pub mod Format
+pub mod Sizes
+pub mod Says
