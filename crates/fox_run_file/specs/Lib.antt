@@ -2,3 +2,7 @@
 pub mod Format
 pub mod Sizes
 pub mod Says
+pub mod Refusals
+pub mod Places
+pub mod Promise
+pub mod Parts

@@ -1,0 +1,29 @@
+-- What the parts of the run file's code promise each other.
+-- Assumes nothing.
+use mathlib.Core.Path.{_≡_}
+use Prim.Native.Nat.{ℕ, _+_, _≤_}
+use mathlib.Core.Bool.{Bool, cond}
+use mathlib.Core.List.{List, _++_}
+use lib.ListN.{length, take, drop}
+use lib.Seq.{sets}
+use Rattle.fox_run_file.specs.declared.scan.Scan.{Scan}
+use Rattle.fox_run_file.specs.declared.scan.Scans.{Scans}
+use Rattle.fox_run_file.specs.Says.{isBlockLine, blockIn, isScan, headIn, sizeIn, scansIn, afterScans}
+
+-- a line of a name and a block that was looked for at the start of a text: whether it is there; its bytes, if any, are at the start of the output
+pub record ReadsBlock (name : List ℕ) (cipher : ℕ) (t before after : List ℕ) (r : Bool) : Type 0 where
+  pub right : r ≡ isBlockLine name cipher t
+  pub bytes : after ≡ sets before 0 (blockIn name cipher t)
+
+-- a scan that was looked for at the start of a text
+pub record FindsScan (number : ℕ) (t : List ℕ) (r : Scan) : Type 0 where
+  pub whole : r .whole ≡ isScan number t
+  pub head : r .head ≡ cond (isScan number t) (headIn number t) 0
+  pub size : r .size ≡ cond (isScan number t) (sizeIn number t) 0
+  pub within : r .head + r .size ≤ length t
+
+-- the whole scans of a file from a place on
+pub record PassesScans (file : List ℕ) (at : ℕ) (r : Scans) : Type 0 where
+  pub number : r .number ≡ length (scansIn 65535 0 (drop at file))
+  pub rest : drop (r .at) file ≡ afterScans 65535 0 (drop at file)
+  pub few : r .number ≤ 65535

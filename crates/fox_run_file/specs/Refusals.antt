@@ -1,0 +1,46 @@
+-- The refusals of the run file's calls (02, order 4), in their order. 1 to 3 are those of the key, 4 of the counter block, 10 of a tag.
+-- Assumes nothing.
+use Prim.Native.Nat.{ℕ}
+use mathlib.Core.Bool.{not, _||_}
+use mathlib.Core.List.{List, [], _∷_, _++_}
+use lib.Dec.{ltb}
+use lib.ListN.{length}
+use Rattle.fox_refusals.specs.Refusals.{Refusal, differs, wrongCipher, wrongRounds, wrongBlockLength, otherTag, forKey}
+use Rattle.fox_tag.specs.Tag.{tagWith}
+use Rattle.fox_run_file.specs.Sizes.{total, fileSize, pastLimit}
+use Rattle.fox_run_file.specs.Says.{isHeader, isRest, signed, closeIn}
+
+-- 12, where a file is to be written: past a limit; or past one, or the lengths of the scans do not add up to the data
+unfoldable pub largeFile : ℕ → ℕ → List ℕ → Refusal
+largeFile cipher rounds sizes = record { number = 12; applies = pastLimit cipher rounds sizes }
+
+unfoldable pub wrongSizes : ℕ → ℕ → List ℕ → ℕ → Refusal
+wrongSizes cipher rounds sizes inputLen = record { number = 12; applies = pastLimit cipher rounds sizes || differs (total sizes) inputLen }
+
+-- 6: the output has no room for the file
+unfoldable pub smallOutput : ℕ → ℕ → List ℕ → ℕ → Refusal
+smallOutput cipher rounds sizes outLen = record { number = 6; applies = ltb outLen (fileSize cipher rounds sizes) }
+
+-- 11: header broken, or not of this cipher and these rounds
+unfoldable pub brokenHeader : ℕ → ℕ → List ℕ → Refusal
+brokenHeader cipher rounds file = record { number = 11; applies = not (isHeader cipher rounds file) }
+
+-- 12: rest broken, cut short, or past a limit
+unfoldable pub brokenRest : ℕ → ℕ → List ℕ → Refusal
+brokenRest cipher rounds file = record { number = 12; applies = not (isRest cipher rounds file) }
+
+-- the refusals of a call that tells how long a file will be, from the lengths of its scans
+unfoldable pub forSize : ℕ → ℕ → List ℕ → List Refusal
+forSize cipher rounds sizes = wrongCipher cipher ∷ wrongRounds rounds ∷ largeFile cipher rounds sizes ∷ []
+
+-- the refusals of a call that writes a file
+unfoldable pub forWrite : ℕ → ℕ → ℕ → ℕ → ℕ → List ℕ → ℕ → List Refusal
+forWrite cipher rounds keyLen counterLen inputLen sizes outLen =
+    forKey cipher rounds keyLen
+    ++ (wrongBlockLength cipher counterLen ∷ wrongSizes cipher rounds sizes inputLen ∷ smallOutput cipher rounds sizes outLen ∷ [])
+
+-- the refusals of a call that takes up a file
+unfoldable pub forTakeUp : ℕ → ℕ → ℕ → List ℕ → List ℕ → List Refusal
+forTakeUp cipher rounds keyLen rks file =
+    forKey cipher rounds keyLen
+    ++ (brokenHeader cipher rounds file ∷ brokenRest cipher rounds file ∷ otherTag (tagWith cipher rks (signed cipher file)) (closeIn cipher file) ∷ [])
