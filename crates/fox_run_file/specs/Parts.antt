@@ -2,12 +2,14 @@
 -- Assumes nothing.
 use mathlib.Core.Path.{_≡_}
 use Prim.Native.Nat.{ℕ, _+_, _≤_}
-use mathlib.Core.Bool.{Bool, cond}
+use mathlib.Core.Bool.{Bool, cond, not}
 use mathlib.Core.List.{List, _++_}
 use lib.ListN.{length, take, drop}
 use lib.Seq.{sets}
 use Rattle.fox_run_file.specs.declared.scan.Scan.{Scan}
 use Rattle.fox_run_file.specs.declared.scan.Scans.{Scans}
+use Rattle.fox_run_file.specs.declared.sizes.Sizes.{Sizes}
+use Rattle.fox_run_file.specs.Sizes.{total, fileSize, pastLimit}
 use Rattle.fox_run_file.specs.Says.{isBlockLine, blockIn, isScan, headIn, sizeIn, scansIn, afterScans}
 
 -- a line of a name and a block that was looked for at the start of a text: whether it is there; its bytes, if any, are at the start of the output
@@ -27,3 +29,9 @@ pub record PassesScans (file : List ℕ) (at : ℕ) (r : Scans) : Type 0 where
   pub number : r .number ≡ length (scansIn 65535 0 (drop at file))
   pub rest : drop (r .at) file ≡ afterScans 65535 0 (drop at file)
   pub few : r .number ≤ 65535
+
+-- the lengths of scans added up, for a file of this cipher and these rounds
+pub record Sized (cipher rounds : ℕ) (sizes : List ℕ) (r : Sizes) : Type 0 where
+  pub fit : r .fit ≡ not (pastLimit cipher rounds sizes)
+  pub total : r .total ≡ cond (pastLimit cipher rounds sizes) 0 (total sizes)
+  pub size : r .size ≡ cond (pastLimit cipher rounds sizes) 0 (fileSize cipher rounds sizes)

@@ -3,3 +3,4 @@
 pub mod place;
 pub mod reading;
 pub mod scan;
+pub mod sizes;

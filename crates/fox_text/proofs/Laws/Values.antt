@@ -22,12 +22,12 @@ use Rattle.fox_text.proofs.Laws.Written.{Plain, plain-append}
 
 -- names
 
-starts-written : (name v : List ℕ) → startsWith name (name ++ v) ≡ true
+pub starts-written : (name v : List ℕ) → startsWith name (name ++ v) ≡ true
 unfolding startsWith
 starts-written [] v = refl
 starts-written (x ∷ xs) v = rw (eq-eqb x x refl) (starts-written xs v)
 
-starts-split : (name l : List ℕ) → startsWith name l ≡ true → l ≡ name ++ valueText name l
+pub starts-split : (name l : List ℕ) → startsWith name l ≡ true → l ≡ name ++ valueText name l
 unfolding startsWith
 starts-split [] l e = refl
 starts-split (x ∷ xs) [] e = absurd (true≢false (sym e))
@@ -61,14 +61,14 @@ one-digit : (n : ℕ) → n < 10 → allDigits ((48 + n) ∷ []) ≡ true
 unfolding allDigits
 one-digit n h = rw (le-leb 48 (48 + n) (omega arith), le-leb (48 + n) 57 (omega arith))
 
-text-digits : (k n : ℕ) → allDigits (digitsText k n) ≡ true
+pub text-digits : (k n : ℕ) → allDigits (digitsText k n) ≡ true
 unfolding digitsText allDigits
 text-digits zero n = refl
 text-digits (suc k) n =
     by-test (ltb n 10) (λ e. rw e (one-digit n (ltb-true n 10 e)))
     (λ e. rw e (digits-append (digitsText k (n / 10)) _ (text-digits k (n / 10)) (one-digit (n % 10) (omega arith))))
 
-text-read : (k n : ℕ) → n < 10 ^ k → decimalOf (digitsText k n) ≡ n
+pub text-read : (k n : ℕ) → n < 10 ^ k → decimalOf (digitsText k n) ≡ n
 unfolding digitsText onward
 text-read zero n h = omega arith
 text-read (suc k) n h =
@@ -103,7 +103,7 @@ decimal-right : (most n : ℕ) → n ≤ most → n < 100000 → isDecimal most 
 unfolding isDecimal inRange
 decimal-right most n h top = rw (text-begins 4 n top, text-digits 5 n, text-read 5 n top) (le-leb n most h)
 
-digits-plain : (ds : List ℕ) → allDigits ds ≡ true → Plain ds
+pub digits-plain : (ds : List ℕ) → allDigits ds ≡ true → Plain ds
 unfolding allDigits Plain
 digits-plain [] e = tt
 digits-plain (d ∷ ds) e =
@@ -169,7 +169,7 @@ nibble-digit n h =
     by-digit (λ (d : ℕ). nibble d ≡ n) n
     (λ l. rw (lt-ltb (48 + n) 65 (omega arith)) (omega arith)) (λ l. rw (le-ltb (55 + n) 65 (omega arith)) (omega arith))
 
-text-hex : (bs : List ℕ) → ((i : ℕ) → getD bs i 0 < 256) → allHex (hexText bs) ≡ true
+pub text-hex : (bs : List ℕ) → ((i : ℕ) → getD bs i 0 < 256) → allHex (hexText bs) ≡ true
 unfolding hexText allHex
 text-hex [] h = refl
 text-hex (b ∷ bs) h =
@@ -188,7 +188,7 @@ pairs-right : (most : ℕ) (bs : List ℕ) → length bs ≤ most → ((i : ℕ)
 pairs-right most bs few h =
     rw (length-hex-text bs, eq-eqb (length bs * 2 % 2) 0 (omega arith), le-leb (length bs * 2 / 2) most (omega arith)) (text-hex bs h)
 
-hex-plain : (ds : List ℕ) → allHex ds ≡ true → Plain ds
+pub hex-plain : (ds : List ℕ) → allHex ds ≡ true → Plain ds
 unfolding allHex Plain
 hex-plain [] e = tt
 hex-plain (d ∷ ds) e =

@@ -38,26 +38,26 @@ Plains (l ∷ ls) = Plain l × Plains ls
 
 -- as they are written
 
-lineEnd-written : (l r : List ℕ) → Plain l → lineEnd (l ++ 10 ∷ r) ≡ length l
+pub lineEnd-written : (l r : List ℕ) → Plain l → lineEnd (l ++ 10 ∷ r) ≡ length l
 unfolding lineEnd Plain
 lineEnd-written [] r p = refl
 lineEnd-written (x ∷ xs) r p = rw (p .0) (ap suc (lineEnd-written xs r (p .1)))
 
-drop-written : (l : List ℕ) (x : ℕ) (r : List ℕ) → drop (suc (length l)) (l ++ x ∷ r) ≡ r
+pub drop-written : (l : List ℕ) (x : ℕ) (r : List ℕ) → drop (suc (length l)) (l ++ x ∷ r) ≡ r
 drop-written [] x r = refl
 drop-written (y ∷ ys) x r = drop-written ys x r
 
 module _ (l r : List ℕ) (plain : Plain l) where
-  isLine-written : (test : Test) → test l ≡ true → isLine test (l ++ 10 ∷ r) ≡ true
+  pub isLine-written : (test : Test) → test l ≡ true → isLine test (l ++ 10 ∷ r) ≡ true
   unfolding isLine
   isLine-written test e =
       let ended : length l < length (l ++ 10 ∷ r) = omega (arith, length-append l (10 ∷ r)) in
       rw (lineEnd-written l r plain, lt-ltb (length l) (length (l ++ 10 ∷ r)) ended, take-at l (10 ∷ r) (length l) refl) e
 
-  line-written : line (l ++ 10 ∷ r) ≡ l
+  pub line-written : line (l ++ 10 ∷ r) ≡ l
   line-written = rw (lineEnd-written l r plain) (take-at l (10 ∷ r) (length l) refl)
 
-  afterLine-written : afterLine (l ++ 10 ∷ r) ≡ r
+  pub afterLine-written : afterLine (l ++ 10 ∷ r) ≡ r
   unfolding afterLine
   afterLine-written = rw (lineEnd-written l r plain) (drop-written l 10 r)
 
@@ -78,7 +78,7 @@ written-lines (l ∷ ls) p =
 
 -- as they are read
 
-split-line : (t : List ℕ) → lineEnd t < length t → t ≡ line t ++ 10 ∷ afterLine t
+pub split-line : (t : List ℕ) → lineEnd t < length t → t ≡ line t ++ 10 ∷ afterLine t
 unfolding lineEnd afterLine
 split-line [] h = absurd (omega arith)
 split-line (x ∷ xs) h =
@@ -87,7 +87,7 @@ split-line (x ∷ xs) h =
     let held : suc (lineEnd xs) < suc (length xs) = rw e at h in
     rw e (ap (λ (ys : List ℕ). x ∷ ys) (split-line xs (omega arith))))
 
-nothing : (t : List ℕ) → length t ≡ 0 → t ≡ []
+pub nothing : (t : List ℕ) → length t ≡ 0 → t ≡ []
 nothing [] e = refl
 nothing (x ∷ xs) e = absurd (omega arith)
 
