@@ -4,5 +4,6 @@ pub mod Sizes
 pub mod Says
 pub mod Refusals
 pub mod Places
+pub mod Values
 pub mod Promise
 pub mod Parts
