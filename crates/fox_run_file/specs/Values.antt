@@ -23,10 +23,10 @@ pub record InRange (cipher rounds : ℕ) (counter : List ℕ) (scans : List (Lis
   pub limits : pastLimit cipher rounds (sizesOf scans) ≡ false
 
 -- a file that is right in all but perhaps its tag, and says this counter block, these sealed scans, these bytes before the line `close` and this tag
-pub record Says (cipher rounds : ℕ) (file counter : List ℕ) (sealed : List (List ℕ)) (text tag : List ℕ) : Type 0 where
+pub record Says (cipher rounds : ℕ) (file counter : List ℕ) (sealed : List (List ℕ)) (before-close stored : List ℕ) : Type 0 where
   pub header : isHeader cipher rounds file ≡ true
   pub rest : isRest cipher rounds file ≡ true
   pub block : counterIn cipher rounds file ≡ counter
   pub scans : scansOf cipher rounds file ≡ sealed
-  pub text : signed cipher file ≡ text
-  pub tag : closeIn cipher file ≡ tag
+  pub text : signed cipher file ≡ before-close
+  pub tag : closeIn cipher file ≡ stored
