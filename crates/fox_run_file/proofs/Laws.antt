@@ -1,0 +1,3 @@
+-- Laws on the run file's definitions.
+pub mod Scan
+pub mod Reading
