@@ -8,7 +8,7 @@ use Prim.Native.Nat.{ℕ, zero, suc, _+_, _-_, _≤_}
 use native.Mathlib.Numerals.{add-one}
 use native.Mathlib.Omega.{arith}
 use lib.ListN.{length, take, drop, length-append, length-drop, take-append-drop}
-use lib.Seq.{drop-drop, length-take-le, append-snoc}
+use lib.Seq.{drop-drop, length-take-le, append-snoc, take-append-seam, drop-append-seam}
 use lib.Dec.{eqb}
 use borrow.Author.Tests.{eqb-true, le-ltb}
 use Rattle.fox_layers.specs.Words.{Bytes}
@@ -22,9 +22,10 @@ use Rattle.fox_text.proofs.Laws.Written.{nothing}
 use Rattle.fox_text.proofs.Laws.Values.{starts-split}
 use Rattle.fox_text.proofs.Laws.TextsAgain.{from-after, decimal-first, pairs-first, length-pairs-text}
 use Rattle.fox_run_file.specs.Format.{counterName, scanName, bytesName, scansName, closeName, keyLines, headerText, scanHead, scanText, scansText}
-use Rattle.fox_run_file.specs.Sizes.{blockLineSize, headerSize, anyAbove}
+use Rattle.fox_run_file.specs.Format.{unclosed, closedBy}
+use Rattle.fox_run_file.specs.Sizes.{blockLineSize, headerSize, scanSize, scansSize, unclosedSize, anyAbove}
 use Rattle.fox_run_file.specs.Says.{isBlockLine, blockIn, counterText, isHeader, counterIn, bytesText, sizeIn, headIn, fromBytes, isScan, bytesIn}
-use Rattle.fox_run_file.specs.Says.{afterScan, scansIn, afterScans, closeText, isEnd}
+use Rattle.fox_run_file.specs.Says.{afterScan, scansIn, afterScans, closeText, isEnd, signed, closeIn}
 use Rattle.fox_run_file.specs.Values.{sizesOf}
 
 -- lines of a block
@@ -166,3 +167,52 @@ is-end cipher n t e =
     ∙ ap (λ (r : List ℕ). pairsLineText closeName (blockIn closeName cipher s) ++ r) (nothing (afterLine s) (eqb-true _ _ none))
     ∙ append-nil _ in
     record { size = first .size; bytes = first .bytes; close = close; text = starts-split S t number ∙ ap (λ (r : List ℕ). S ++ r) close }
+
+-- how long it is
+
+length-scan-text : (number : ℕ) (bytes : List ℕ) → length (scanText number bytes) ≡ scanSize number (length bytes)
+unfolding scanText scanSize
+length-scan-text number bytes =
+    let head = scanHead number (length bytes) in
+    omega (arith, length-append (head ++ bytes) (10 ∷ []), length-append head bytes)
+
+length-scans-text : (n : ℕ) (scans : List (List ℕ)) → length (scansText n scans) ≡ scansSize n (sizesOf scans)
+unfolding scansText scansSize sizesOf
+length-scans-text n [] = refl
+length-scans-text n (s ∷ ss) =
+    length-append (scanText (suc n) s) (scansText (suc n) ss)
+    ∙ ap₂ (λ (a b : ℕ). a + b) (length-scan-text (suc n) s) (length-scans-text (suc n) ss)
+
+pub length-sizes : (scans : List (List ℕ)) → length (sizesOf scans) ≡ length scans
+unfolding sizesOf
+length-sizes [] = refl
+length-sizes (s ∷ ss) = ap suc (length-sizes ss)
+
+pub length-unclosed : (cipher rounds : ℕ) (counter : List ℕ) (scans : List (List ℕ)) → length counter ≡ blockSize cipher
+    → length (unclosed cipher rounds counter scans) ≡ unclosedSize cipher rounds (sizesOf scans)
+unfolding unclosed unclosedSize
+length-unclosed cipher rounds counter scans size =
+    let head = headerText cipher rounds counter in
+    let number = decimalLineText scansName (length scans) in
+    rw (
+      length-append (head ++ scansText 0 scans) number,
+      length-append head (scansText 0 scans),
+      length-header-text cipher rounds counter size,
+      length-scans-text 0 scans,
+      length-sizes scans,
+    )
+
+-- a text and the line `close`
+
+module _ (cipher : ℕ) (tag t : List ℕ) (size : length tag ≡ blockSize cipher) where
+  at-close : length (closedBy tag t) - blockLineSize closeName cipher ≡ length t
+  unfolding closedBy
+  at-close = omega (arith, length-append t (pairsLineText closeName tag), length-block-text closeName cipher tag size)
+
+  pub signed-closed : signed cipher (closedBy tag t) ≡ t
+  unfolding signed closedBy
+  signed-closed = rw at-close (take-append-seam t (pairsLineText closeName tag))
+
+  pub close-closed : closeIn cipher (closedBy tag t) ≡ blockIn closeName cipher (pairsLineText closeName tag)
+  unfolding closeIn closedBy
+  close-closed = rw at-close (ap (blockIn closeName cipher) (drop-append-seam t (pairsLineText closeName tag)))
