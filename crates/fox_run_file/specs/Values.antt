@@ -1,7 +1,7 @@
 -- The values that a run file is written from, which of them are in range, and what a file says of them.
 -- Assumes nothing.
 use mathlib.Core.Path.{_≡_}
-use Prim.Native.Nat.{ℕ}
+use Prim.Native.Nat.{ℕ, zero, suc, _+_}
 use mathlib.Core.Bool.{true, false}
 use mathlib.Core.List.{List, [], _∷_}
 use lib.ListN.{length}
@@ -15,6 +15,12 @@ use Rattle.fox_run_file.specs.Says.{isHeader, counterIn, scansOf, isRest
 unfoldable pub sizesOf : List (List ℕ) → List ℕ
 sizesOf [] = []
 sizesOf (s ∷ ss) = length s ∷ sizesOf ss
+
+-- how many bytes the scans before scan k have together, where scans are counted from 0: the place of its bytes in the run
+unfoldable pub offsetOf : ℕ → List (List ℕ) → ℕ
+offsetOf zero ss = 0
+offsetOf (suc k) [] = 0
+offsetOf (suc k) (s ∷ ss) = length s + offsetOf k ss
 
 -- a counter block of the cipher's size, and scans within the limits
 pub record InRange (cipher rounds : ℕ) (counter : List ℕ) (scans : List (List ℕ)) : Type 0 where
