@@ -2,4 +2,6 @@
 pub mod Lengths
 pub mod Scan
 pub mod Written
+pub mod Again
+pub mod Turned
 pub mod Reading

@@ -1,2 +1,3 @@
 -- Laws and theorems on the run file.
 pub mod Laws
+pub mod Right
