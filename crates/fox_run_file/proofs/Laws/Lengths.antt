@@ -134,3 +134,13 @@ limits cipher rounds sizes e =
 pub first-small : (limit n : ℕ) (ns : List ℕ) → anyAbove limit (n ∷ ns) ≡ false → (n ≤ limit) × (anyAbove limit ns ≡ false)
 unfolding anyAbove
 first-small limit n ns e = by-test (ltb limit n) (λ t. absurd (true≢false (rw t at e))) (λ t. (ltb-false limit n t, rw t at e))
+
+-- the bytes of the scans are among those before the line `close`
+total-scans : (n : ℕ) (sizes : List ℕ) → total sizes ≤ scansSize n sizes
+unfolding total scansSize scanSize
+total-scans n [] = omega arith
+total-scans n (s ∷ ss) = omega (arith, total-scans (suc n) ss)
+
+pub total-within : (cipher rounds : ℕ) (sizes : List ℕ) → total sizes ≤ unclosedSize cipher rounds sizes
+unfolding unclosedSize
+total-within cipher rounds sizes = omega (arith, total-scans 0 sizes)

@@ -1,0 +1,144 @@
+-- What the calls on one file give, in order: where a file was taken up, the reader stands after k steps, each a scan read or passed over, before scan k of the
+-- file; reading it into a buffer of its length gives its bytes, opened from their place in the run, and leads to the next; a buffer of another length is
+-- refused with 6; and after the last scan there is the end, again and again. A file that was refused has the end alone.
+-- Assumes nothing.
+use mathlib.Core.Path.{_≡_, refl, sym, ap, _∙_}
+use mathlib.Core.Bool.{Bool, true, false, cond, _&&_}
+use mathlib.Core.List.{List, [], _∷_}
+use Prim.Native.Nat.{ℕ, zero, suc, _+_, _≤_, _<_, _^_}
+use native.Mathlib.Omega.{arith}
+use lib.Dec.{eqb}
+use lib.ListN.{length, drop, getD}
+use borrow.Author.Tests.{eq-eqb, ne-eqb}
+use Rattle.fox_refusals.specs.Refusals.{refusalOf, forRun, blockSize, Keyed}
+use Rattle.fox_refusals.proofs.Laws.Refusals.{stretched-served, wrong-output}
+use Rattle.fox_run.specs.Run.{runWith}
+use Rattle.fox_run_file.specs.declared.place.Place.{Place}
+use Rattle.fox_run_file.specs.declared.place.Taken.{Taken}
+use Rattle.fox_run_file.specs.declared.reading.Next.the-variants as next
+use Rattle.fox_run_file.specs.declared.reading.Read.{Read}
+use Rattle.fox_run_file.specs.declared.reading.Read.the-variants as read
+use Rattle.fox_run_file.specs.Format.{turnedScans}
+use Rattle.fox_run_file.specs.Sizes.{total}
+use Rattle.fox_run_file.specs.Says.{counterIn, scansIn, scansOf}
+use Rattle.fox_run_file.specs.Refusals.{forTakeUp}
+use Rattle.fox_run_file.specs.Places.{firstPlace, noPlace, atScan, sizeAt, bytesAt, placeAfter, passedOver, afterSteps}
+use Rattle.fox_run_file.specs.Values.{sizesOf, offsetOf}
+use Rattle.fox_run_file.specs.Promise.{TakesUpWith, ReadsWith, nextAt, readAt, readRefusal}
+use Rattle.fox_run_file.proofs.Laws.Reading.{Standing, standing, finished, stays, step-last}
+use Rattle.fox_run_file.proofs.Laws.Turned.{turned-at}
+use Rattle.fox_run_file.proofs.Laws.Lengths.{Limits, limits}
+use Rattle.fox_run_file.proofs.Right.{IsRunFile, taken-is-written}
+
+-- what a place tells
+
+next-there : (file : List ℕ) (place : Place) → atScan file place ≡ true → nextAt file place ≡ next.Scan (sizeAt file place)
+unfolding nextAt
+next-there file place e = rw e
+
+next-none : (file : List ℕ) (place : Place) → atScan file place ≡ false → nextAt file place ≡ next.End
+unfolding nextAt
+next-none file place e = rw e
+
+-- at the end nothing is read
+module _ (c r k : ℕ) (rks file : List ℕ) (place : Place) {before after : List ℕ} {x : Read} (call : ReadsWith c r k rks file place before after x) where
+  read-none : atScan file place ≡ false → (x ≡ read.End) × (after ≡ before)
+  unfolding readAt
+  read-none e = (call .answer ∙ rw e, call .output ∙ rw e)
+
+  read-served : atScan file place ≡ true → readRefusal c r k file place (length before) ≡ 0
+      → (x ≡ read.Opened (sizeAt file place) (placeAfter file place))
+      × (after ≡ runWith c rks (counterIn c r file) (place .offset) (bytesAt file place))
+  unfolding readAt
+  read-served e z = (call .answer ∙ rw (e, z), call .output ∙ rw (e, z))
+
+  read-refused : atScan file place ≡ true → readRefusal c r k file place (length before) ≡ 6 → (x ≡ read.Refused 6) × (after ≡ before)
+  unfolding readAt
+  read-refused e z = (call .answer ∙ rw (e, z), call .output ∙ rw (e, z))
+
+module _ (c r keyLen : ℕ) (rks file : List ℕ) {t : Taken} (taken : TakesUpWith c r keyLen rks file t) (served : t .refusal ≡ 0) where
+  -- the place after k steps
+  abbrev pub stand : ℕ → Place
+  stand k = afterSteps file k (t .place)
+
+  starts : t .place ≡ firstPlace c r
+  starts = taken .place ∙ rw (sym (taken .refusal) ∙ served)
+
+  abbrev scans : List (List ℕ)
+  scans = scansOf c r file
+
+  abbrev written : Keyed c r keyLen × IsRunFile c r rks file
+  written = taken-is-written c r keyLen rks file (sym (taken .refusal) ∙ served)
+
+  small : 0 + total (sizesOf scans) ≤ 1073741824
+  small =
+      let l = limits c r (sizesOf scans) (written .1 .values .limits) in
+      omega (arith, l .all, total-within c r (sizesOf scans))
+
+  from-first : scansIn 65535 (firstPlace c r .scans) (drop (firstPlace c r .at) file) ≡ scans
+  unfolding firstPlace scansOf
+  from-first = refl
+
+  first-number : firstPlace c r .scans ≡ 0
+  unfolding firstPlace
+  first-number = refl
+
+  first-offset : firstPlace c r .offset ≡ 0
+  unfolding firstPlace
+  first-offset = refl
+
+  before-scan : (k : ℕ) → k < length scans → Standing file (firstPlace c r) (stand k) scans k
+  before-scan k h =
+      rw starts (standing file 65535 k (firstPlace c r) scans from-first (omega (arith, first-number)) (omega (arith, first-offset, small)) h)
+
+  at-end : atScan file (stand (length scans)) ≡ false
+  at-end = rw starts (finished file 65535 (firstPlace c r) scans from-first (omega (arith, first-number)) (omega (arith, first-offset, small)))
+
+  -- scan k is told, with its length, and stands where its bytes are in the run
+  pub told : (k : ℕ) → k < length scans → nextAt file (stand k) ≡ next.Scan (length (getD scans k []))
+  told k h = let s = before-scan k h in next-there file (stand k) (s .there) ∙ ap next.Scan (s .size)
+
+  pub offset-there : (k : ℕ) → k < length scans → stand k .offset ≡ offsetOf k scans
+  offset-there k h = let s = before-scan k h in omega (arith, s .offset, first-offset)
+
+  -- passed over, it leads to the next place
+  pub passed : (k : ℕ) → passedOver file (stand k) ≡ stand (suc k)
+  passed k = sym (step-last file k (t .place))
+
+  module _ (k : ℕ) {before after : List ℕ} {x : Read} (h : k < length scans) (call : ReadsWith c r keyLen rks file (stand k) before after x) where
+    short : sizeAt file (stand k) ≤ 65536
+    short = ?
+
+    may-not : (length before ≡ length (getD scans k []) → ⊥) → readRefusal c r keyLen file (stand k) (length before) ≡ 6
+    unfolding readRefusal
+    may-not other =
+        wrong-output (stand k .offset) (written .0) (written .1 .values .block) short (λ e. other (e ∙ before-scan k h .size))
+
+    may-read : length before ≡ length (getD scans k []) → readRefusal c r keyLen file (stand k) (length before) ≡ 0
+    unfolding readRefusal
+    may-read room =
+        let s = before-scan k h in
+        stretched-served (record {
+          keyed = written .0;
+          counter = written .1 .values .block;
+          short = short;
+          output = room ∙ sym (s .size);
+          end = ?;
+        })
+
+    -- read into a buffer of its length, it is opened, and leads to the next place
+    pub opened : length before ≡ length (getD scans k [])
+        → (x ≡ read.Opened (length (getD scans k [])) (stand (suc k))) × (after ≡ getD (turnedScans c rks (counterIn c r file) scans) k [])
+    opened room =
+        let s = before-scan k h in
+        let z = may-read room in
+        let y = read-served c r keyLen rks file (stand k) call (s .there) z in (
+          y .0 ∙ ?,
+          y .1 ∙ ?,
+        )
+
+    -- a buffer of another length is refused with 6, and stays as it was
+    pub other-length : (length before ≡ length (getD scans k []) → ⊥) → (x ≡ read.Refused 6) × (after ≡ before)
+    other-length other =
+        let s = before-scan k h in
+        read-refused c r keyLen rks file (stand k) call (s .there) (may-not other)
