@@ -1,2 +1,3 @@
 -- The laws and theorems on the run file.
 pub mod Laws
+pub mod Written
