@@ -1,4 +1,5 @@
 -- Laws and theorems on the run file.
 pub mod Laws
+pub mod Written
 pub mod Right
 pub mod Calls
