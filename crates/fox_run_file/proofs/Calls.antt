@@ -2,32 +2,34 @@
 -- file; reading it into a buffer of its length gives its bytes, opened from their place in the run, and leads to the next; a buffer of another length is
 -- refused with 6; and after the last scan there is the end, again and again. A file that was refused has the end alone.
 -- Assumes nothing.
-use mathlib.Core.Path.{_≡_, refl, sym, ap, _∙_}
+use mathlib.Core.Path.{_≡_, refl, sym, ap, ap₂, _∙_}
 use mathlib.Core.Bool.{Bool, true, false, cond, _&&_}
 use mathlib.Core.List.{List, [], _∷_}
-use Prim.Native.Nat.{ℕ, zero, suc, _+_, _≤_, _<_, _^_}
+use Prim.Native.Nat.{ℕ, zero, suc, _+_, _-_, _≤_, _<_, _^_}
 use native.Mathlib.Omega.{arith}
 use lib.Dec.{eqb}
-use lib.ListN.{length, drop, getD}
+use lib.ListN.{length, drop, getD, drop-of-length-le}
 use borrow.Author.Tests.{eq-eqb, ne-eqb}
 use Rattle.fox_refusals.specs.Refusals.{refusalOf, forRun, blockSize, Keyed}
 use Rattle.fox_refusals.proofs.Laws.Refusals.{stretched-served, wrong-output}
 use Rattle.fox_run.specs.Run.{runWith}
+use Rattle.fox_text.specs.Ascii.{codes, ascii, startsWith}
+use Rattle.fox_text.specs.Fields.{decimalLineText}
 use Rattle.fox_run_file.specs.declared.place.Place.{Place}
 use Rattle.fox_run_file.specs.declared.place.Taken.{Taken}
 use Rattle.fox_run_file.specs.declared.reading.Next.the-variants as next
 use Rattle.fox_run_file.specs.declared.reading.Read.{Read}
 use Rattle.fox_run_file.specs.declared.reading.Read.the-variants as read
-use Rattle.fox_run_file.specs.Format.{turnedScans}
+use Rattle.fox_run_file.specs.Format.{scanName, turnedScans}
 use Rattle.fox_run_file.specs.Sizes.{total}
-use Rattle.fox_run_file.specs.Says.{counterIn, scansIn, scansOf}
+use Rattle.fox_run_file.specs.Says.{counterIn, isScan, scansIn, scansOf}
 use Rattle.fox_run_file.specs.Refusals.{forTakeUp}
 use Rattle.fox_run_file.specs.Places.{firstPlace, noPlace, atScan, sizeAt, bytesAt, placeAfter, passedOver, afterSteps}
 use Rattle.fox_run_file.specs.Values.{sizesOf, offsetOf}
 use Rattle.fox_run_file.specs.Promise.{TakesUpWith, ReadsWith, nextAt, readAt, readRefusal}
 use Rattle.fox_run_file.proofs.Laws.Reading.{Standing, standing, finished, stays, step-last}
 use Rattle.fox_run_file.proofs.Laws.Turned.{turned-at}
-use Rattle.fox_run_file.proofs.Laws.Lengths.{Limits, limits}
+use Rattle.fox_run_file.proofs.Laws.Lengths.{Limits, limits, total-within, scan-small, scan-within}
 use Rattle.fox_run_file.proofs.Right.{IsRunFile, taken-is-written}
 
 -- what a place tells
@@ -101,13 +103,17 @@ module _ (c r keyLen : ℕ) (rks file : List ℕ) {t : Taken} (taken : TakesUpWi
   pub offset-there : (k : ℕ) → k < length scans → stand k .offset ≡ offsetOf k scans
   offset-there k h = let s = before-scan k h in omega (arith, s .offset, first-offset)
 
+  step-over : (k : ℕ) → atScan file (stand k) ≡ true → passedOver file (stand k) ≡ placeAfter file (stand k)
+  unfolding passedOver
+  step-over k e = rw e
+
   -- passed over, it leads to the next place
   pub passed : (k : ℕ) → passedOver file (stand k) ≡ stand (suc k)
   passed k = sym (step-last file k (t .place))
 
   module _ (k : ℕ) {before after : List ℕ} {x : Read} (h : k < length scans) (call : ReadsWith c r keyLen rks file (stand k) before after x) where
     short : sizeAt file (stand k) ≤ 65536
-    short = ?
+    short = rw (before-scan k h .size) (scan-small 65536 k scans (limits c r (sizesOf scans) (written .1 .values .limits) .each))
 
     may-not : (length before ≡ length (getD scans k []) → ⊥) → readRefusal c r keyLen file (stand k) (length before) ≡ 6
     unfolding readRefusal
@@ -123,7 +129,7 @@ module _ (c r keyLen : ℕ) (rks file : List ℕ) {t : Taken} (taken : TakesUpWi
           counter = written .1 .values .block;
           short = short;
           output = room ∙ sym (s .size);
-          end = ?;
+          end = omega (arith, s .size, s .offset, first-offset, scan-within k scans h, small);
         })
 
     -- read into a buffer of its length, it is opened, and leads to the next place
@@ -133,8 +139,10 @@ module _ (c r keyLen : ℕ) (rks file : List ℕ) {t : Taken} (taken : TakesUpWi
         let s = before-scan k h in
         let z = may-read room in
         let y = read-served c r keyLen rks file (stand k) call (s .there) z in (
-          y .0 ∙ ?,
-          y .1 ∙ ?,
+          y .0 ∙ ap₂ (λ (n : ℕ) (p : Place). read.Opened n p) (s .size) (sym (step-over k (s .there)) ∙ passed k),
+          y .1
+              ∙ ap₂ (λ (n : ℕ) (l : List ℕ). runWith c rks (counterIn c r file) n l) (offset-there k h) (s .bytes)
+              ∙ sym (turned-at c rks (counterIn c r file) k scans),
         )
 
     -- a buffer of another length is refused with 6, and stays as it was
@@ -142,3 +150,41 @@ module _ (c r keyLen : ℕ) (rks file : List ℕ) {t : Taken} (taken : TakesUpWi
     other-length other =
         let s = before-scan k h in
         read-refused c r keyLen rks file (stand k) call (s .there) (may-not other)
+
+  -- after the last scan there is the end, however often it is asked for, and nothing is read
+  pub ended : nextAt file (stand (length scans)) ≡ next.End
+  ended = next-none file (stand (length scans)) at-end
+
+  pub ended-again : (j : ℕ) → stand (length scans + j) ≡ stand (length scans)
+  ended-again zero = ap stand (omega arith)
+  ended-again (suc j) =
+      let one-more : length scans + suc j ≡ suc (length scans + j) = omega arith in
+      ap stand one-more ∙ sym (passed (length scans + j)) ∙ ap (passedOver file) (ended-again j) ∙ stays file (stand (length scans)) at-end
+
+  pub read-at-end : {before after : List ℕ} {x : Read} → ReadsWith c r keyLen rks file (stand (length scans)) before after x
+      → (x ≡ read.End) × (after ≡ before)
+  read-at-end call = read-none c r keyLen rks file (stand (length scans)) call at-end
+
+-- a refused file has the end alone
+
+nothing-scanned : (n : ℕ) → isScan n [] ≡ false
+unfolding isScan startsWith decimalLineText scanName ascii codes
+nothing-scanned n = refl
+
+module _ (c r keyLen : ℕ) (rks file : List ℕ) {t : Taken} (taken : TakesUpWith c r keyLen rks file t) (refused : t .refusal ≡ 0 → ⊥)
+    (long : length file < 2 ^ 64) where
+  nowhere : t .place ≡ noPlace
+  nowhere = taken .place ∙ rw (ne-eqb (refusalOf (forTakeUp c r keyLen rks file)) 0 (λ e. refused (taken .refusal ∙ e)))
+
+  none-there : atScan file (t .place) ≡ false
+  unfolding noPlace atScan
+  none-there = rw (nowhere, drop-of-length-le file {i = 2 ^ 64 - 1} (omega arith)) (nothing-scanned 1)
+
+  pub refused-ended : nextAt file (t .place) ≡ next.End
+  refused-ended = next-none file (t .place) none-there
+
+  pub refused-stays : passedOver file (t .place) ≡ t .place
+  refused-stays = stays file (t .place) none-there
+
+  pub refused-reads : {before after : List ℕ} {x : Read} → ReadsWith c r keyLen rks file (t .place) before after x → (x ≡ read.End) × (after ≡ before)
+  refused-reads call = read-none c r keyLen rks file (t .place) call none-there

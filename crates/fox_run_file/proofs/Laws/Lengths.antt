@@ -4,10 +4,10 @@
 use mathlib.Core.Path.{_≡_, refl, ap, _∙_}
 use mathlib.Core.Bool.{Bool, true, false, _||_, true≢false}
 use mathlib.Core.List.{List, [], _∷_, _++_, flatten}
-use Prim.Native.Nat.{ℕ, suc, _+_, _≤_}
+use Prim.Native.Nat.{ℕ, zero, suc, _+_, _≤_, _<_}
 use native.Mathlib.Omega.{arith}
 use lib.Dec.{ltb}
-use lib.ListN.{length, drop, length-append, length-drop, take-append-drop}
+use lib.ListN.{length, drop, getD, length-append, length-drop, take-append-drop}
 use lib.Seq.{length-take-le}
 use borrow.Author.Tests.{ltb-false}
 use Rattle.fox_refusals.specs.Refusals.{blockSize}
@@ -22,7 +22,7 @@ use Rattle.fox_text.proofs.Laws.Texts.{length-pairs-text}
 use Rattle.fox_run_file.specs.Format.{counterName, scansName, closeName, keyLines, headerText, scanHead, scanText, scansText, unclosed, closedBy}
 use Rattle.fox_run_file.specs.Format.{fileOf, turnedScans, runFile, cutBy}
 use Rattle.fox_run_file.specs.Sizes.{blockLineSize, headerSize, scanSize, scansSize, unclosedSize, fileSize, total, anyAbove, pastLimit}
-use Rattle.fox_run_file.specs.Values.{sizesOf}
+use Rattle.fox_run_file.specs.Values.{sizesOf, offsetOf}
 
 -- lines and texts
 
@@ -140,6 +140,19 @@ total-scans : (n : ℕ) (sizes : List ℕ) → total sizes ≤ scansSize n sizes
 unfolding total scansSize scanSize
 total-scans n [] = omega arith
 total-scans n (s ∷ ss) = omega (arith, total-scans (suc n) ss)
+
+-- a scan is as long as its entry, and ends within all of them
+pub scan-small : (limit k : ℕ) (ss : List (List ℕ)) → anyAbove limit (sizesOf ss) ≡ false → length (getD ss k []) ≤ limit
+unfolding sizesOf
+scan-small limit k [] e = omega arith
+scan-small limit zero (s ∷ ss) e = first-small limit (length s) (sizesOf ss) e .0
+scan-small limit (suc k) (s ∷ ss) e = scan-small limit k ss (first-small limit (length s) (sizesOf ss) e .1)
+
+pub scan-within : (k : ℕ) (ss : List (List ℕ)) → k < length ss → offsetOf k ss + length (getD ss k []) ≤ total (sizesOf ss)
+unfolding sizesOf offsetOf total
+scan-within k [] h = absurd (omega arith)
+scan-within zero (s ∷ ss) h = omega arith
+scan-within (suc k) (s ∷ ss) h = omega (arith, scan-within k ss (omega arith))
 
 pub total-within : (cipher rounds : ℕ) (sizes : List ℕ) → total sizes ≤ unclosedSize cipher rounds sizes
 unfolding unclosedSize
