@@ -2,4 +2,5 @@
 pub mod Laws
 pub mod Written
 pub mod Right
+pub mod One
 pub mod Calls

@@ -1,8 +1,8 @@
--- What was found in a run file is there as it would be written: its header, each whole scan, the end, and so whole scans one after the other. Each test asks for
--- lines that, by the laws on texts, are as they would be written, and for bytes that are taken as they stand.
+-- What was found in a run file is there as it would be written: its header, each whole scan, the end, and so whole scans one after the other. Each test asks
+-- for lines that, by the laws on texts, are as they would be written, and for bytes that are taken as they stand. And how long all this is.
 -- Assumes nothing.
 use mathlib.Core.Path.{_≡_, refl, sym, ap, ap₂, _∙_}
-use mathlib.Core.Bool.{true, false, cond, _&&_}
+use mathlib.Core.Bool.{true, false, _&&_}
 use mathlib.Core.List.{List, [], _∷_, _++_, append-assoc, append-nil}
 use Prim.Native.Nat.{ℕ, zero, suc, _+_, _-_, _≤_}
 use native.Mathlib.Numerals.{add-one}
@@ -13,13 +13,13 @@ use lib.Dec.{eqb}
 use borrow.Author.Tests.{eqb-true, le-ltb}
 use Rattle.fox_layers.specs.Words.{Bytes}
 use Rattle.fox_refusals.specs.Refusals.{blockSize}
-use Rattle.fox_text.specs.Ascii.{empty, startsWith}
+use Rattle.fox_text.specs.Ascii.{codes, ascii, empty, startsWith}
 use Rattle.fox_text.specs.Lines.{line, lineEnd, afterLine}
 use Rattle.fox_text.specs.Rules.{isLine}
-use Rattle.fox_text.specs.Fields.{isDecimalLine, isPairsLine, pairsIn, decimalLineText, pairsLineText}
+use Rattle.fox_text.specs.Fields.{isDecimalLine, isPairsLine, pairsIn, pairsLine, decimalLineText, pairsLineText}
 use Rattle.fox_text.proofs.Laws.Tests.{both, by-test}
-use Rattle.fox_text.proofs.Laws.Written.{nothing}
-use Rattle.fox_text.proofs.Laws.Values.{starts-split}
+use Rattle.fox_text.proofs.Laws.Written.{Plain, nothing, line-written}
+use Rattle.fox_text.proofs.Laws.Values.{starts-split, pairs-line-read, pairs-line-plain}
 use Rattle.fox_text.proofs.Laws.TextsAgain.{from-after, decimal-first, pairs-first, length-pairs-text}
 use Rattle.fox_run_file.specs.Format.{counterName, scanName, bytesName, scansName, closeName, keyLines, headerText, scanHead, scanText, scansText}
 use Rattle.fox_run_file.specs.Format.{unclosed, closedBy}
@@ -204,6 +204,10 @@ length-unclosed cipher rounds counter scans size =
 
 -- a text and the line `close`
 
+close-plain : Plain closeName
+unfolding closeName codes ascii Plain
+close-plain = (refl, (refl, (refl, (refl, (refl, (refl, tt))))))
+
 module _ (cipher : ℕ) (tag t : List ℕ) (size : length tag ≡ blockSize cipher) where
   at-close : length (closedBy tag t) - blockLineSize closeName cipher ≡ length t
   unfolding closedBy
@@ -216,3 +220,11 @@ module _ (cipher : ℕ) (tag t : List ℕ) (size : length tag ≡ blockSize ciph
   pub close-closed : closeIn cipher (closedBy tag t) ≡ blockIn closeName cipher (pairsLineText closeName tag)
   unfolding closeIn closedBy
   close-closed = rw at-close (ap (blockIn closeName cipher) (drop-append-seam t (pairsLineText closeName tag)))
+
+  pub close-read : Bytes tag → closeIn cipher (closedBy tag t) ≡ tag
+  unfolding blockIn pairsLineText pairsLine
+  close-read bytes =
+      let few : length tag ≤ blockSize cipher = omega arith in
+      close-closed
+      ∙ rw (line-written (pairsLine closeName tag) [] (pairs-line-plain closeName tag close-plain bytes))
+      (pairs-line-read (blockSize cipher) closeName tag few bytes)

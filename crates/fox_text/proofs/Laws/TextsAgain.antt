@@ -1,5 +1,5 @@
 -- A text that begins with a well-formed line is that line as it would be written, and what comes after it: the line ends at the first line feed, and what it
--- says, written again, is the same line.
+-- says, written again, is the same line. So two texts that begin with lines of one name are equal only where the lines say the same.
 -- Assumes nothing.
 use mathlib.Core.Path.{_≡_, sym, ap, _∙_}
 use mathlib.Core.Bool.{true}
@@ -15,8 +15,8 @@ use Rattle.fox_text.specs.Hex.{hexText}
 use Rattle.fox_text.specs.Fields.{isDecimalLine, isPairsLine, decimalIn, pairsIn, decimalLine, pairsLine, decimalLineText, pairsLineText}
 use Rattle.fox_text.proofs.Laws.Tests.{both}
 use Rattle.fox_text.proofs.Laws.Pairs.{length-hex-text}
-use Rattle.fox_text.proofs.Laws.Written.{split-line}
-use Rattle.fox_text.proofs.Laws.Values.{decimal-line-again, pairs-line-again}
+use Rattle.fox_text.proofs.Laws.Written.{Plain, split-line, line-written, afterLine-written}
+use Rattle.fox_text.proofs.Laws.Values.{decimal-line-again, pairs-line-again, decimal-line-plain, decimal-line-read}
 
 -- a text that is one text and then another is the first, and itself from the first's length on
 pub from-after : {t : List ℕ} (a r : List ℕ) (n : ℕ) → t ≡ a ++ r → length a ≡ n → t ≡ a ++ drop n t
@@ -55,3 +55,26 @@ pairs-first most name t e =
 pub length-pairs-text : (name bs : List ℕ) → length (pairsLineText name bs) ≡ length name + suc (2 * length bs)
 unfolding pairsLineText
 length-pairs-text name bs = omega (arith, length-append (name ++ hexText bs) (10 ∷ []), length-append name (hexText bs), length-hex-text bs)
+
+-- what is read of a text that begins with a written decimal line; two such texts are equal only where their numbers and their rests are
+
+module _ (name : List ℕ) (plain : Plain name) where
+  abbrev Lined : ℕ → List ℕ → Type 0
+  Lined n r = (decimalIn 99999 name (line (decimalLineText name n ++ r)) ≡ n) × (afterLine (decimalLineText name n ++ r) ≡ r)
+
+  lined : (n : ℕ) (r : List ℕ) → n < 100000 → Lined n r
+  unfolding decimalLineText decimalLine
+  lined n r top =
+      let l = decimalLine name n in
+      let ends = decimal-line-plain name n plain in
+      let small : n ≤ 99999 = omega arith in (
+        rw (append-snoc l 10 r, line-written l r ends) (decimal-line-read 99999 n name small top),
+        rw (append-snoc l 10 r) (afterLine-written l r ends),
+      )
+
+  pub decimal-first-one : {m n : ℕ} {r s : List ℕ} → m < 100000 → n < 100000 → decimalLineText name m ++ r ≡ decimalLineText name n ++ s
+      → (m ≡ n) × (r ≡ s)
+  decimal-first-one {m} {n} {r} {s} p q e =
+      let (number, after) = lined m r p in
+      let (number₂, after₂) = lined n s q in
+      (sym number ∙ ap (λ (t : List ℕ). decimalIn 99999 name (line t)) e ∙ number₂, sym after ∙ ap afterLine e ∙ after₂)
