@@ -69,7 +69,7 @@ module _ (c r keyLen : ℕ) (rks file : List ℕ) {t : Taken} (taken : TakesUpWi
   abbrev scans : List (List ℕ)
   scans = scansOf c r file
 
-  abbrev written : Keyed c r keyLen × IsRunFile c r rks file
+  abbrev written : Keyed c r keyLen × IsRunFile c r rks file (counterIn c r file) scans
   written = taken-is-written c r keyLen rks file (sym (taken .refusal) ∙ served)
 
   small : 0 + total (sizesOf scans) ≤ 1073741824
