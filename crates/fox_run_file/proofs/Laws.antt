@@ -5,3 +5,4 @@ pub mod Written
 pub mod Again
 pub mod Turned
 pub mod Reading
+pub mod Refusals

@@ -4,3 +4,4 @@ pub mod Written
 pub mod Right
 pub mod One
 pub mod Calls
+pub mod GivenBack

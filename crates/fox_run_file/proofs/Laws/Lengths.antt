@@ -141,7 +141,13 @@ unfolding total scansSize scanSize
 total-scans n [] = omega arith
 total-scans n (s ∷ ss) = omega (arith, total-scans (suc n) ss)
 
--- a scan is as long as its entry, and ends within all of them
+-- a scan is as long as its entry among the lengths, and ends within all of them
+pub size-at : (k : ℕ) (ss : List (List ℕ)) → length (getD ss k []) ≡ getD (sizesOf ss) k 0
+unfolding sizesOf
+size-at k [] = refl
+size-at zero (s ∷ ss) = refl
+size-at (suc k) (s ∷ ss) = size-at k ss
+
 pub scan-small : (limit k : ℕ) (ss : List (List ℕ)) → anyAbove limit (sizesOf ss) ≡ false → length (getD ss k []) ≤ limit
 unfolding sizesOf
 scan-small limit k [] e = omega arith
