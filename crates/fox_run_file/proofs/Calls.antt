@@ -13,6 +13,7 @@ use borrow.Author.Tests.{eq-eqb, ne-eqb}
 use Rattle.fox_refusals.specs.Refusals.{refusalOf, forRun, blockSize, Keyed}
 use Rattle.fox_refusals.proofs.Laws.Refusals.{stretched-served, wrong-output}
 use Rattle.fox_run.specs.Run.{runWith}
+use Rattle.fox_run.proofs.Laws.Served.{length-runWith}
 use Rattle.fox_text.specs.Ascii.{codes, ascii, startsWith}
 use Rattle.fox_text.specs.Fields.{decimalLineText}
 use Rattle.fox_run_file.specs.declared.place.Place.{Place}
@@ -31,6 +32,10 @@ use Rattle.fox_run_file.proofs.Laws.Reading.{Standing, standing, finish
 use Rattle.fox_run_file.proofs.Laws.Turned.{turned-at}
 use Rattle.fox_run_file.proofs.Laws.Lengths.{Limits, limits, total-within, scan-small, scan-within}
 use Rattle.fox_run_file.proofs.Right.{IsRunFile, taken-is-written}
+
+-- a scan is as long opened as it is sealed
+pub opened-size : (c : ℕ) (rks counter : List ℕ) (k : ℕ) (ss : List (List ℕ)) → length (getD (turnedScans c rks counter ss) k []) ≡ length (getD ss k [])
+opened-size c rks counter k ss = ap length (turned-at c rks counter k ss) ∙ length-runWith c rks counter (offsetOf k ss) (getD ss k [])
 
 -- what a place tells
 

@@ -53,6 +53,9 @@ module _ (c r k : ℕ) (rks counter input sizes : List ℕ) {before after : List
   range : InRange c r counter plain
   range = record { block = known .counter; bytes = bytes; limits = rw (sizes-cut sizes input (omega (arith, known .all))) (known .limits) }
 
+  pub plain-size : (i : ℕ) → length (getD (cutBy sizes input) i []) ≡ getD sizes i 0
+  plain-size i = size-at i plain ∙ ap (λ (ns : List ℕ). getD ns i 0) (sizes-cut sizes input (omega (arith, known .all)))
+
   module _ {t : Taken} (take-up : TakesUpWith c r k rks (take (w .count) after) t) where
     pub taken-up : t .refusal ≡ 0
     taken-up = take-up .refusal ∙ rw file-written (written-taken c r rks counter plain range k (known .keyed))

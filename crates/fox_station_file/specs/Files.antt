@@ -51,3 +51,17 @@ pub record ReadHanded (cipher rounds : ℕ) (key file words words-after before a
 -- the next scan passed over, with the words of the place before and after
 abbrev pub SkipHanded : List ℕ → List ℕ → List ℕ → Type 0
 SkipHanded file words words-after = placeIn words-after ≡ passedOver file (placeIn words)
+
+-- a call that read the next scan: refusal 0, as many bytes as it has, these bytes, and the place after it
+pub record Gave (value : List ℕ) (next : Place) (words-after after : List ℕ) (n r : ℕ) : Type 0 where
+  pub refusal : r ≡ 0
+  pub count : n ≡ length value
+  pub place : placeIn words-after ≡ next
+  pub output : after ≡ value
+
+-- a call that read nothing: a number, count 0, and output and place as they were
+pub record Kept (number : ℕ) (words words-after before after : List ℕ) (n r : ℕ) : Type 0 where
+  pub refusal : r ≡ number
+  pub count : n ≡ 0
+  pub place : placeIn words-after ≡ placeIn words
+  pub output : after ≡ before
