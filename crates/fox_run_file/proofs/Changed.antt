@@ -1,50 +1,31 @@
 -- A text that was changed before its line `close` is served only where its own tag is the one in that line, and else refused, with 10 where header and rest
 -- are right: the tag is made over all that comes before the line, and is compared with what stands in it.
 -- Assumes nothing.
-use mathlib.Core.Path.{_≡_, refl, sym, ap, _∙_}
-use mathlib.Core.Bool.{Bool, true, false, cond, not}
+use mathlib.Core.Path.{_≡_, sym, ap, _∙_}
+use mathlib.Core.Bool.{Bool, true, false, cond}
 use mathlib.Core.Logic.{inl, inr}
-use mathlib.Core.List.{List, [], _∷_, _++_}
+use mathlib.Core.List.{List}
 use Prim.Native.Nat.{ℕ}
 use lib.ListN.{length}
 use Rattle.fox_layers.specs.Words.{Bytes}
-use Rattle.fox_refusals.specs.Refusals.{Refusal, refusalOf, blockSize, wrongCipher, wrongRounds, longKey, same, otherTag, forKey, Keyed}
-use Rattle.fox_refusals.proofs.Laws.Refusals.{numbered, chain, chained, keyed-served, same-known}
+use Rattle.fox_refusals.specs.Refusals.{refusalOf, blockSize, same, Keyed}
+use Rattle.fox_refusals.proofs.Laws.Refusals.{same-known}
 use Rattle.fox_tag.specs.Tag.{tagWith}
 use Rattle.fox_text.proofs.Laws.Tests.{by-test}
 use Rattle.fox_run_file.specs.Format.{closedBy}
 use Rattle.fox_run_file.specs.Says.{isHeader, isRest, signed, closeIn}
-use Rattle.fox_run_file.specs.Refusals.{brokenHeader, brokenRest, forTakeUp, Passes, Told}
+use Rattle.fox_run_file.specs.Refusals.{forTakeUp, Passes, Told}
 use Rattle.fox_run_file.specs.Values.{IsWritten}
 use Rattle.fox_run_file.proofs.Laws.Written.{closed-signed, closed-tag}
-use Rattle.fox_run_file.proofs.Right.{passes, right-is-written}
-
--- the number of a call that takes up a file with a key that is not refused
-
-turned-round : (t : Bool) (m n : ℕ) → cond (not t) m n ≡ cond t n m
-turned-round true m n = refl
-turned-round false m n = refl
-
-module _ {cipher rounds keyLen : ℕ} (key : Keyed cipher rounds keyLen) where
-  after-key : (xs : List Refusal) → numbered (forKey cipher rounds keyLen ++ xs) ≡ true → numbered xs ≡ true
-      → refusalOf (forKey cipher rounds keyLen ++ xs) ≡ refusalOf xs
-  unfolding refusalOf
-  after-key xs m n =
-      sym (chained (forKey cipher rounds keyLen) xs m) ∙ ap (λ (r : ℕ). chain r xs) (keyed-served key) ∙ chained [] xs n
-
-  pub take-up-verdict : (rks file : List ℕ) → refusalOf (forTakeUp cipher rounds keyLen rks file)
-      ≡ cond (isHeader cipher rounds file)
-      (cond (isRest cipher rounds file) (cond (same (tagWith cipher rks (signed cipher file)) (closeIn cipher file)) 0 10) 12) 11
-  unfolding refusalOf numbered forKey wrongCipher wrongRounds longKey forTakeUp brokenHeader brokenRest otherTag
-  take-up-verdict rks file =
-      let tested = otherTag (tagWith cipher rks (signed cipher file)) (closeIn cipher file) in
-      after-key (brokenHeader cipher rounds file ∷ brokenRest cipher rounds file ∷ tested ∷ []) refl refl ∙ simp turned-round
+use Rattle.fox_run_file.proofs.Laws.TakeUp.{take-up-verdict, passes}
+use Rattle.fox_run_file.proofs.Right.{right-is-written}
 
 told : (header rest : Bool) (n : ℕ) → n ≡ cond header (cond rest 10 12) 11 → Told n
 told true true n e = inl e
 told true false n e = inr (inr e)
 told false rest n e = inr (inl e)
 
+-- a text that was closed by any tag of B bytes
 module _ (cipher rounds keyLen : ℕ) (rks tag t : List ℕ) (size : length tag ≡ blockSize cipher) (bytes : Bytes tag) where
   -- it is served only where the tag is the text's own
   pub changed-is-told : refusalOf (forTakeUp cipher rounds keyLen rks (closedBy tag t)) ≡ 0 → tagWith cipher rks t ≡ tag
@@ -76,7 +57,8 @@ module _ (cipher rounds keyLen : ℕ) (rks file t : List ℕ) (served : refusalO
   was-written : IsWritten cipher rounds file
   was-written = right-is-written cipher rounds file (was-right .header) (was-right .rest)
 
-  pub changed-file-is-told : refusalOf (forTakeUp cipher rounds keyLen rks (closedBy (closeIn cipher file) t)) ≡ 0 → tagWith cipher rks t ≡ tagWith cipher rks (signed cipher file)
+  pub changed-file-is-told : refusalOf (forTakeUp cipher rounds keyLen rks (closedBy (closeIn cipher file) t)) ≡ 0
+      → tagWith cipher rks t ≡ tagWith cipher rks (signed cipher file)
   changed-file-is-told e =
       changed-is-told cipher rounds keyLen rks (closeIn cipher file) t (was-written .tag) (was-written .bytes) e ∙ sym (was-right .tag)
 

@@ -16,7 +16,7 @@ use Rattle.fox_text.proofs.Laws.Tests.{both}
 use Rattle.fox_text.proofs.Laws.Written.{cipher-plain, rounds-plain}
 use Rattle.fox_text.proofs.Laws.Values.{starts-split}
 use Rattle.fox_text.proofs.Laws.TextsAgain.{decimal-first-one}
-use Rattle.fox_run_file.specs.Format.{formatText, counterName, keyLines, fileOf, turnedScans, runFile}
+use Rattle.fox_run_file.specs.Format.{formatText, counterName, keyLines, fileOf, runFile}
 use Rattle.fox_run_file.specs.Says.{isBlockLine, counterText, isHeader}
 use Rattle.fox_run_file.specs.Values.{Settings, InRange, Says, SameValues}
 use Rattle.fox_run_file.proofs.Laws.Turned.{turned-twice}

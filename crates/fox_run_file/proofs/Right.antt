@@ -1,26 +1,26 @@
 -- A file that is taken up is a written one. Where header and rest are right, each part of the file is there as it would be written, so that the file is the
 -- text of what it says, closed by a tag; where the tag is right too, it is the file that is written of these values.
 -- Assumes nothing.
-use mathlib.Core.Path.{_≡_, refl, sym, ap, _∙_}
+use mathlib.Core.Path.{_≡_, sym, ap, _∙_}
 use mathlib.Core.Bool.{true}
 use mathlib.Core.List.{List, _++_, append-assoc}
 use Prim.Native.Nat.{ℕ, _≤_}
 use lib.ListN.{length}
 use lib.Dec.{leb}
-use borrow.Author.Tests.{leb-true, le-ltb, not-false}
-use Rattle.fox_refusals.specs.Refusals.{refusalOf, wrongCipher, wrongRounds, longKey, otherTag, forKey, Keyed}
-use Rattle.fox_refusals.proofs.Laws.Refusals.{Passed, numbered, passed-served, served-passed, keyed, same-known}
+use borrow.Author.Tests.{leb-true, le-ltb}
+use Rattle.fox_refusals.specs.Refusals.{refusalOf, Keyed}
 use Rattle.fox_tag.specs.Tag.{tagWith}
 use Rattle.fox_text.proofs.Laws.Tests.{both}
-use Rattle.fox_run_file.specs.Format.{closeName, headerText, scansText, unclosed, closedBy, fileOf, turnedScans, runFile}
+use Rattle.fox_run_file.specs.Format.{closeName, headerText, scansText, unclosed, closedBy, fileOf, runFile}
 use Rattle.fox_run_file.specs.Sizes.{pastLimit}
 use Rattle.fox_run_file.specs.Says.{blockIn, isHeader, counterIn, afterScans, closeText, isEnd, scansFrom, scansOf, signed, closeIn, isRest}
-use Rattle.fox_run_file.specs.Refusals.{brokenHeader, brokenRest, forTakeUp, Passes}
+use Rattle.fox_run_file.specs.Refusals.{forTakeUp}
 use Rattle.fox_run_file.specs.Values.{IsWritten, IsRunFile}
 use Rattle.fox_run_file.proofs.Laws.Lengths.{length-sizes, length-unclosed}
 use Rattle.fox_run_file.proofs.Laws.Written.{closed-signed, closed-tag}
 use Rattle.fox_run_file.proofs.Laws.Again.{header-first, scans-first, is-end}
 use Rattle.fox_run_file.proofs.Laws.Turned.{turned-twice}
+use Rattle.fox_run_file.proofs.Laws.TakeUp.{passes}
 use Rattle.fox_run_file.proofs.Written.{turned-range}
 
 pub right-is-written : (cipher rounds : ℕ) (file : List ℕ) → isHeader cipher rounds file ≡ true → isRest cipher rounds file ≡ true
@@ -59,19 +59,6 @@ right-is-written cipher rounds file header rest =
     }
 
 -- a file that is taken up
-
-pub passes : (cipher rounds keyLen : ℕ) (rks file : List ℕ) → refusalOf (forTakeUp cipher rounds keyLen rks file) ≡ 0
-    → Passes cipher rounds keyLen rks file
-unfolding Passed numbered forKey wrongCipher wrongRounds longKey forTakeUp brokenHeader brokenRest otherTag
-passes cipher rounds keyLen rks file e =
-    let p = served-passed (forTakeUp cipher rounds keyLen rks file) refl e in
-    let q = p .1 .1 .1 in
-    record {
-      keyed = keyed cipher rounds keyLen (passed-served (forKey cipher rounds keyLen) (p .0, (p .1 .0, (p .1 .1 .0, tt))));
-      header = not-false _ (q .0);
-      rest = not-false _ (q .1 .0);
-      tag = same-known _ _ (not-false _ (q .1 .1 .0));
-    }
 
 pub taken-is-written : (cipher rounds keyLen : ℕ) (rks file : List ℕ) → refusalOf (forTakeUp cipher rounds keyLen rks file) ≡ 0
     → Keyed cipher rounds keyLen × IsRunFile cipher rounds rks file (counterIn cipher rounds file) (scansOf cipher rounds file)

@@ -2,17 +2,17 @@
 -- whatever its tag; with the right tag it is taken up. Its scans, opened, are the plain scans again, since opening is the same XOR as sealing; joined they are
 -- the run of the joined plain scans, and each is its stretch of that run.
 -- Assumes nothing.
-use mathlib.Core.Path.{_≡_, refl, sym, ap, _∙_}
+use mathlib.Core.Path.{_≡_, refl, ap, _∙_}
 use mathlib.Core.Bool.{true}
-use mathlib.Core.List.{List, [], _∷_, _++_, flatten, append-assoc}
+use mathlib.Core.List.{List, [], _++_, flatten, append-assoc}
 use Prim.Native.Nat.{ℕ, _≤_}
 use native.Mathlib.Omega.{arith}
 use lib.ListN.{length, take, drop, getD}
 use lib.Seq.{drop-append-seam, drop-at}
 use borrow.Author.Tests.{le-leb}
 use Rattle.fox_layers.specs.Words.{Bytes}
-use Rattle.fox_refusals.specs.Refusals.{refusalOf, blockSize, wrongCipher, wrongRounds, longKey, otherTag, orElse, forKey, Keyed}
-use Rattle.fox_refusals.proofs.Laws.Refusals.{numbered, chain, chained, keyed-served, same-refl}
+use Rattle.fox_refusals.specs.Refusals.{refusalOf, blockSize, Keyed}
+use Rattle.fox_refusals.proofs.Laws.Refusals.{same-refl}
 use Rattle.fox_run.specs.Run.{runWith}
 use Rattle.fox_run.proofs.Stretches.{cut-run, stretch-of-run}
 use Rattle.fox_tag.specs.Cmac.{cmac}
@@ -24,12 +24,13 @@ use Rattle.fox_text.proofs.Laws.Values.{starts-written}
 use Rattle.fox_run_file.specs.Format.{counterName, scansName, closeName, keyLines, headerText, scansText, unclosed, closedBy}
 use Rattle.fox_run_file.specs.Format.{fileOf, turnedScans, runFile, cutBy}
 use Rattle.fox_run_file.specs.Sizes.{total, pastLimit}
-use Rattle.fox_run_file.specs.Says.{isHeader, counterIn, afterScans, scansFrom, scansOf, signed, closeIn, isRest}
-use Rattle.fox_run_file.specs.Refusals.{brokenHeader, brokenRest, forTakeUp}
+use Rattle.fox_run_file.specs.Says.{isHeader, counterIn, afterScans, scansFrom, scansOf, isRest}
+use Rattle.fox_run_file.specs.Refusals.{forTakeUp}
 use Rattle.fox_run_file.specs.Values.{sizesOf, offsetOf, InRange, Says}
 use Rattle.fox_run_file.proofs.Laws.Lengths.{length-header, length-sizes, length-unclosed, sizes-turned, cut-joined, limits}
 use Rattle.fox_run_file.proofs.Laws.Written.{counter-plain, block-read, block-right, scans-no-scan, end-right, closed-signed, closed-tag, scans-read}
 use Rattle.fox_run_file.proofs.Laws.Turned.{turned-twice, turned-at, scan-joined}
+use Rattle.fox_run_file.proofs.Laws.TakeUp.{take-up-verdict}
 
 -- a tag is made of bytes
 pub bytes-of-tag : (cipher : ℕ) (rks message : List ℕ) → Bytes (tagWith cipher rks message)
@@ -100,12 +101,8 @@ module _ (cipher rounds : ℕ) (counter : List ℕ) (sealed : List (List ℕ)) (
 -- a file that is right and has the right tag is taken up
 pub right-taken : {cipher rounds keyLen : ℕ} {file counter text tag : List ℕ} {sealed : List (List ℕ)} (rks : List ℕ) → Keyed cipher rounds keyLen
     → Says cipher rounds file counter sealed text tag → tag ≡ tagWith cipher rks text → refusalOf (forTakeUp cipher rounds keyLen rks file) ≡ 0
-unfolding forTakeUp numbered chain orElse forKey wrongCipher wrongRounds longKey brokenHeader brokenRest otherTag
-right-taken {cipher} {rounds} {keyLen} {file} {tag = tag} rks keyed says right =
-    let more =
-    brokenHeader cipher rounds file ∷ brokenRest cipher rounds file ∷ otherTag (tagWith cipher rks (signed cipher file)) (closeIn cipher file) ∷ [] in
-    sym (chained (forKey cipher rounds keyLen) more refl)
-    ∙ rw (keyed-served keyed, says .header, says .rest, says .text, says .tag, ← right, same-refl tag)
+right-taken {file = file} {tag = tag} rks keyed says right =
+    take-up-verdict keyed rks file ∙ rw (says .header, says .rest, says .text, says .tag, ← right, same-refl tag)
 
 -- the scans of a file, sealed or opened: joined they are the run of the joined scans, and each is its stretch of that run
 

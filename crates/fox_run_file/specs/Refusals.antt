@@ -6,7 +6,6 @@ use Prim.Native.Nat.{ℕ}
 use mathlib.Core.Bool.{true, not, _||_}
 use mathlib.Core.List.{List, [], _∷_, _++_}
 use lib.Dec.{ltb}
-use lib.ListN.{length}
 use Rattle.fox_refusals.specs.Refusals.{Refusal, differs, wrongCipher, wrongRounds, wrongBlockLength, otherTag, forKey, Keyed}
 use Rattle.fox_tag.specs.Tag.{tagWith}
 use Rattle.fox_run_file.specs.Sizes.{total, fileSize, pastLimit}
