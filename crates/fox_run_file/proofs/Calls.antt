@@ -26,12 +26,12 @@ use Rattle.fox_run_file.specs.Sizes.{total}
 use Rattle.fox_run_file.specs.Says.{counterIn, isScan, scansIn, scansOf}
 use Rattle.fox_run_file.specs.Refusals.{forTakeUp}
 use Rattle.fox_run_file.specs.Places.{firstPlace, noPlace, atScan, sizeAt, bytesAt, placeAfter, passedOver, afterSteps}
-use Rattle.fox_run_file.specs.Values.{sizesOf, offsetOf}
+use Rattle.fox_run_file.specs.Values.{sizesOf, offsetOf, IsRunFile}
 use Rattle.fox_run_file.specs.Promise.{TakesUpWith, ReadsWith, nextAt, readAt, readRefusal}
 use Rattle.fox_run_file.proofs.Laws.Reading.{Standing, standing, finished, stays, step-last}
 use Rattle.fox_run_file.proofs.Laws.Turned.{turned-at}
 use Rattle.fox_run_file.proofs.Laws.Lengths.{Limits, limits, total-within, scan-small, scan-within}
-use Rattle.fox_run_file.proofs.Right.{IsRunFile, taken-is-written}
+use Rattle.fox_run_file.proofs.Right.{taken-is-written}
 
 -- a scan is as long opened as it is sealed
 pub opened-size : (c : ℕ) (rks counter : List ℕ) (k : ℕ) (ss : List (List ℕ)) → length (getD (turnedScans c rks counter ss) k []) ≡ length (getD ss k [])

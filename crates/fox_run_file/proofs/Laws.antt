@@ -1,4 +1,4 @@
--- Laws on the run file: lengths, what is written as it is read, what was read as it would be written, and reading scan after scan.
+-- Laws on the run file: lengths, what is written as it is read, what was read as it would be written, reading scan after scan, and taking up.
 pub mod Lengths
 pub mod Scan
 pub mod Written
@@ -6,3 +6,4 @@ pub mod Again
 pub mod Turned
 pub mod Reading
 pub mod Refusals
+pub mod TakeUp

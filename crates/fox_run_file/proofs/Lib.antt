@@ -2,6 +2,8 @@
 pub mod Laws
 pub mod Written
 pub mod Right
+pub mod Served
+pub mod Changed
 pub mod One
 pub mod Calls
 pub mod GivenBack

@@ -1,7 +1,7 @@
 -- No two sets of values give one file: what a right file says is one thing, since its first lines, read one after the other, tell cipher and rounds, and these
--- tell where the rest is read. So two files that say values are equal only where the values are.
+-- tell where the rest is read. A file that is written from values in range says them, so two such files are equal only where the values are.
 -- Assumes nothing.
-use mathlib.Core.Path.{_≡_, refl, sym, ap, _∙_}
+use mathlib.Core.Path.{_≡_, sym, ap, _∙_}
 use mathlib.Core.Logic.{_⊎_, ⊎-elim}
 use mathlib.Core.Bool.{true}
 use mathlib.Core.List.{List, _++_, append-assoc}
@@ -9,31 +9,20 @@ use Prim.Native.Nat.{ℕ, _≤_, _<_}
 use native.Mathlib.Omega.{arith}
 use lib.ListN.{length, drop}
 use lib.Seq.{drop-append-seam}
-use Rattle.fox_text.specs.Ascii.{codes, ascii, startsWith}
+use Rattle.fox_text.specs.Ascii.{startsWith}
 use Rattle.fox_text.specs.Names.{cipherName, roundsName}
 use Rattle.fox_text.specs.Fields.{decimalLineText}
 use Rattle.fox_text.proofs.Laws.Tests.{both}
-use Rattle.fox_text.proofs.Laws.Written.{Plain}
+use Rattle.fox_text.proofs.Laws.Written.{cipher-plain, rounds-plain}
 use Rattle.fox_text.proofs.Laws.Values.{starts-split}
 use Rattle.fox_text.proofs.Laws.TextsAgain.{decimal-first-one}
-use Rattle.fox_run_file.specs.Format.{formatText, counterName, keyLines, turnedScans}
+use Rattle.fox_run_file.specs.Format.{formatText, counterName, keyLines, fileOf, runFile}
 use Rattle.fox_run_file.specs.Says.{isBlockLine, counterText, isHeader}
-use Rattle.fox_run_file.specs.Values.{Says}
+use Rattle.fox_run_file.specs.Values.{Settings, InRange, Says, SameValues}
 use Rattle.fox_run_file.proofs.Laws.Turned.{turned-twice}
+use Rattle.fox_run_file.proofs.Written.{turned-range, file-says}
 
-cipher-plain : Plain cipherName
-unfolding cipherName codes ascii Plain
-cipher-plain = (refl, (refl, (refl, (refl, (refl, (refl, (refl, tt)))))))
-
-rounds-plain : Plain roundsName
-unfolding roundsName codes ascii Plain
-rounds-plain = (refl, (refl, (refl, (refl, (refl, (refl, (refl, tt)))))))
-
--- cipher and rounds, as a file's first lines can have them
-pub record Settings (c r : ℕ) : Type 0 where
-  pub cipher : c < 100000
-  pub rounds : r < 100000
-
+-- a cipher and rounds that no call refuses
 pub settings : (c r : ℕ) → (c ≡ 64) ⊎ (c ≡ 128) → r ≤ 255 → Settings c r
 settings c r known high =
     let small : c < 100000 = ⊎-elim (λ (e : c ≡ 64). omega arith) (λ (e : c ≡ 128). omega arith) known in
@@ -57,31 +46,32 @@ one-header {c₁} {c₂} {r₁} {r₂} file s₁ s₂ e₁ e₂ =
     decimal-first-one cipherName cipher-plain (s₁ .cipher) (s₂ .cipher) (sym (key-first c₁ r₁ file e₁) ∙ key-first c₂ r₂ file e₂) in
     (ciphers, decimal-first-one roundsName rounds-plain (s₁ .rounds) (s₂ .rounds) later .0)
 
--- the same values
-pub record SameValues (c₁ c₂ r₁ r₂ : ℕ) (counter₁ counter₂ : List ℕ) (scans₁ scans₂ : List (List ℕ)) : Type 0 where
-  pub cipher : c₁ ≡ c₂
-  pub rounds : r₁ ≡ r₂
-  pub counter : counter₁ ≡ counter₂
-  pub scans : scans₁ ≡ scans₂
+-- files that say values
+pub one-file-said : {c₁ c₂ r₁ r₂ : ℕ} {file₁ file₂ counter₁ counter₂ text₁ text₂ tag₁ tag₂ : List ℕ} {sealed₁ sealed₂ : List (List ℕ)}
+    → Settings c₁ r₁ → Settings c₂ r₂ → file₁ ≡ file₂ → Says c₁ r₁ file₁ counter₁ sealed₁ text₁ tag₁ → Says c₂ r₂ file₂ counter₂ sealed₂ text₂ tag₂
+    → SameValues c₁ c₂ r₁ r₂ counter₁ counter₂ sealed₁ sealed₂
+one-file-said {file₂ = file₂} s₁ s₂ equal a b =
+    let (ciphers, rounds) = one-header file₂ s₁ s₂ (rw equal at (a .header)) (b .header) in
+    record { cipher = ciphers; rounds = rounds; counter = cc (a .block, b .block); scans = cc (a .scans, b .scans) }
 
-module _ {c₁ c₂ r₁ r₂ : ℕ} {file₁ file₂ counter₁ counter₂ text₁ text₂ tag₁ tag₂ : List ℕ} (s₁ : Settings c₁ r₁) (s₂ : Settings c₂ r₂)
-    (equal : file₁ ≡ file₂) where
-  pub one-file-from : {sealed₁ sealed₂ : List (List ℕ)} → Says c₁ r₁ file₁ counter₁ sealed₁ text₁ tag₁ → Says c₂ r₂ file₂ counter₂ sealed₂ text₂ tag₂
-      → SameValues c₁ c₂ r₁ r₂ counter₁ counter₂ sealed₁ sealed₂
-  one-file-from a b =
-      let first = rw equal at (a .header) in
-      let (ciphers, rounds) = one-header file₂ s₁ s₂ first (b .header) in
-      record { cipher = ciphers; rounds = rounds; counter = cc (a .block, b .block); scans = cc (a .scans, b .scans) }
+-- files of sealed scans, whatever their round keys
+pub one-file : {c₁ c₂ r₁ r₂ : ℕ} {counter₁ counter₂ : List ℕ} {sealed₁ sealed₂ : List (List ℕ)} → Settings c₁ r₁ → Settings c₂ r₂
+    → InRange c₁ r₁ counter₁ sealed₁ → InRange c₂ r₂ counter₂ sealed₂ → (rks₁ rks₂ : List ℕ)
+    → fileOf c₁ r₁ rks₁ counter₁ sealed₁ ≡ fileOf c₂ r₂ rks₂ counter₂ sealed₂ → SameValues c₁ c₂ r₁ r₂ counter₁ counter₂ sealed₁ sealed₂
+one-file s₁ s₂ range₁ range₂ rks₁ rks₂ e = one-file-said s₁ s₂ e (file-says _ _ rks₁ _ _ range₁) (file-says _ _ rks₂ _ _ range₂)
 
-  -- plain scans, with the round keys of one key
-  pub one-plain-from : (keys : ℕ → ℕ → List ℕ) {scans₁ scans₂ : List (List ℕ)}
-      → Says c₁ r₁ file₁ counter₁ (turnedScans c₁ (keys c₁ r₁) counter₁ scans₁) text₁ tag₁
-      → Says c₂ r₂ file₂ counter₂ (turnedScans c₂ (keys c₂ r₂) counter₂ scans₂) text₂ tag₂ → SameValues c₁ c₂ r₁ r₂ counter₁ counter₂ scans₁ scans₂
-  one-plain-from keys {scans₁} {scans₂} a b =
-      let same = one-file-from a b in
-      record {
-        cipher = same .cipher;
-        rounds = same .rounds;
-        counter = same .counter;
-        scans = cc (turned-twice c₁ (keys c₁ r₁) counter₁ scans₁, turned-twice c₂ (keys c₂ r₂) counter₂ scans₂);
-      }
+-- files of plain scans, with the round keys of one key for each cipher and number of rounds
+pub one-plain-file : {c₁ c₂ r₁ r₂ : ℕ} {counter₁ counter₂ : List ℕ} {scans₁ scans₂ : List (List ℕ)} → Settings c₁ r₁ → Settings c₂ r₂
+    → InRange c₁ r₁ counter₁ scans₁ → InRange c₂ r₂ counter₂ scans₂ → (keys : ℕ → ℕ → List ℕ)
+    → runFile c₁ r₁ (keys c₁ r₁) counter₁ scans₁ ≡ runFile c₂ r₂ (keys c₂ r₂) counter₂ scans₂ → SameValues c₁ c₂ r₁ r₂ counter₁ counter₂ scans₁ scans₂
+unfolding runFile
+one-plain-file {c₁} {c₂} {r₁} {r₂} {counter₁} {counter₂} {scans₁} {scans₂} s₁ s₂ range₁ range₂ keys e =
+    let rks₁ = keys c₁ r₁ in
+    let rks₂ = keys c₂ r₂ in
+    let same = one-file s₁ s₂ (turned-range c₁ r₁ rks₁ counter₁ scans₁ range₁) (turned-range c₂ r₂ rks₂ counter₂ scans₂ range₂) rks₁ rks₂ e in
+    record {
+      cipher = same .cipher;
+      rounds = same .rounds;
+      counter = same .counter;
+      scans = cc (turned-twice c₁ rks₁ counter₁ scans₁, turned-twice c₂ rks₂ counter₂ scans₂);
+    }

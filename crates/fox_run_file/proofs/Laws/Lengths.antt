@@ -2,7 +2,7 @@
 -- the sum of theirs; the key stream leaves the length of a scan as it is. And data cut into scans of given lengths has scans of these lengths.
 -- Assumes nothing.
 use mathlib.Core.Path.{_≡_, refl, ap, _∙_}
-use mathlib.Core.Bool.{Bool, true, false, _||_, true≢false}
+use mathlib.Core.Bool.{false, _||_, true≢false}
 use mathlib.Core.List.{List, [], _∷_, _++_, flatten}
 use Prim.Native.Nat.{ℕ, zero, suc, _+_, _≤_, _<_}
 use native.Mathlib.Omega.{arith}
@@ -17,7 +17,7 @@ use Rattle.fox_run.proofs.Laws.Served.{length-runWith}
 use Rattle.fox_tag.specs.Tag.{tagWith}
 use Rattle.fox_tag.proofs.Tags.{length-tag}
 use Rattle.fox_text.specs.Fields.{decimalLineText, pairsLineText}
-use Rattle.fox_text.proofs.Laws.Tests.{by-test}
+use Rattle.fox_text.proofs.Laws.Tests.{neither, by-test}
 use Rattle.fox_text.proofs.Laws.Texts.{length-pairs-text}
 use Rattle.fox_run_file.specs.Format.{counterName, scansName, closeName, keyLines, headerText, scanHead, scanText, scansText, unclosed, closedBy}
 use Rattle.fox_run_file.specs.Format.{fileOf, turnedScans, runFile, cutBy}
@@ -118,10 +118,6 @@ pub record Limits (cipher rounds : ℕ) (sizes : List ℕ) : Type 0 where
   pub many : length sizes ≤ 65535
   pub each : anyAbove 65536 sizes ≡ false
   pub all : unclosedSize cipher rounds sizes ≤ 1073741824
-
-neither : (a b : Bool) → (a || b) ≡ false → (a ≡ false) × (b ≡ false)
-neither true b e = absurd (true≢false e)
-neither false b e = (refl, e)
 
 pub limits : (cipher rounds : ℕ) (sizes : List ℕ) → pastLimit cipher rounds sizes ≡ false → Limits cipher rounds sizes
 unfolding pastLimit

@@ -13,7 +13,7 @@ use borrow.Author.Tests.{lt-ltb, le-ltb, le-leb}
 use Rattle.fox_text.proofs.Laws.Tests.{by-test}
 use Rattle.fox_run_file.specs.declared.place.Place.{Place}
 use Rattle.fox_run_file.specs.Sizes.{total}
-use Rattle.fox_run_file.specs.Says.{isScan, sizeIn, headIn, bytesIn, afterScan, scansIn}
+use Rattle.fox_run_file.specs.Says.{isScan, sizeIn, headIn, afterScan, scansIn}
 use Rattle.fox_run_file.specs.Places.{atScan, sizeAt, bytesAt, placeAfter, passedOver, afterSteps}
 use Rattle.fox_run_file.specs.Values.{sizesOf, offsetOf}
 use Rattle.fox_run_file.proofs.Laws.Scan.{bytes-length}
@@ -35,82 +35,72 @@ module _ (file : List ℕ) where
       let e : place .at + (headIn n t + suc (sizeIn n t)) ≡ place .at + headIn n t + suc (sizeIn n t) = omega arith in
       sym (drop-drop (suc (sizeIn n t)) (headIn n t) t ∙ drop-drop (headIn n t + suc (sizeIn n t)) (place .at) file ∙ ap (λ (m : ℕ). drop m file) e)
 
-  scan-there : (place : Place) → place .scans < 65535 → place .offset ≤ 1073741824 → isScan (suc (place .scans)) (drop (place .at) file) ≡ true
-      → atScan file place ≡ true
-  unfolding atScan
-  scan-there place few near e = rw (lt-ltb (place .scans) 65535 few, le-leb (place .offset) 1073741824 near) e
-
-  step : (place : Place) → atScan file place ≡ true → passedOver file place ≡ placeAfter file place
-  unfolding passedOver
-  step place e = rw e
-
   size-first : (place : Place) → isScan (suc (place .scans)) (drop (place .at) file) ≡ true → sizeAt file place ≡ length (bytesAt file place)
   unfolding sizeAt bytesAt
   size-first place e = sym (bytes-length (suc (place .scans)) (drop (place .at) file) e)
 
-  scans-first : (most : ℕ) (place : Place) → isScan (suc (place .scans)) (drop (place .at) file) ≡ true
+  some-first : (most : ℕ) (place : Place) → isScan (suc (place .scans)) (drop (place .at) file) ≡ true
       → scansIn (suc most) (place .scans) (drop (place .at) file)
-      ≡ bytesAt file place ∷ scansIn most (suc (place .scans)) (drop (placeAfter file place .at) file)
-  unfolding scansIn bytesAt
-  scans-first most place e = rw (e, rest-after place)
-
-  after-number : (place : Place) → placeAfter file place .scans ≡ suc (place .scans)
-  unfolding placeAfter
-  after-number place = refl
-
-  after-offset : (place : Place) → placeAfter file place .offset ≡ place .offset + sizeAt file place
-  unfolding placeAfter
-  after-offset place = refl
-
-  after-scans : (most : ℕ) (place : Place) (ss : List (List ℕ)) → scansIn most (suc (place .scans)) (drop (placeAfter file place .at) file) ≡ ss
-      → scansIn most (placeAfter file place .scans) (drop (placeAfter file place .at) file) ≡ ss
-  unfolding placeAfter
-  after-scans most place ss e = e
+      ≡ bytesAt file place ∷ scansIn most (placeAfter file place .scans) (drop (placeAfter file place .at) file)
+  unfolding scansIn bytesAt placeAfter
+  some-first most place e = rw e (ap (λ (t : List ℕ). bytesAt file place ∷ scansIn most (suc (place .scans)) t) (sym (rest-after place)))
 
   none-first : (most : ℕ) (place : Place) → isScan (suc (place .scans)) (drop (place .at) file) ≡ false
       → scansIn (suc most) (place .scans) (drop (place .at) file) ≡ []
   unfolding scansIn
   none-first most place e = rw e
 
-  -- a place before at least one scan: it stands there, and those after it are the rest
-  record Before (most : ℕ) (place : Place) (s : List ℕ) (ss : List (List ℕ)) : Type 0 where
-    there : isScan (suc (place .scans)) (drop (place .at) file) ≡ true
-    first : bytesAt file place ≡ s
-    later : scansIn most (suc (place .scans)) (drop (placeAfter file place .at) file) ≡ ss
-
-  before : (most : ℕ) (place : Place) (s : List ℕ) (ss : List (List ℕ)) → scansIn (suc most) (place .scans) (drop (place .at) file) ≡ s ∷ ss
-      → Before most place s ss
-  before most place s ss is =
-      by-test (isScan (suc (place .scans)) (drop (place .at) file))
-      (λ e. let w = scans-first most place e in record { there = e; first = cc; later = cc })
-      (λ e. let w = none-first most place e in let z : _≡_ {A = ℕ} 0 1 = cc in absurd (omega arith))
-
   nothing-left : {P : Type 0} (place : Place) (s : List ℕ) (ss : List (List ℕ)) → scansIn zero (place .scans) (drop (place .at) file) ≡ s ∷ ss → P
   unfolding scansIn
   nothing-left place s ss is = let z : _≡_ {A = ℕ} 0 1 = cc in absurd (omega arith)
 
+  -- a place before at least one scan: it stands there, and those after it are the rest
+  record Before (most : ℕ) (place : Place) (s : List ℕ) (ss : List (List ℕ)) : Type 0 where
+    there : atScan file place ≡ true
+    bytes : bytesAt file place ≡ s
+    size : sizeAt file place ≡ length s
+    next : passedOver file place ≡ placeAfter file place
+    number : placeAfter file place .scans ≡ suc (place .scans)
+    offset : placeAfter file place .offset ≡ place .offset + length s
+    later : scansIn most (placeAfter file place .scans) (drop (placeAfter file place .at) file) ≡ ss
+
+  there-before : (most : ℕ) (place : Place) (s : List ℕ) (ss : List (List ℕ)) → isScan (suc (place .scans)) (drop (place .at) file) ≡ true
+      → scansIn (suc most) (place .scans) (drop (place .at) file) ≡ s ∷ ss → place .scans < 65535 → place .offset ≤ 1073741824 → Before most place s ss
+  unfolding atScan passedOver placeAfter
+  there-before most place s ss e is few near =
+      let first = some-first most place e in
+      let bytes : bytesAt file place ≡ s = cc in
+      let size = size-first place e ∙ ap length bytes in
+      let there : atScan file place ≡ true = rw (lt-ltb (place .scans) 65535 few, le-leb (place .offset) 1073741824 near) e in
+      record {
+        there = there;
+        bytes = bytes;
+        size = size;
+        next = rw there;
+        number = refl;
+        offset = rw size;
+        later = cc;
+      }
+
+  before : (most : ℕ) (place : Place) (s : List ℕ) (ss : List (List ℕ)) → scansIn (suc most) (place .scans) (drop (place .at) file) ≡ s ∷ ss
+      → suc most + place .scans ≡ 65535 → place .offset ≤ 1073741824 → Before most place s ss
+  before most place s ss is fuel near =
+      by-test (isScan (suc (place .scans)) (drop (place .at) file)) (λ e. there-before most place s ss e is (omega arith) near)
+      (λ e. let w = none-first most place e in let z : _≡_ {A = ℕ} 0 1 = cc in absurd (omega arith))
+
   pub standing : (most k : ℕ) (place : Place) (scans : List (List ℕ)) → scansIn most (place .scans) (drop (place .at) file) ≡ scans
       → most + place .scans ≡ 65535 → place .offset + total (sizesOf scans) ≤ 1073741824 → k < length scans
       → Standing file place (afterSteps file k place) scans k
-  unfolding scansIn afterSteps offsetOf total sizesOf
-  standing zero k place [] is fuel fits h = absurd (omega arith)
+  unfolding afterSteps offsetOf total sizesOf
+  standing most k place [] is fuel fits h = absurd (omega arith)
   standing zero k place (s ∷ ss) is fuel fits h = nothing-left place s ss is
-  standing (suc most) k place [] is fuel fits h = absurd (omega arith)
   standing (suc most) zero place (s ∷ ss) is fuel fits h =
-      let b = before most place s ss is in
-      record {
-        there = scan-there place (omega arith) (omega arith) (b .there);
-        bytes = b .first;
-        size = size-first place (b .there) ∙ ap length (b .first);
-        number = omega arith;
-        offset = omega arith;
-      }
+      let b = before most place s ss is fuel (omega arith) in
+      record { there = b .there; bytes = b .bytes; size = b .size; number = omega arith; offset = omega arith }
   standing (suc most) (suc k) place (s ∷ ss) is fuel fits h =
-      let b = before most place s ss is in
-      let e = step place (scan-there place (omega arith) (omega arith) (b .there)) in
-      let long : sizeAt file place ≡ length s = size-first place (b .there) ∙ ap length (b .first) in
-      let r = standing most k (placeAfter file place) ss (after-scans most place ss (b .later)) (omega (arith, after-number place)) (omega (arith, after-offset place)) (omega arith) in
-      rw e (record { there = r .there; bytes = r .bytes; size = r .size; number = omega (arith, after-number place, r .number); offset = omega (arith, after-offset place, r .offset) })
+      let b = before most place s ss is fuel (omega arith) in
+      let r = standing most k (placeAfter file place) ss (b .later) (omega arith) (omega arith) (omega arith) in
+      rw (b .next) (record { there = r .there; bytes = r .bytes; size = r .size; number = omega arith; offset = omega arith })
 
   -- no scan stands at a place from which there are none
   pub none-there : (most : ℕ) (place : Place) → scansIn most (place .scans) (drop (place .at) file) ≡ [] → most + place .scans ≡ 65535
@@ -119,7 +109,7 @@ module _ (file : List ℕ) where
   none-there zero place is fuel = rw (le-ltb (place .scans) 65535 (omega arith))
   none-there (suc most) place is fuel =
       by-test (isScan (suc (place .scans)) (drop (place .at) file))
-      (λ e. let w = scans-first most place e in let z : _≡_ {A = ℕ} 0 1 = cc in absurd (omega arith))
+      (λ e. let w = some-first most place e in let z : _≡_ {A = ℕ} 0 1 = cc in absurd (omega arith))
       (λ e. rw e (and-false (ltb (place .scans) 65535 && leb (place .offset) 1073741824)))
 
   -- after as many steps as there are scans, none stands there
@@ -129,12 +119,9 @@ module _ (file : List ℕ) where
   finished most place [] is fuel fits = none-there most place is fuel
   finished zero place (s ∷ ss) is fuel fits = nothing-left place s ss is
   finished (suc most) place (s ∷ ss) is fuel fits =
-      let b = before most place s ss is in
-      let e = step place (scan-there place (omega arith) (omega arith) (b .there)) in
-      let long : sizeAt file place ≡ length s = size-first place (b .there) ∙ ap length (b .first) in
-      ap (λ (p : Place). atScan file (afterSteps file (length ss) p)) e
-      ∙ finished most (placeAfter file place) ss (after-scans most place ss (b .later)) (omega (arith, after-number place))
-      (omega (arith, after-offset place))
+      let b = before most place s ss is fuel (omega arith) in
+      ap (λ (p : Place). atScan file (afterSteps file (length ss) p)) (b .next)
+      ∙ finished most (placeAfter file place) ss (b .later) (omega arith) (omega arith)
 
   -- there the place stays
   pub stays : (place : Place) → atScan file place ≡ false → passedOver file place ≡ place

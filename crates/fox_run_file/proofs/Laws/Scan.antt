@@ -1,4 +1,4 @@
--- stand-in
+-- A whole scan's bytes are as many as its second line says: its line feed is there after them, so the text goes so far.
 use mathlib.Core.Path.{_≡_, refl, sym, ap, _∙_}
 use mathlib.Core.Bool.{Bool, true, false, cond, _&&_, true≢false}
 use mathlib.Core.List.{List, [], _∷_}

@@ -1,6 +1,7 @@
--- Scans sealed or opened one by one: their lengths stay, twice they are the scans again, and each is turned from its own place in the run on.
+-- Scans sealed or opened one by one: turned twice they are the scans again, and each is turned from its own place in the run on, after the bytes of those
+-- before it, since the key stream leaves their lengths as they are.
 -- Assumes nothing.
-use mathlib.Core.Path.{_≡_, refl, sym, ap, ap₂, _∙_}
+use mathlib.Core.Path.{_≡_, refl, sym, ap, _∙_}
 use mathlib.Core.List.{List, [], _∷_, flatten}
 use Prim.Native.Nat.{ℕ, zero, suc, _+_}
 use native.Mathlib.Nat.{add-zero, add-assoc}
@@ -12,30 +13,16 @@ use Rattle.fox_run.specs.Cuts.{eachAlone}
 use Rattle.fox_run.proofs.Laws.Served.{length-runWith}
 use Rattle.fox_run.proofs.Runs.{run-twice}
 use Rattle.fox_run_file.specs.Format.{turnedScans}
-use Rattle.fox_run_file.specs.Values.{sizesOf, offsetOf}
+use Rattle.fox_run_file.specs.Values.{offsetOf}
 
 module _ (cipher : ℕ) (rks counter : List ℕ) where
   abbrev turned : ℕ → List ℕ → List ℕ
   turned n s = runWith cipher rks counter n s
 
-  turned-length : (n : ℕ) (s : List ℕ) → n + length (turned n s) ≡ n + length s
-  turned-length n s = ap (λ (k : ℕ). n + k) (length-runWith cipher rks counter n s)
-
-  sizes-alone : (n : ℕ) (ss : List (List ℕ)) → sizesOf (eachAlone turned n ss) ≡ sizesOf ss
-  unfolding eachAlone sizesOf
-  sizes-alone n [] = refl
-  sizes-alone n (s ∷ ss) = ap₂ (λ (k : ℕ) (ks : List ℕ). k ∷ ks) (length-runWith cipher rks counter n s) (sizes-alone (n + length s) ss)
-
-  pub sizes-turned : (ss : List (List ℕ)) → sizesOf (turnedScans cipher rks counter ss) ≡ sizesOf ss
-  unfolding turnedScans
-  sizes-turned ss = sizes-alone 0 ss
-
   twice-alone : (n : ℕ) (ss : List (List ℕ)) → eachAlone turned n (eachAlone turned n ss) ≡ ss
   unfolding eachAlone
   twice-alone n [] = refl
-  twice-alone n (s ∷ ss) =
-      ap₂ (λ (t : List ℕ) (ts : List (List ℕ)). t ∷ ts) (run-twice cipher rks counter n s)
-      (rw (turned-length n s) (twice-alone (n + length s) ss))
+  twice-alone n (s ∷ ss) = rw (run-twice cipher rks counter n s, length-runWith cipher rks counter n s, twice-alone (n + length s) ss)
 
   pub turned-twice : (ss : List (List ℕ)) → turnedScans cipher rks counter (turnedScans cipher rks counter ss) ≡ ss
   unfolding turnedScans

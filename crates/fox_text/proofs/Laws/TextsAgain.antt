@@ -3,42 +3,40 @@
 -- Assumes nothing.
 use mathlib.Core.Path.{_≡_, sym, ap, _∙_}
 use mathlib.Core.Bool.{true}
-use mathlib.Core.List.{List, [], _∷_, _++_}
-use Prim.Native.Nat.{ℕ, suc, _+_, _*_, _≤_, _<_}
+use mathlib.Core.List.{List, _∷_, _++_}
+use Prim.Native.Nat.{ℕ, _≤_, _<_}
 use native.Mathlib.Omega.{arith}
-use lib.ListN.{length, getD, drop, length-append}
-use lib.Seq.{append-snoc, drop-at}
+use lib.ListN.{length, getD, drop}
+use lib.Seq.{drop-at}
 use borrow.Author.Tests.{ltb-true}
 use Rattle.fox_text.specs.Lines.{lineEnd, hasLine, line, afterLine}
 use Rattle.fox_text.specs.Rules.{Test, isLine}
-use Rattle.fox_text.specs.Hex.{hexText}
-use Rattle.fox_text.specs.Fields.{isDecimalLine, isPairsLine, decimalIn, pairsIn, decimalLine, pairsLine, decimalLineText, pairsLineText}
+use Rattle.fox_text.specs.Fields.{isDecimalLine, isPairsLine, decimalIn, pairsIn, decimalLineText, pairsLineText}
 use Rattle.fox_text.proofs.Laws.Tests.{both}
-use Rattle.fox_text.proofs.Laws.Pairs.{length-hex-text}
-use Rattle.fox_text.proofs.Laws.Written.{Plain, split-line, line-written, afterLine-written}
-use Rattle.fox_text.proofs.Laws.Values.{decimal-line-again, pairs-line-again, decimal-line-plain, decimal-line-read}
+use Rattle.fox_text.proofs.Laws.Written.{Plain, split-line}
+use Rattle.fox_text.proofs.Laws.Values.{decimal-line-again, pairs-line-again}
+use Rattle.fox_text.proofs.Laws.Texts.{decimal-text, pairs-text, after-decimal-text, read-decimal-text}
 
 -- a text that is one text and then another is the first, and itself from the first's length on
 pub from-after : {t : List ℕ} (a r : List ℕ) (n : ℕ) → t ≡ a ++ r → length a ≡ n → t ≡ a ++ drop n t
 from-after a r n e size = e ∙ ap (λ (s : List ℕ). a ++ s) (sym (ap (drop n) e ∙ drop-at a r n size))
 
 -- a text's first line passes the test, and the text is this line, its line feed and the rest
-passed-line : (test : Test) (t : List ℕ) → isLine test t ≡ true → (test (line t) ≡ true) × (t ≡ line t ++ (10 ∷ []) ++ afterLine t)
+passed-line : (test : Test) (t : List ℕ) → isLine test t ≡ true → (test (line t) ≡ true) × (t ≡ line t ++ 10 ∷ afterLine t)
 unfolding isLine
 passed-line test t e =
     let (ended, passed) = both (hasLine t) (test (line t)) e in
-    (passed, split-line t (ltb-true (lineEnd t) (length t) ended) ∙ sym (append-snoc (line t) 10 (afterLine t)))
+    (passed, split-line t (ltb-true (lineEnd t) (length t) ended))
 
 pub record DecimalFirst (most : ℕ) (name t : List ℕ) : Type 0 where
   pub range : decimalIn most name (line t) ≤ most
   pub text : t ≡ decimalLineText name (decimalIn most name (line t)) ++ afterLine t
 
 pub decimal-first : (most : ℕ) (name t : List ℕ) → most < 100000 → isLine (isDecimalLine most name) t ≡ true → DecimalFirst most name t
-unfolding decimalLineText decimalLine
 decimal-first most name t top e =
     let (passed, text) = passed-line (isDecimalLine most name) t e in
     let again = decimal-line-again most name (line t) top passed in
-    record { range = again .range; text = text ∙ ap (λ (l : List ℕ). l ++ (10 ∷ []) ++ afterLine t) (again .text) }
+    record { range = again .range; text = text ∙ ap (λ (l : List ℕ). l ++ 10 ∷ afterLine t) (again .text) ∙ sym (decimal-text name _ (afterLine t)) }
 
 pub record PairsFirst (most : ℕ) (name t : List ℕ) : Type 0 where
   pub few : length (pairsIn most name (line t)) ≤ most
@@ -46,35 +44,21 @@ pub record PairsFirst (most : ℕ) (name t : List ℕ) : Type 0 where
   pub text : t ≡ pairsLineText name (pairsIn most name (line t)) ++ afterLine t
 
 pub pairs-first : (most : ℕ) (name t : List ℕ) → isLine (isPairsLine most name) t ≡ true → PairsFirst most name t
-unfolding pairsLineText pairsLine
 pairs-first most name t e =
     let (passed, text) = passed-line (isPairsLine most name) t e in
     let again = pairs-line-again most name (line t) passed in
-    record { few = again .few; bytes = again .bytes; text = text ∙ ap (λ (l : List ℕ). l ++ (10 ∷ []) ++ afterLine t) (again .text) }
+    record {
+      few = again .few;
+      bytes = again .bytes;
+      text = text ∙ ap (λ (l : List ℕ). l ++ 10 ∷ afterLine t) (again .text) ∙ sym (pairs-text name _ (afterLine t));
+    }
 
-pub length-pairs-text : (name bs : List ℕ) → length (pairsLineText name bs) ≡ length name + suc (2 * length bs)
-unfolding pairsLineText
-length-pairs-text name bs = omega (arith, length-append (name ++ hexText bs) (10 ∷ []), length-append name (hexText bs), length-hex-text bs)
-
--- what is read of a text that begins with a written decimal line; two such texts are equal only where their numbers and their rests are
-
-module _ (name : List ℕ) (plain : Plain name) where
-  abbrev Lined : ℕ → List ℕ → Type 0
-  Lined n r = (decimalIn 99999 name (line (decimalLineText name n ++ r)) ≡ n) × (afterLine (decimalLineText name n ++ r) ≡ r)
-
-  lined : (n : ℕ) (r : List ℕ) → n < 100000 → Lined n r
-  unfolding decimalLineText decimalLine
-  lined n r top =
-      let l = decimalLine name n in
-      let ends = decimal-line-plain name n plain in
-      let small : n ≤ 99999 = omega arith in (
-        rw (append-snoc l 10 r, line-written l r ends) (decimal-line-read 99999 n name small top),
-        rw (append-snoc l 10 r) (afterLine-written l r ends),
-      )
-
-  pub decimal-first-one : {m n : ℕ} {r s : List ℕ} → m < 100000 → n < 100000 → decimalLineText name m ++ r ≡ decimalLineText name n ++ s
-      → (m ≡ n) × (r ≡ s)
-  decimal-first-one {m} {n} {r} {s} p q e =
-      let (number, after) = lined m r p in
-      let (number₂, after₂) = lined n s q in
-      (sym number ∙ ap (λ (t : List ℕ). decimalIn 99999 name (line t)) e ∙ number₂, sym after ∙ ap afterLine e ∙ after₂)
+-- two texts that begin with written lines of one name and a number are equal only where their numbers and their rests are
+pub decimal-first-one : (name : List ℕ) → Plain name → {m n : ℕ} {r s : List ℕ} → m < 100000 → n < 100000
+    → decimalLineText name m ++ r ≡ decimalLineText name n ++ s → (m ≡ n) × (r ≡ s)
+decimal-first-one name plain {m} {n} {r} {s} p q e = (
+  sym (read-decimal-text name m r plain 99999 (omega arith) p)
+      ∙ ap (λ (t : List ℕ). decimalIn 99999 name (line t)) e
+      ∙ read-decimal-text name n s plain 99999 (omega arith) q,
+  sym (after-decimal-text name m r plain) ∙ ap afterLine e ∙ after-decimal-text name n s plain,
+)
