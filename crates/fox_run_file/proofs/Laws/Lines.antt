@@ -1,23 +1,25 @@
 -- Lines of a run file: a line that was written is compared as the text that it is, and a block has the cipher's size, at most 16 bytes.
 -- Assumes nothing.
 use mathlib.Core.Path.{_≡_, sym, _∙_}
-use mathlib.Core.Bool.{Bool, true}
-use mathlib.Core.List.{List}
+use mathlib.Core.Bool.{Bool, true, false, true≢false}
+use mathlib.Core.List.{List, [], _∷_, _++_}
 use Prim.Native.Nat.{ℕ, _≤_}
 use native.Mathlib.Omega.{arith}
-use lib.Dec.{eqb}
-use lib.ListN.{length, take}
-use borrow.Author.Tests.{eqb-true}
+use lib.Dec.{eqb, ltb}
+use lib.ListN.{length, take, length-append}
+use borrow.Author.Tests.{eqb-true, ltb-true, ltb-false}
 use Rattle.fox_refusals.specs.Refusals.{blockSize}
 use Rattle.fox_text.specs.Ascii.{startsWith}
 use Rattle.fox_text.specs.Lines.{line}
 use Rattle.fox_text.specs.Rules.{isLine}
 use Rattle.fox_text.specs.Put.{Put}
-use Rattle.fox_text.specs.Fields.{isPairsLine, pairsIn}
+use Rattle.fox_text.specs.Decimal.{decimalText}
+use Rattle.fox_text.specs.Fields.{isPairsLine, pairsIn, decimalLineText}
 use Rattle.fox_text.proofs.Laws.Tests.{both, by-test}
+use Rattle.fox_text.proofs.Laws.Lines.{starts-short}
 use Rattle.fox_text.proofs.Laws.Stores.{put-stored, stored}
 use Rattle.fox_run_file.specs.Says.{isBlockLine, blockIn}
-use Rattle.fox_run_file.specs.Parts.{ReadsBlock}
+use Rattle.fox_run_file.specs.Parts.{ReadsBlock, FindsLine}
 
 pub block-small : (cipher : ℕ) → blockSize cipher ≤ 16
 unfolding blockSize
@@ -27,6 +29,36 @@ block-small cipher = by-test (eqb cipher 64) (λ e. rw e (omega arith)) (λ e. r
 pub compared : {most n : ℕ} {text before after : List ℕ} {r : Bool} (t : List ℕ) → Put most text before after 0 n → most ≤ length before
     → r ≡ startsWith (take n after) t → r ≡ startsWith text t
 compared t p room e = e ∙ rw (put-stored p room .part)
+
+-- a line of a name and a number has a line feed, so its length 0 stands for its absence
+
+text-some : (name : List ℕ) (number : ℕ) → 1 ≤ length (decimalLineText name number)
+unfolding decimalLineText
+text-some name number = omega (arith, length-append (name ++ decimalText number) (10 ∷ []))
+
+module _ (name : List ℕ) (number : ℕ) (t : List ℕ) where
+  pub found-line : {n : ℕ} → startsWith (decimalLineText name number) t ≡ true → n ≡ length (decimalLineText name number) → FindsLine name number t n
+  found-line starts long =
+      let text = decimalLineText name number in
+      record {
+        is = rw starts long;
+        within =
+            by-test (ltb (length t) (length text)) (λ e. absurd (true≢false (sym starts ∙ starts-short text t (ltb-true (length t) (length text) e))))
+            (λ e. let h = ltb-false (length t) (length text) e in omega arith);
+      }
+
+  pub no-line : startsWith (decimalLineText name number) t ≡ false → FindsLine name number t 0
+  no-line e = record { is = rw e; within = omega arith }
+
+  pub line-missing : {n : ℕ} → FindsLine name number t n → n ≡ 0 → startsWith (decimalLineText name number) t ≡ false
+  line-missing found none =
+      by-test (startsWith (decimalLineText name number) t)
+      (λ e. let long = rw e at (found .is) in absurd (omega (arith, text-some name number))) (λ e. e)
+
+  pub line-there : {n : ℕ} → FindsLine name number t n → (n ≡ 0 → ⊥)
+      → (startsWith (decimalLineText name number) t ≡ true) × (n ≡ length (decimalLineText name number))
+  line-there found some =
+      by-test (startsWith (decimalLineText name number) t) (λ e. (e, rw e at (found .is))) (λ e. absurd (some (rw e at (found .is))))
 
 -- a right line's block has the cipher's size, and what reading the line put at the start of a buffer is this block
 
