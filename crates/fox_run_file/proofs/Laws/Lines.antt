@@ -30,6 +30,12 @@ pub compared : {most n : ℕ} {text before after : List ℕ} {r : Bool} (t : Lis
     → r ≡ startsWith (take n after) t → r ≡ startsWith text t
 compared t p room e = e ∙ rw (put-stored p room .part)
 
+-- a text that begins with a name is at least as long as the name
+pub starts-long : (name t : List ℕ) → startsWith name t ≡ true → length name ≤ length t
+starts-long name t e =
+    by-test (ltb (length t) (length name)) (λ h. absurd (true≢false (sym e ∙ starts-short name t (ltb-true (length t) (length name) h))))
+    (λ h. ltb-false (length t) (length name) h)
+
 -- a line of a name and a number has a line feed, so its length 0 stands for its absence
 
 text-some : (name : List ℕ) (number : ℕ) → 1 ≤ length (decimalLineText name number)
@@ -39,13 +45,8 @@ text-some name number = omega (arith, length-append (name ++ decimalText number)
 module _ (name : List ℕ) (number : ℕ) (t : List ℕ) where
   pub found-line : {n : ℕ} → startsWith (decimalLineText name number) t ≡ true → n ≡ length (decimalLineText name number) → FindsLine name number t n
   found-line starts long =
-      let text = decimalLineText name number in
-      record {
-        is = rw starts long;
-        within =
-            by-test (ltb (length t) (length text)) (λ e. absurd (true≢false (sym starts ∙ starts-short text t (ltb-true (length t) (length text) e))))
-            (λ e. let h = ltb-false (length t) (length text) e in omega arith);
-      }
+      let fits = starts-long (decimalLineText name number) t starts in
+      record { is = rw starts long; within = omega arith }
 
   pub no-line : startsWith (decimalLineText name number) t ≡ false → FindsLine name number t 0
   no-line e = record { is = rw e; within = omega arith }
