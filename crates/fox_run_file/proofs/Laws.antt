@@ -1,3 +1,4 @@
 -- Laws on the definitions, which proofs cite in place of a definition's text.
 pub mod Lines
 pub mod Scan
+pub mod Rest
