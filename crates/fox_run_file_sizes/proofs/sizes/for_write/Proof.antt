@@ -84,9 +84,9 @@ file-size-requires c κs = few-digits (front-keyed _ _ _ _ (sym (in-front (c .be
 returns-2 : tie.Need-returns-2
 returns-2 c =
     let sized = c .before .before .before in
-    refused _ _ _ _ _ _ _
-    (past _ _ _ _ _ _ _ (told-past (sized .file-size .ensures) (not-true _ (c .before .if2 .taken))) (sym (in-front (sized .before .before)) ∙ sized .before .if1 .left))
-    (λ z. omega arith) (c .refused2 .ensures)
+    let limit = told-past (sized .file-size .ensures) (not-true _ (c .before .if2 .taken)) in
+    let zero = sym (in-front (sized .before .before)) ∙ sized .before .if1 .left in
+    refused _ _ _ _ _ _ _ (past _ _ _ _ _ _ _ limit zero) (λ z. omega arith) (c .refused2 .ensures)
 
 returns-3 : tie.Need-returns-3
 returns-3 c = let test = c .before in refused _ _ _ _ _ _ _ (whole (test .before)) (test .if3 .taken) (c .refused3 .ensures)
