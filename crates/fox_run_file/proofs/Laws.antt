@@ -1,3 +1,5 @@
 -- Laws on the definitions, which proofs cite in place of a definition's text.
+pub mod Lines
+pub mod Scan
 pub mod Sizes
 pub mod Refusals
