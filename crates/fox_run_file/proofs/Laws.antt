@@ -3,3 +3,4 @@ pub mod Lines
 pub mod Scan
 pub mod Sizes
 pub mod Refusals
+pub mod Close
