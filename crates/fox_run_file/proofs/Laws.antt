@@ -1,6 +1,7 @@
 -- Laws on the definitions, which proofs cite in place of a definition's text.
 pub mod Lines
 pub mod Scan
+pub mod Rest
 pub mod Sizes
 pub mod Refusals
 pub mod Close
