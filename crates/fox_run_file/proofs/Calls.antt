@@ -3,17 +3,17 @@
 -- refused with 6; and after the last scan there is the end, again and again. A file that was refused has the end alone.
 -- Assumes nothing.
 use mathlib.Core.Path.{_≡_, refl, sym, ap, ap₂, _∙_}
-use mathlib.Core.Bool.{Bool, true, false, cond, _&&_}
-use mathlib.Core.List.{List, [], _∷_}
+use mathlib.Core.Bool.{true, false}
+use mathlib.Core.List.{List, []}
 use Prim.Native.Nat.{ℕ, zero, suc, _+_, _-_, _≤_, _<_, _^_}
 use native.Mathlib.Omega.{arith}
-use lib.Dec.{eqb}
 use lib.ListN.{length, drop, getD, drop-of-length-le}
-use borrow.Author.Tests.{eq-eqb, ne-eqb}
-use Rattle.fox_refusals.specs.Refusals.{refusalOf, forRun, blockSize, Keyed}
+use borrow.Author.Tests.{ne-eqb}
+use Rattle.fox_refusals.specs.Refusals.{refusalOf, Keyed}
 use Rattle.fox_refusals.proofs.Laws.Refusals.{stretched-served, wrong-output}
 use Rattle.fox_run.specs.Run.{runWith}
 use Rattle.fox_run.proofs.Laws.Served.{length-runWith}
+use Rattle.fox_tag.specs.Tag.{tagWith}
 use Rattle.fox_text.specs.Ascii.{codes, ascii, startsWith}
 use Rattle.fox_text.specs.Fields.{decimalLineText}
 use Rattle.fox_run_file.specs.declared.place.Place.{Place}
@@ -21,17 +21,18 @@ use Rattle.fox_run_file.specs.declared.place.Taken.{Taken}
 use Rattle.fox_run_file.specs.declared.reading.Next.the-variants as next
 use Rattle.fox_run_file.specs.declared.reading.Read.{Read}
 use Rattle.fox_run_file.specs.declared.reading.Read.the-variants as read
-use Rattle.fox_run_file.specs.Format.{scanName, turnedScans}
+use Rattle.fox_run_file.specs.Format.{scanName, closedBy, turnedScans}
 use Rattle.fox_run_file.specs.Sizes.{total}
-use Rattle.fox_run_file.specs.Says.{counterIn, isScan, scansIn, scansOf}
-use Rattle.fox_run_file.specs.Refusals.{forTakeUp}
+use Rattle.fox_run_file.specs.Says.{counterIn, isScan, scansIn, scansOf, signed, closeIn}
+use Rattle.fox_run_file.specs.Refusals.{forTakeUp, Told}
 use Rattle.fox_run_file.specs.Places.{firstPlace, noPlace, atScan, sizeAt, bytesAt, placeAfter, passedOver, afterSteps}
 use Rattle.fox_run_file.specs.Values.{sizesOf, offsetOf, IsRunFile}
 use Rattle.fox_run_file.specs.Promise.{TakesUpWith, ReadsWith, nextAt, readAt, readRefusal}
 use Rattle.fox_run_file.proofs.Laws.Reading.{Standing, standing, finished, stays, step-last}
 use Rattle.fox_run_file.proofs.Laws.Turned.{turned-at}
-use Rattle.fox_run_file.proofs.Laws.Lengths.{Limits, limits, total-within, scan-small, scan-within}
+use Rattle.fox_run_file.proofs.Laws.Lengths.{limits, total-within, scan-small, scan-within}
 use Rattle.fox_run_file.proofs.Right.{taken-is-written}
+use Rattle.fox_run_file.proofs.Changed.{changed-file-is-told, changed-file-told}
 
 -- a scan is as long opened as it is sealed
 pub opened-size : (c : ℕ) (rks counter : List ℕ) (k : ℕ) (ss : List (List ℕ)) → length (getD (turnedScans c rks counter ss) k []) ≡ length (getD ss k [])
@@ -193,3 +194,13 @@ module _ (c r keyLen : ℕ) (rks file : List ℕ) {t : Taken} (taken : TakesUpWi
 
   pub refused-reads : {before after : List ℕ} {x : Read} → ReadsWith c r keyLen rks file (t .place) before after x → (x ≡ read.End) × (after ≡ before)
   refused-reads call = read-none c r keyLen rks file (t .place) call none-there
+
+-- a file that was taken up, and another text before its line `close`: it is taken up only where its tag is the same, and refused where it is not
+
+module _ (c r keyLen : ℕ) (rks file text : List ℕ) {t u : Taken} (taken : TakesUpWith c r keyLen rks file t) (served : t .refusal ≡ 0)
+    (again : TakesUpWith c r keyLen rks (closedBy (closeIn c file) text) u) where
+  pub changed-served : u .refusal ≡ 0 → tagWith c rks text ≡ tagWith c rks (signed c file)
+  changed-served e = changed-file-is-told c r keyLen rks file text (sym (taken .refusal) ∙ served) (sym (again .refusal) ∙ e)
+
+  pub changed-refused : (tagWith c rks text ≡ tagWith c rks (signed c file) → ⊥) → Told (u .refusal)
+  changed-refused other = rw (again .refusal) (changed-file-told c r keyLen rks file text (sym (taken .refusal) ∙ served) other)
