@@ -1,5 +1,6 @@
 -- Laws and theorems on the run file.
 pub mod Laws
+pub mod Computed
 pub mod Written
 pub mod Right
 pub mod Served
