@@ -1,6 +1,5 @@
--- Laws and theorems on the run file.
+-- Laws and theorems on the run file, and its definitions computed.
 pub mod Laws
-pub mod Computed
 pub mod Written
 pub mod Right
 pub mod Served
@@ -8,3 +7,4 @@ pub mod Changed
 pub mod One
 pub mod Calls
 pub mod GivenBack
+pub mod Computed

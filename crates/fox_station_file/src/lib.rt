@@ -9,10 +9,10 @@ ghost use Rattle.fox_station_file.specs.Files.{wordsOf, placeIn, lengthO
 use fox_run_file::place::Place;
 use fox_run_file::reading::Next;
 use fox_run_file::reading::Read;
-use fox_run_file_read::read::next_at;
-use fox_run_file_read::read::pass_over;
+use fox_run_file_read::places::next_at;
+use fox_run_file_read::places::pass_over;
 use fox_run_file_read::read::read_from_key;
-use fox_run_file_read::read::take_up_from_key;
+use fox_run_file_read::take::take_up_from_key;
 use fox_run_file_sizes::sizes::tell_size;
 use fox_run_file_write::write::write_from_key;
 
