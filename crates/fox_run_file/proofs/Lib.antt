@@ -1,1 +1,2 @@
 -- The laws and theorems on the run file.
+pub mod Laws
