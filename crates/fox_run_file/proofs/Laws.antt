@@ -1,3 +1,6 @@
 -- Laws on the definitions, which proofs cite in place of a definition's text.
 pub mod Lengths
+pub mod Sizes
+pub mod Refusals
+pub mod Cut
 pub mod Written

@@ -13,7 +13,7 @@ use Rattle.fox_text.proofs.Laws.Stores.{one}
 use Rattle.fox_run_file_place.specs.Laid.{Laid}
 
 -- lists that agree from a place on agree from a later place on
-drop-later : (f g : ℕ) (a b : List ℕ) → f ≤ g → drop f a ≡ drop f b → drop g a ≡ drop g b
+pub drop-later : (f g : ℕ) (a b : List ℕ) → f ≤ g → drop f a ≡ drop f b → drop g a ≡ drop g b
 drop-later f g a b h e =
     let here : f + (g - f) ≡ g = omega arith in
     let at : drop (f + (g - f)) a ≡ drop (f + (g - f)) b =

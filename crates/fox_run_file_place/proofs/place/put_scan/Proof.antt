@@ -7,8 +7,6 @@ use Rattle.fox_run_file_place.proofs.Laws.Scans.{head-end, scan-laid}
 use borrow.Author.Needs.{needs}
 use Rattle.fox_run_file_place.proofs.place.put_scan.Statement.{statement}
 use Rattle.fox_run_file_place.proofs.place.put_scan.Tie as tie
-use Rattle.fox_run_file_place.proofs.place.put_scan.Reads as reads
-use Rattle.fox_run_file_place.proofs.place.put_scan.Lts as lts
 
 move-down-requires : tie.Need-move-down-requires
 unfolding scanName bytesName ascii codes
