@@ -3,4 +3,6 @@ pub mod Lengths
 pub mod Sizes
 pub mod Refusals
 pub mod Cut
+pub mod Lines
+pub mod Scan
 pub mod Written

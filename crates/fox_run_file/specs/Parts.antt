@@ -1,11 +1,13 @@
 -- What the parts of the run file's code promise each other.
 -- Assumes nothing.
 use mathlib.Core.Path.{_≡_}
-use Prim.Native.Nat.{ℕ, _+_, _≤_}
-use mathlib.Core.Bool.{Bool, cond, not}
+use Prim.Native.Nat.{ℕ, _+_, _≤_, _<_}
+use mathlib.Core.Bool.{Bool, true, cond, not}
 use mathlib.Core.List.{List, _++_}
 use lib.ListN.{length, take, drop}
 use lib.Seq.{sets}
+use Rattle.fox_text.specs.Ascii.{startsWith}
+use Rattle.fox_text.specs.Fields.{decimalLineText}
 use Rattle.fox_run_file.specs.declared.scan.Scan.{Scan}
 use Rattle.fox_run_file.specs.declared.scan.Scans.{Scans}
 use Rattle.fox_run_file.specs.declared.sizes.Sizes.{Sizes}
@@ -17,18 +19,26 @@ pub record ReadsBlock (name : List ℕ) (cipher : ℕ) (t before after : List �
   pub right : r ≡ isBlockLine name cipher t
   pub bytes : after ≡ sets before 0 (blockIn name cipher t)
 
+-- a line of a name and a number that was looked for at the start of a text: how many bytes it has, or 0 where it is not there
+pub record FindsLine (name : List ℕ) (number : ℕ) (t : List ℕ) (r : ℕ) : Type 0 where
+  pub is : r ≡ cond (startsWith (decimalLineText name number) t) (length (decimalLineText name number)) 0
+  pub within : r ≤ length t
+
 -- a scan that was looked for at the start of a text
 pub record FindsScan (number : ℕ) (t : List ℕ) (r : Scan) : Type 0 where
   pub whole : r .whole ≡ isScan number t
   pub head : r .head ≡ cond (isScan number t) (headIn number t) 0
   pub size : r .size ≡ cond (isScan number t) (sizeIn number t) 0
+  pub small : r .size ≤ 65536
   pub within : r .head + r .size ≤ length t
+  pub ends : r .whole ≡ true → r .head + r .size < length t
 
 -- the whole scans of a file from a place on
 pub record PassesScans (file : List ℕ) (at : ℕ) (r : Scans) : Type 0 where
   pub number : r .number ≡ length (scansIn 65535 0 (drop at file))
   pub rest : drop (r .at) file ≡ afterScans 65535 0 (drop at file)
   pub few : r .number ≤ 65535
+  pub within : at ≤ length file → r .at ≤ length file
 
 -- the lengths of scans added up, for a file of this cipher and these rounds
 pub record Sized (cipher rounds : ℕ) (sizes : List ℕ) (r : Sizes) : Type 0 where
