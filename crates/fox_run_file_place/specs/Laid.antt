@@ -20,9 +20,9 @@ pub record ScanRoom (at src number size : ℕ) (out : List ℕ) : Type 0 where
   pub fits : src + size ≤ length out
   pub lines : at + 23 ≤ length out
 
--- room for scans that begin at `at` and whose bytes stand at `src`, and for 31 bytes after them, as many as the lines `scans` and `close` have at least
+-- room for scans that begin at `at` and whose bytes stand at `src`, and for 23 bytes after them, as many as the line `close` has at least
 pub record Room (at src : ℕ) (sizes out : List ℕ) : Type 0 where
   pub few : length sizes ≤ 65535
   pub small : anyAbove 65536 sizes ≡ false
-  pub gap : at + scansSize 0 sizes + 31 ≤ src + total sizes
+  pub gap : at + scansSize 0 sizes + 23 ≤ src + total sizes
   pub fits : src + total sizes ≤ length out

@@ -1,0 +1,2 @@
+-- Laws on the parts of a file as they are written.
+pub mod Unclosed
