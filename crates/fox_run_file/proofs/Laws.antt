@@ -5,4 +5,6 @@ pub mod Refusals
 pub mod Cut
 pub mod Lines
 pub mod Scan
+pub mod Rest
+pub mod Close
 pub mod Written

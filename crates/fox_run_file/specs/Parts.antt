@@ -4,8 +4,11 @@ use mathlib.Core.Path.{_≡_}
 use Prim.Native.Nat.{ℕ, _+_, _≤_, _<_}
 use mathlib.Core.Bool.{Bool, true, cond, not}
 use mathlib.Core.List.{List, _++_}
+use lib.Dec.{eqb}
 use lib.ListN.{length, take, drop}
 use lib.Seq.{sets}
+use Rattle.fox_refusals.specs.Refusals.{refusalOf}
+use Rattle.fox_refusals.specs.declared.answer.Answer.{Answer}
 use Rattle.fox_text.specs.Ascii.{startsWith}
 use Rattle.fox_text.specs.Fields.{decimalLineText}
 use Rattle.fox_run_file.specs.declared.scan.Scan.{Scan}
@@ -13,6 +16,7 @@ use Rattle.fox_run_file.specs.declared.scan.Scans.{Scans}
 use Rattle.fox_run_file.specs.declared.sizes.Sizes.{Sizes}
 use Rattle.fox_run_file.specs.Sizes.{total, fileSize, pastLimit}
 use Rattle.fox_run_file.specs.Says.{isBlockLine, blockIn, isScan, headIn, sizeIn, scansIn, afterScans}
+use Rattle.fox_run_file.specs.Refusals.{forWrite}
 
 -- a line of a name and a block that was looked for at the start of a text: whether it is there; its bytes, if any, are at the start of the output
 pub record ReadsBlock (name : List ℕ) (cipher : ℕ) (t before after : List ℕ) (r : Bool) : Type 0 where
@@ -45,3 +49,9 @@ pub record Sized (cipher rounds : ℕ) (sizes : List ℕ) (r : Sizes) : Type 0 w
   pub fit : r .fit ≡ not (pastLimit cipher rounds sizes)
   pub total : r .total ≡ cond (pastLimit cipher rounds sizes) 0 (total sizes)
   pub size : r .size ≡ cond (pastLimit cipher rounds sizes) 0 (fileSize cipher rounds sizes)
+
+-- whether a file may be written: the first refusal that applies, and how long the file will be, as the count
+pub record MayWrite (cipher rounds keyLen counterLen inputLen : ℕ) (sizes : List ℕ) (outLen : ℕ) (r : Answer) : Type 0 where
+  pub refusal : r .refusal ≡ refusalOf (forWrite cipher rounds keyLen counterLen inputLen sizes outLen)
+  pub count : r .count
+      ≡ cond (eqb (refusalOf (forWrite cipher rounds keyLen counterLen inputLen sizes outLen)) 0) (fileSize cipher rounds sizes) 0

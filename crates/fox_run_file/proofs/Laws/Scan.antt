@@ -1,8 +1,8 @@
 -- Scans of a run file. A whole scan ends within its text, since its line feed is there; and what comes after some of a file's whole scans is itself whole
 -- scans and what comes after the last, so that they can be passed over one by one.
 -- Assumes nothing.
-use mathlib.Core.Path.{_≡_, refl, sym, _∙_}
-use mathlib.Core.Bool.{true, false, _&&_, true≢false}
+use mathlib.Core.Path.{_≡_, refl, sym, ap, _∙_}
+use mathlib.Core.Bool.{Bool, true, false, _&&_, true≢false}
 use mathlib.Core.List.{List, [], _∷_}
 use Prim.Native.Nat.{ℕ, zero, suc, _+_, _-_, _≤_, _<_}
 use native.Mathlib.Numerals.{add-one}
@@ -10,17 +10,18 @@ use native.Mathlib.Omega.{arith}
 use lib.ListN.{length, drop, length-drop}
 use lib.Seq.{length-take-le, drop-drop}
 use Rattle.fox_text.specs.Ascii.{startsWith}
-use Rattle.fox_text.specs.Lines.{line}
+use Rattle.fox_text.specs.Lines.{line, lineEnd}
 use Rattle.fox_text.specs.Rules.{isLine}
 use Rattle.fox_text.specs.Decimal.{isDecimal}
-use Rattle.fox_text.specs.Fields.{valueText, isDecimalLine, decimalIn, decimalLineText}
+use Rattle.fox_text.specs.Fields.{valueText, isDecimalLine, decimalIn, decimalLineText, ReadsDecimal}
+use Rattle.fox_text.specs.declared.decimal.Decimal.{Decimal}
 use Rattle.fox_text.proofs.Laws.Tests.{both, by-test}
 use Rattle.fox_text.proofs.Laws.Decimals.{decimal-digits}
 use Rattle.fox_run_file.specs.Format.{scanName, bytesName}
 use Rattle.fox_run_file.specs.Says.{bytesText, fromBytes, sizeIn, headIn, isScan, bytesIn, afterScan, scansIn, afterScans}
-use Rattle.fox_run_file.specs.Parts.{FindsScan, PassesScans}
+use Rattle.fox_run_file.specs.Parts.{FindsLine, FindsScan}
 use Rattle.fox_run_file.specs.declared.scan.Scan.{Scan}
-use Rattle.fox_run_file.proofs.Laws.Lines.{starts-long}
+use Rattle.fox_run_file.proofs.Laws.Lines.{starts-long, line-missing, line-there}
 
 decimal-small : (most : ℕ) (name l : List ℕ) → decimalIn most name l ≤ most
 unfolding decimalIn
@@ -50,7 +51,7 @@ module _ (number : ℕ) (t : List ℕ) where
 
   -- what looking for a scan returns
 
-  pub no-scan : isScan number t ≡ false → FindsScan number t (record { whole = false; head = 0; size = 0 })
+  no-scan : isScan number t ≡ false → FindsScan number t (record { whole = false; head = 0; size = 0 })
   no-scan e =
       record {
         whole = sym e;
@@ -61,7 +62,7 @@ module _ (number : ℕ) (t : List ℕ) where
         ends = λ p. absurd (true≢false (sym p));
       }
 
-  pub found-scan : {h s : ℕ} → isScan number t ≡ true → h ≡ headIn number t → s ≡ sizeIn number t
+  found-scan : {h s : ℕ} → isScan number t ≡ true → h ≡ headIn number t → s ≡ sizeIn number t
       → FindsScan number t (record { whole = true; head = h; size = s })
   found-scan e head size =
       let fits = scan-fits e in
@@ -74,6 +75,46 @@ module _ (number : ℕ) (t : List ℕ) where
         within = omega arith;
         ends = λ p. omega arith;
       }
+
+-- where a scan's two lines are there, its line feed settles whether it is whole
+pub record Settled (number : ℕ) (t : List ℕ) (feed : Bool) (h s : ℕ) : Type 0 where
+  pub is : feed ≡ isScan number t
+  pub head : h ≡ headIn number t
+  pub size : s ≡ sizeIn number t
+
+pub feed-missing : {number : ℕ} {t : List ℕ} {feed : Bool} {h s : ℕ} → Settled number t feed h s → feed ≡ false
+    → FindsScan number t (record { whole = false; head = 0; size = 0 })
+feed-missing {number} {t} by none = no-scan number t (sym (by .is) ∙ none)
+
+pub feed-there : {number : ℕ} {t : List ℕ} {feed : Bool} {h s : ℕ} → Settled number t feed h s → feed ≡ true
+    → FindsScan number t (record { whole = true; head = h; size = s })
+feed-there {number} {t} by there = found-scan number t (sym (by .is) ∙ there) (by .head) (by .size)
+
+-- a scan looked for step by step: its first line, its second line, and the line feed after its bytes
+
+pub first-missing : (number : ℕ) (t : List ℕ) {n : ℕ} → FindsLine scanName number t n → n ≡ 0
+    → FindsScan number t (record { whole = false; head = 0; size = 0 })
+unfolding isScan
+first-missing number t first none = no-scan number t (rw (line-missing scanName number t first none))
+
+module _ (number : ℕ) (t : List ℕ) {n : ℕ} {second : List ℕ} {d : Decimal} (first : FindsLine scanName number t n) (some : n ≡ 0 → ⊥)
+    (is-second : second ≡ drop n t)
+    (read : ReadsDecimal 65536 bytesName second d) where
+  second-text : second ≡ bytesText number t
+  second-text = is-second ∙ rw (line-there scanName number t first some .1)
+
+  pub second-missing : d .right ≡ false → FindsScan number t (record { whole = false; head = 0; size = 0 })
+  unfolding isScan
+  second-missing wrong = no-scan number t (rw (line-there scanName number t first some .0, ← second-text, ← read .right, wrong))
+
+  pub second-read : {e : ℕ} {bytes after : List ℕ} {feed : Bool} → d .right ≡ true → e ≡ lineEnd second → bytes ≡ drop (n + e + 1) t
+      → after ≡ drop (d .value) bytes → feed ≡ startsWith (10 ∷ []) after → Settled number t feed (n + e + 1) (d .value)
+  unfolding headIn sizeIn isScan
+  second-read {e} right ends is-bytes is-after is-feed =
+      let (starts, long) = line-there scanName number t first some in
+      let head : n + e + 1 ≡ headIn number t = omega (arith, ends ∙ ap lineEnd second-text) in
+      let size : d .value ≡ sizeIn number t = rw second-text at (read .value) in
+      record { is = is-feed ∙ rw (is-after, is-bytes, head, size, starts, ← second-text, ← read .right, right); head = head; size = size }
 
 -- a whole scan that was found in a file at a place: the place after it
 pub after-found : (file : List ℕ) (at : ℕ) {number : ℕ} {r : Scan} → FindsScan number (drop at file) r → r .whole ≡ true

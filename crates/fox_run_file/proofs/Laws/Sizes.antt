@@ -1,7 +1,7 @@
 -- Lengths: of a decimal by its value, of a line, of the header, of a scan, and of the scans that are left, one scan further, as a loop goes over them.
 -- Assumes nothing.
-use mathlib.Core.Path.{_≡_, refl, ap}
-use mathlib.Core.Bool.{true, false, cond}
+use mathlib.Core.Path.{_≡_, refl, sym, ap, _∙_}
+use mathlib.Core.Bool.{true, false, cond, _||_, or-true}
 use mathlib.Core.List.{List, [], _∷_, _++_}
 use Prim.Native.Nat.{ℕ, zero, suc, _+_, _*_, _/_, _%_, _^_, _≤_, _<_}
 use native.Mathlib.Nat.{one-le-pow}
@@ -9,7 +9,7 @@ use native.Mathlib.Numerals.{add-one}
 use native.Mathlib.Omega.{arith}
 use lib.ListN.{length, drop, getD, length-append, drop-of-length-le}
 use lib.Dec.{ltb}
-use borrow.Author.Tests.{ltb-true, ltb-false, lt-ltb, le-ltb}
+use borrow.Author.Tests.{lt-ltb, le-ltb, not-true, not-false}
 use Rattle.fox_refusals.specs.Refusals.{blockSize}
 use Rattle.fox_text.specs.Ascii.{codes, ascii}
 use Rattle.fox_text.specs.Names.{cipherName, roundsName}
@@ -18,7 +18,10 @@ use Rattle.fox_text.specs.Fields.{decimalLineText}
 use Rattle.fox_text.proofs.Laws.Tests.{by-test}
 use Rattle.fox_text.proofs.Laws.Lines.{from-here}
 use Rattle.fox_run_file.specs.Format.{formatText, counterName, scanName, bytesName, scansName, closeName, keyLines, scanHead}
-use Rattle.fox_run_file.specs.Sizes.{blockLineSize, headerSize, scanSize, scansSize, total, anyAbove}
+use Rattle.fox_tag.proofs.Laws.Parts.{size-most}
+use Rattle.fox_run_file.specs.Sizes.{blockLineSize, headerSize, scanSize, scansSize, unclosedSize, fileSize, total, anyAbove, pastLimit}
+use Rattle.fox_run_file.specs.Parts.{Sized}
+use Rattle.fox_run_file.specs.declared.sizes.Sizes.{Sizes}
 
 -- digits
 
@@ -73,6 +76,12 @@ scans-line-size number = omega (arith, decimal-line-size scansName number)
 pub decimal-few : (n : ℕ) → length (decimalText n) ≤ 5
 decimal-few n = digits-few 5 n
 
+pub header-few : (cipher rounds : ℕ) → headerSize cipher rounds ≤ 78
+header-few cipher rounds = omega (arith, header-line-sizes cipher rounds, decimal-few cipher, decimal-few rounds, size-most cipher)
+
+pub close-few : (cipher : ℕ) → blockLineSize closeName cipher ≤ 39
+close-few cipher = omega (arith, close-line-size cipher, size-most cipher)
+
 pub scan-few : (number size : ℕ) → size ≤ 65536 → scanSize number size ≤ 65560
 scan-few number size h = omega (arith, scan-line-sizes number size, decimal-few number, decimal-few size)
 
@@ -104,3 +113,41 @@ module _ (sizes : List ℕ) (i : ℕ) where
     pub above-done : (limit : ℕ) → anyAbove limit (drop i sizes) ≡ false
     unfolding anyAbove
     above-done limit = rw (drop-of-length-le sizes past)
+
+-- the limits, and what adding up the lengths tells by them
+
+module _ (cipher rounds : ℕ) (sizes : List ℕ) where
+  pub many-past : 65535 < length sizes → pastLimit cipher rounds sizes ≡ true
+  unfolding pastLimit
+  many-past h = rw (lt-ltb 65535 (length sizes) h)
+
+  pub long-past : anyAbove 65536 sizes ≡ true → pastLimit cipher rounds sizes ≡ true
+  unfolding pastLimit
+  long-past e = rw (e, or-true (ltb 65535 (length sizes)))
+
+  pub large-past : 1073741824 < unclosedSize cipher rounds sizes → pastLimit cipher rounds sizes ≡ true
+  unfolding pastLimit
+  large-past h = rw (lt-ltb 1073741824 (unclosedSize cipher rounds sizes) h) (or-true (ltb 65535 (length sizes) || anyAbove 65536 sizes))
+
+  pub in-limits : length sizes ≤ 65535 → anyAbove 65536 sizes ≡ false → unclosedSize cipher rounds sizes ≤ 1073741824
+      → pastLimit cipher rounds sizes ≡ false
+  unfolding pastLimit
+  in-limits few e small = rw (le-ltb 65535 (length sizes) few, e, le-ltb 1073741824 (unclosedSize cipher rounds sizes) small)
+
+  pub sized-past : pastLimit cipher rounds sizes ≡ true → Sized cipher rounds sizes (record { fit = false; total = 0; size = 0 })
+  sized-past e = record { fit = rw e; total = rw e; size = rw e }
+
+  pub sized-in : {t s : ℕ} → pastLimit cipher rounds sizes ≡ false → t ≡ total sizes → s ≡ fileSize cipher rounds sizes
+      → Sized cipher rounds sizes (record { fit = true; total = t; size = s })
+  sized-in e sum size = record { fit = rw e; total = rw e sum; size = rw e size }
+
+-- and what it has told
+
+module _ {cipher rounds : ℕ} {sizes : List ℕ} {s : Sizes} (told : Sized cipher rounds sizes s) where
+  pub told-past : s .fit ≡ false → pastLimit cipher rounds sizes ≡ true
+  told-past e = not-false (pastLimit cipher rounds sizes) (sym (told .fit) ∙ e)
+
+  pub told-in : s .fit ≡ true → (pastLimit cipher rounds sizes ≡ false) × (s .total ≡ total sizes) × (s .size ≡ fileSize cipher rounds sizes)
+  told-in e =
+      let in-them = not-true (pastLimit cipher rounds sizes) (sym (told .fit) ∙ e) in
+      (in-them, told .total ∙ rw in-them, told .size ∙ rw in-them)
