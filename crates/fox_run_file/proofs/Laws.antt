@@ -2,6 +2,7 @@
 pub mod Lengths
 pub mod Sizes
 pub mod Refusals
+pub mod Writes
 pub mod Cut
 pub mod Lines
 pub mod Scan

@@ -1,5 +1,4 @@
 // Scans written from a place on, from sealed bytes that stand further back in the same buffer. What is written never reaches the bytes that are still to be moved.
-ghost use mathlib.Core.Path.{_≡_};
 ghost use Prim.Native.Nat.{_+_, _≤_};
 ghost use lib.ListN.{length, take, drop};
 ghost use Rattle.fox_run_file.specs.Format.{cutBy, scanText, scansText};

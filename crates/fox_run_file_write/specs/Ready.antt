@@ -22,3 +22,12 @@ pub record CloseRoom (p : Prepared) (at : ℕ) (out : List ℕ) : Type 0 where
   pub keyed : Keyed (p .cipher) (p .rounds) (p .«key_len»)
   pub text : at ≤ 1073741824
   pub fits : at + blockLineSize closeName (p .cipher) ≤ length out
+
+-- what a file of so many bytes is written from, and room for it
+pub record ToWrite (p : Prepared) (counter input sizes out : List ℕ) (size : ℕ) : Type 0 where
+  pub keyed : Keyed (p .cipher) (p .rounds) (p .«key_len»)
+  pub block : length counter ≡ blockSize (p .cipher)
+  pub limits : pastLimit (p .cipher) (p .rounds) sizes ≡ false
+  pub all : total sizes ≡ length input
+  pub end : size ≡ fileSize (p .cipher) (p .rounds) sizes
+  pub fits : fileSize (p .cipher) (p .rounds) sizes ≤ length out

@@ -1,7 +1,7 @@
 -- Data cut into scans: how many there are, that bytes after the last scan do not count, and that cutting and sealing change places, since each scan is sealed
 -- from its own place in the run. And scans have no more bytes than the text that they are written in.
 -- Assumes nothing.
-use mathlib.Core.Path.{_≡_, refl, sym, ap, ap₂, _∙_}
+use mathlib.Core.Path.{_≡_, refl, sym, ap, _∙_}
 use mathlib.Core.List.{List, [], _∷_, _++_}
 use Prim.Native.Nat.{ℕ, suc, _+_, _≤_}
 use native.Mathlib.Omega.{arith}

@@ -3,11 +3,11 @@
 -- Assumes nothing.
 use mathlib.Core.Path.{_≡_, sym, ap, _∙_}
 use mathlib.Core.List.{List, [], _∷_, _++_, append-assoc}
-use Prim.Native.Nat.{ℕ, suc, _+_, _-_, _≤_, _<_}
+use Prim.Native.Nat.{ℕ, _+_, _-_, _≤_, _<_}
 use native.Mathlib.Numerals.{add-one}
 use native.Mathlib.Omega.{arith}
 use lib.ListN.{length, take, drop, getD, set, length-append, length-drop}
-use lib.Seq.{sets, sets-eq, length-take-le, take-at, drop-append-add, drop-drop, take-suc, getD-drop}
+use lib.Seq.{sets-eq, length-take-le, take-at, drop-append-add, drop-drop, take-suc, getD-drop}
 use Rattle.fox_text.specs.Put.{Put}
 use Rattle.fox_text.proofs.Laws.Stores.{one}
 use Rattle.fox_run_file_place.specs.Laid.{Laid}

@@ -1,9 +1,9 @@
 -- All that comes before the line `close`, laid part by part. There is room for each part: the file ends where the sealed bytes end, so the parts that are still
 -- to be laid take more room than the bytes that are still to be moved.
 -- Assumes nothing.
-use mathlib.Core.Path.{_≡_, sym, ap, _∙_}
+use mathlib.Core.Path.{_≡_, ap}
 use mathlib.Core.Bool.{Bool, true, false, cond}
-use mathlib.Core.List.{List, _++_}
+use mathlib.Core.List.{List}
 use Prim.Native.Nat.{ℕ, _+_, _*_, _≤_}
 use native.Mathlib.Omega.{arith}
 use lib.Dec.{eqb, lit≤}

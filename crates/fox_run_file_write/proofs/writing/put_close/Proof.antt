@@ -1,8 +1,7 @@
 -- `writing::put_close` meets its contract: the room that it passes for the tag is one block.
 -- Assumes nothing.
-use mathlib.Core.Path.{_≡_, sym, _∙_}
+use mathlib.Core.Path.{sym, _∙_}
 use native.Mathlib.Omega.{arith}
-use Prim.Native.Nat.{_≤_}
 use lib.Seq.{length-take-le}
 use Rattle.fox_tag.proofs.Laws.Parts.{size-most}
 use borrow.Author.Needs.{needs}

@@ -1,6 +1,6 @@
 -- `writing::put_tag` meets its contract: the tag of the text before the line is made, since no refusal applies, and is put into it.
 -- Assumes nothing.
-use mathlib.Core.Path.{_≡_, sym, ap, _∙_}
+use mathlib.Core.Path.{_≡_, sym}
 use Prim.Native.Nat.{_≤_}
 use native.Mathlib.Omega.{arith}
 use lib.ListN.{length, take}
