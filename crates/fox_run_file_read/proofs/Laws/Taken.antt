@@ -1,7 +1,7 @@
 -- A file taken up: its refusals are those of the key, of the text and of the tag, one after the other, and each is looked at only where none applies before it.
 -- Assumes nothing.
 use mathlib.Core.Path.{_≡_, refl, sym, _∙_}
-use mathlib.Core.Bool.{true, not}
+use mathlib.Core.Bool.{true}
 use mathlib.Core.List.{List, [], _∷_, _++_}
 use Prim.Native.Nat.{ℕ}
 use borrow.Author.Tests.{not-false}

@@ -1,99 +1,63 @@
+-- `read::read_at` meets its contract: the run's call is given the header's counter block, the place's offset and the scan's bytes, and its refusal, if any, is
+-- the reader's.
+-- Assumes nothing.
+use mathlib.Core.Path.{_∙_}
+use native.Mathlib.Omega.{arith}
+use Rattle.fox_run_file.proofs.Laws.Lines.{block-small}
+use Rattle.fox_run_file_read.proofs.Laws.Found.{absent, present, moved, movable}
+use Rattle.fox_run_file_read.proofs.Laws.Opened.{bytes-there, ended, run-refused, run-opened}
 use borrow.Author.Needs.{needs}
 use Rattle.fox_run_file_read.proofs.read.read_at.Statement.{statement}
 use Rattle.fox_run_file_read.proofs.read.read_at.Tie as tie
-use Rattle.fox_run_file_read.proofs.read.read_at.Reads as reads
-use Rattle.fox_run_file_read.proofs.read.read_at.Lts as lts
-use Rattle.fox_run_file_lines.proofs.lines.counter_of.Reads as counter-of-reads
-use Rattle.fox_run_file_read.proofs.places.after.Reads as after-reads
-use Rattle.fox_run_file_read.proofs.places.find_at.Reads as find-at-reads
-use Rattle.fox_server_run.proofs.run.run.Reads as run-reads
 
--- src/read.rt:20:9
-find-at-requires : tie.Need-find-at-requires
-find-at-requires c κs = search needs
-
--- src/read.rt:22:9
 returns : tie.Need-returns
-returns c = ?
+returns c = ended _ _ _ _ _ _ (absent (c .before .before .find-at .ensures) (c .if1 .taken))
 
--- src/read.rt:25:50
-slice-aggregate-counter-of : tie.Need-slice-aggregate-counter-of
-slice-aggregate-counter-of c = search needs
-
--- src/read.rt:25:9
 counter-of-requires : tie.Need-counter-of-requires
-counter-of-requires c κs = ?
+counter-of-requires c κs = block-small _
 
--- src/read.rt:26:17
 add-first : tie.Need-add-first
-add-first c = ?
+add-first c =
+    let test = c .before .before .before .before .before in
+    let (there, stands) = present (test .before .before .find-at .ensures) (test .if1 .left) in
+    omega (arith, stands .ends, test .before .before .before .before .before .good .1 .0 .0)
 
--- src/read.rt:27:15
 add-end : tie.Need-add-end
-add-end c = ?
+add-end c =
+    let test = c .before .before .before .before .before .before in
+    let (there, stands) = present (test .before .before .find-at .ensures) (test .if1 .left) in
+    omega (arith, stands .ends, test .before .before .before .before .before .good .1 .0 .0)
 
--- src/read.rt:30:9
-array-share-prefix-counter : tie.Need-array-share-prefix-counter
-array-share-prefix-counter c = search needs
-
--- src/read.rt:30:9
-slice-aggregate-run : tie.Need-slice-aggregate-run
-slice-aggregate-run c = search needs
-
--- src/read.rt:32:9
-sub-run : tie.Need-sub-run
-sub-run c = search needs
-
--- src/read.rt:32:9
-part-run-start : tie.Need-part-run-start
-part-run-start c = search needs
-
--- src/read.rt:32:9
 part-run-end : tie.Need-part-run-end
-part-run-end c = ?
+part-run-end c =
+    let test = c .before .before .before .before .before .before .before in
+    let (there, stands) = present (test .before .before .find-at .ensures) (test .if1 .left) in
+    omega (arith, stands .ends)
 
--- src/read.rt:28:9
-run-requires : tie.Need-run-requires
-run-requires c κs = search needs
-
--- src/read.rt:36:9
-same-length : tie.Need-same-length
-same-length c = search needs
-
--- src/read.rt:36:9
 returns-2 : tie.Need-returns-2
-returns-2 c = ?
+returns-2 c =
+    let call = c .before .before .before .before in
+    let counter = call .before .before .before .before .before .before .before .before in
+    let test = counter .before .before in
+    let (there, stands) = present (test .before .before .find-at .ensures) (test .if1 .left) in
+    run-refused _ _ _ _ _ _ there (rw (counter .counter-of .ensures .part, bytes-there stands) at (call .run .ensures)) (c .if2 .taken)
 
--- src/read.rt:38:9
 after-requires : tie.Need-after-requires
-after-requires c κs = ?
+after-requires c κs =
+    let test = c .before .before .before .before .before .before .before .before .before .before .before .before .before .before in
+    let (there, stands) = present (test .before .before .find-at .ensures) (test .if1 .left) in
+    movable stands (test .before .before .before .before .before .good .1 .0 .0)
 
--- src/read.rt:17:1
-same-length-2 : tie.Need-same-length-2
-same-length-2 c = search needs
-
--- src/read.rt:17:1
 returns-3 : tie.Need-returns-3
-returns-3 c = ?
+returns-3 c =
+    let call = c .before .before .before .before .before in
+    let counter = call .before .before .before .before .before .before .before .before in
+    let test = counter .before .before in
+    let (there, stands) = present (test .before .before .find-at .ensures) (test .if1 .left) in
+    run-opened _ _ _ _ _ _ there (rw (counter .counter-of .ensures .part, bytes-there stands) at (call .run .ensures)) (c .before .if2 .left) (stands .size)
+    (c .after .ensures ∙ moved stands)
 
 pub read-at-spec : {M : Type 1} → statement M
 read-at-spec =
-    tie.close
-    (tie.spec
-    find-at-requires
-    returns
-    slice-aggregate-counter-of
-    counter-of-requires
-    add-first
-    add-end
-    array-share-prefix-counter
-    slice-aggregate-run
-    sub-run
-    part-run-start
-    part-run-end
-    run-requires
-    same-length
-    returns-2
-    after-requires
-    same-length-2
-    returns-3)
+    tie.close (tie.spec (λ c κs. search needs) returns (λ c. search needs) counter-of-requires add-first add-end (λ c. search needs) (λ c. search needs)
+    (λ c. search needs) (λ c. search needs) part-run-end (λ c κs. search needs) (λ c. search needs) returns-2 after-requires (λ c. search needs) returns-3)

@@ -1,54 +1,41 @@
+-- `read::read_from_key` meets its contract: a key that is refused opens no scan; past the key's refusals the prepared key is that of the key, and holds the
+-- round keys of the definition.
+-- Assumes nothing.
+use mathlib.Core.Path.{sym, _∙_}
+use mathlib.Core.List.{List}
+use Prim.Native.Nat.{ℕ}
+use Rattle.fox_refusals.proofs.Laws.Refusals.{keyed}
+use Rattle.fox_server_key.proofs.Laws.Prepares.{from-prepared}
+use Rattle.fox_run_file.specs.Promise.{ReadsWith}
+use Rattle.fox_run_file_read.proofs.Laws.Found.{absent, present}
+use Rattle.fox_run_file_read.proofs.Laws.Opened.{ended, key-refused}
 use borrow.Author.Needs.{needs}
 use Rattle.fox_run_file_read.proofs.read.read_from_key.Statement.{statement}
 use Rattle.fox_run_file_read.proofs.read.read_from_key.Tie as tie
-use Rattle.fox_run_file_read.proofs.read.read_from_key.Reads as reads
-use Rattle.fox_run_file_read.proofs.read.read_from_key.Lts as lts
-use Rattle.fox_refusals.proofs.refusals.for_key.Reads as for-key-reads
-use Rattle.fox_run_file_read.proofs.places.find_at.Reads as find-at-reads
-use Rattle.fox_run_file_read.proofs.read.read_at.Reads as read-at-reads
-use Rattle.fox_server_key.proofs.prepared.prepare.Reads as prepare-reads
 
--- src/read.rt:54:9
-for-key-requires : tie.Need-for-key-requires
-for-key-requires c κs = search needs
-
--- src/read.rt:56:13
-find-at-requires : tie.Need-find-at-requires
-find-at-requires c κs = search needs
-
--- src/read.rt:58:13
 returns : tie.Need-returns
-returns c = ?
+returns c = ended _ _ _ _ _ _ (absent (c .before .before .find-at .ensures) (c .if2 .taken))
 
--- src/read.rt:60:9
 returns-2 : tie.Need-returns-2
-returns-2 c = ?
+returns-2 c =
+    let found = c .before .before in
+    let test = found .before in
+    let (there, stands) = present (found .find-at .ensures) (c .if2 .left) in
+    key-refused _ _ _ _ _ _ there (test .before .for-key .ensures) (test .if1 .taken)
 
--- src/read.rt:62:9
-prepare-requires : tie.Need-prepare-requires
-prepare-requires c κs = search needs
-
--- src/read.rt:64:5
-read-at-requires : tie.Need-read-at-requires
-read-at-requires c κs = search needs
-
--- src/read.rt:43:1
-same-length : tie.Need-same-length
-same-length c = search needs
-
--- src/read.rt:43:1
 returns-3 : tie.Need-returns-3
-returns-3 c = ?
+returns-3 c =
+    let call = c .before .before in
+    let made = call .before .before .before in
+    let test = made .before in
+    let a = test .before .before .before .before .before .args in
+    from-prepared
+    (λ (cipher n keyLen : ℕ) (rks : List ℕ). ReadsWith cipher n keyLen rks (a .file .now) (a .place) (a .out .now) (call .read-at .last .1 .1 .1 .0)
+    (call .read-at .result))
+    (a .cipher) (a .rounds) (a .key .now) (made .prepare .result) (keyed _ _ _ (sym (test .before .for-key .ensures) ∙ test .if1 .left))
+    (made .prepare .ensures) (call .read-at .ensures)
 
 pub read-from-key-spec : {M : Type 1} → statement M
 read-from-key-spec =
-    tie.close
-    (tie.spec
-    for-key-requires
-    find-at-requires
-    returns
-    returns-2
-    prepare-requires
-    read-at-requires
-    same-length
+    tie.close (tie.spec (λ c κs. search needs) (λ c κs. search needs) returns returns-2 (λ c κs. search needs) (λ c κs. search needs) (λ c. search needs)
     returns-3)

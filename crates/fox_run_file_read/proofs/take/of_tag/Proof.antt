@@ -1,14 +1,13 @@
 -- `take::of_tag` meets its contract: the line `close` is the file's end, so the stored tag has the cipher's size, and the test meets no refusal but that the
 -- tag differs.
 -- Assumes nothing.
-use mathlib.Core.Path.{_≡_, sym, ap}
+use mathlib.Core.Path.{sym, ap}
 use Prim.Native.Nat.{ℕ, _-_, _≤_}
 use native.Mathlib.Omega.{arith}
 use lib.ListN.{length}
 use lib.Seq.{length-take-le}
 use Rattle.fox_text.specs.Ascii.{codes, ascii}
 use Rattle.fox_run_file.specs.Format.{closeName}
-use Rattle.fox_run_file.specs.Says.{isRest}
 use Rattle.fox_run_file.proofs.Laws.Lines.{block-small}
 use Rattle.fox_run_file.proofs.Laws.Close.{closed, tag-told}
 use Rattle.fox_server_key.specs.Prepared.{roundKeysIn}

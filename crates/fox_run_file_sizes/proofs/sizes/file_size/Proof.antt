@@ -10,8 +10,7 @@ use lib.ListN.{length}
 use borrow.Author.Needs.{needs}
 use borrow.Author.Tests.{not-true, not-false}
 use Rattle.fox_text.specs.Decimal.{decimalText}
-use Rattle.fox_run_file.specs.Format.{closeName}
-use Rattle.fox_run_file.specs.Sizes.{blockLineSize, headerSize, unclosedSize, fileSize, total, anyAbove}
+use Rattle.fox_run_file.specs.Sizes.{headerSize, unclosedSize, fileSize, total, anyAbove}
 use Rattle.fox_run_file.specs.declared.sizes.Sizes.{Sizes}
 use Rattle.fox_run_file.proofs.Laws.Rest.{close-small}
 use Rattle.fox_run_file.proofs.Laws.Sizes.{header-few, scans-line-size, many-past, long-past, large-past, in-limits, sized-past, sized-in}
