@@ -12,8 +12,8 @@ use Rattle.fox_run_file.proofs.Laws.Lines.{block-small}
 use Rattle.fox_run_file.proofs.Laws.Close.{closed, tag-told}
 use Rattle.fox_server_key.specs.Prepared.{roundKeysIn}
 use borrow.Author.Needs.{needs}
-use Rattle.fox_run_file_read.proofs.take.of_tag.Statement.{statement}
-use Rattle.fox_run_file_read.proofs.take.of_tag.Tie as tie
+use Rattle.fox_run_file_take_up.proofs.take.of_tag.Statement.{statement}
+use Rattle.fox_run_file_take_up.proofs.take.of_tag.Tie as tie
 
 sub-before : tie.Need-sub-before
 sub-before c = omega (arith, closed _ _ _ (c .before .before .pre .1) .room, c .close-size .ensures)

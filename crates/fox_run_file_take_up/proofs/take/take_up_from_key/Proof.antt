@@ -7,10 +7,10 @@ use Prim.Native.Nat.{ℕ}
 use Rattle.fox_refusals.proofs.Laws.Refusals.{keyed}
 use Rattle.fox_server_key.proofs.Laws.Prepares.{from-prepared}
 use Rattle.fox_run_file.specs.Promise.{TakesUpWith}
-use Rattle.fox_run_file_read.proofs.Laws.Taken.{of-key, refused-taken}
+use Rattle.fox_run_file_take_up.proofs.Laws.Taken.{of-key, refused-taken}
 use borrow.Author.Needs.{needs}
-use Rattle.fox_run_file_read.proofs.take.take_up_from_key.Statement.{statement}
-use Rattle.fox_run_file_read.proofs.take.take_up_from_key.Tie as tie
+use Rattle.fox_run_file_take_up.proofs.take.take_up_from_key.Statement.{statement}
+use Rattle.fox_run_file_take_up.proofs.take.take_up_from_key.Tie as tie
 
 returns : tie.Need-returns
 returns c =

@@ -5,8 +5,8 @@ use Rattle.fox_refusals.specs.Refusals.{refusalOf}
 use Rattle.fox_run_file.specs.Refusals.{brokenHeader, brokenRest}
 use borrow.Author.Needs.{needs}
 use borrow.Author.Tests.{not-true, not-false}
-use Rattle.fox_run_file_read.proofs.take.of_text.Statement.{statement}
-use Rattle.fox_run_file_read.proofs.take.of_text.Tie as tie
+use Rattle.fox_run_file_take_up.proofs.take.of_text.Statement.{statement}
+use Rattle.fox_run_file_take_up.proofs.take.of_text.Tie as tie
 
 returns : tie.Need-returns
 unfolding refusalOf brokenHeader

@@ -4,10 +4,10 @@ use mathlib.Core.Path.{_≡_, sym, _∙_}
 use Rattle.fox_refusals.specs.Refusals.{refusalOf, forKey}
 use Rattle.fox_refusals.proofs.Laws.Refusals.{keyed}
 use Rattle.fox_run_file.proofs.Laws.Refusals.{few-digits}
-use Rattle.fox_run_file_read.proofs.Laws.Taken.{text, of-key, of-text, of-tag, text-right, refused-taken, served-taken}
+use Rattle.fox_run_file_take_up.proofs.Laws.Taken.{text, of-key, of-text, of-tag, text-right, refused-taken, served-taken}
 use borrow.Author.Needs.{needs}
-use Rattle.fox_run_file_read.proofs.take.take_up.Statement.{statement}
-use Rattle.fox_run_file_read.proofs.take.take_up.Tie as tie
+use Rattle.fox_run_file_take_up.proofs.take.take_up.Statement.{statement}
+use Rattle.fox_run_file_take_up.proofs.take.take_up.Tie as tie
 
 -- past the key's tests, and past those of the text
 

@@ -2,8 +2,8 @@
 -- Assumes nothing.
 use mathlib.Core.Path.{refl}
 use Rattle.fox_run_file.specs.Places.{noPlace}
-use Rattle.fox_run_file_read.proofs.take.refused.Statement.{statement}
-use Rattle.fox_run_file_read.proofs.take.refused.Tie as tie
+use Rattle.fox_run_file_take_up.proofs.take.refused.Statement.{statement}
+use Rattle.fox_run_file_take_up.proofs.take.refused.Tie as tie
 
 returns : tie.Need-returns
 unfolding noPlace

@@ -3,8 +3,8 @@
 use mathlib.Core.Path.{refl}
 use Rattle.fox_run_file.specs.Places.{firstPlace}
 use borrow.Author.Needs.{needs}
-use Rattle.fox_run_file_read.proofs.take.taken.Statement.{statement}
-use Rattle.fox_run_file_read.proofs.take.taken.Tie as tie
+use Rattle.fox_run_file_take_up.proofs.take.taken.Statement.{statement}
+use Rattle.fox_run_file_take_up.proofs.take.taken.Tie as tie
 
 returns : tie.Need-returns
 unfolding firstPlace
