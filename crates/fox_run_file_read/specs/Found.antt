@@ -19,6 +19,10 @@ pub record Stands (file : List ℕ) (place : Place) (s : Scan) : Type 0 where
   pub few : place .scans < 65535
   pub early : place .offset ≤ 1073741824
 
+-- the place after it
+abbrev pub movedOn : Place → Scan → Place
+movedOn place s = record { at = place .at + s .head + s .size + 1; scans = place .scans + 1; offset = place .offset + s .size }
+
 -- whether one stands there, and then what holds of it
 pub record FindsAt (file : List ℕ) (place : Place) (r : Scan) : Type 0 where
   pub whole : r .whole ≡ atScan file place

@@ -18,10 +18,10 @@ use Rattle.fox_text.specs.Fields.{decimalLineText}
 use Rattle.fox_text.proofs.Laws.Tests.{by-test}
 use Rattle.fox_text.proofs.Laws.Lines.{from-here}
 use Rattle.fox_run_file.specs.Format.{formatText, counterName, scanName, bytesName, scansName, closeName, keyLines, scanHead}
-use Rattle.fox_tag.proofs.Laws.Parts.{size-most}
 use Rattle.fox_run_file.specs.Sizes.{blockLineSize, headerSize, scanSize, scansSize, unclosedSize, fileSize, total, anyAbove, pastLimit}
 use Rattle.fox_run_file.specs.Parts.{Sized}
 use Rattle.fox_run_file.specs.declared.sizes.Sizes.{Sizes}
+use Rattle.fox_run_file.proofs.Laws.Lines.{block-small}
 
 -- digits
 
@@ -77,10 +77,7 @@ pub decimal-few : (n : ℕ) → length (decimalText n) ≤ 5
 decimal-few n = digits-few 5 n
 
 pub header-few : (cipher rounds : ℕ) → headerSize cipher rounds ≤ 78
-header-few cipher rounds = omega (arith, header-line-sizes cipher rounds, decimal-few cipher, decimal-few rounds, size-most cipher)
-
-pub close-few : (cipher : ℕ) → blockLineSize closeName cipher ≤ 39
-close-few cipher = omega (arith, close-line-size cipher, size-most cipher)
+header-few cipher rounds = omega (arith, header-line-sizes cipher rounds, decimal-few cipher, decimal-few rounds, block-small cipher)
 
 pub scan-few : (number size : ℕ) → size ≤ 65536 → scanSize number size ≤ 65560
 scan-few number size h = omega (arith, scan-line-sizes number size, decimal-few number, decimal-few size)
