@@ -22,6 +22,7 @@ use Rattle.fox_run_file_place.specs.Laid.{Laid, Room}
 use Rattle.fox_run_file_place.proofs.Laws.Laid.{put-laid, laid-then}
 use Rattle.fox_run_file_write.specs.Ready.{FileRoom}
 
+-- a block has at least 8 bytes
 block-low : (cipher : ℕ) → 8 ≤ blockSize cipher
 unfolding blockSize
 block-low cipher = low (eqb cipher 64)
