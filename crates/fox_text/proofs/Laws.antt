@@ -9,3 +9,4 @@ pub mod Prefixes
 pub mod Written
 pub mod Values
 pub mod Texts
+pub mod TextsAgain

@@ -4,7 +4,7 @@
 use mathlib.Core.Path.{_≡_, refl, sym, ap, _∙_}
 use mathlib.Core.Bool.{true, _&&_}
 use mathlib.Core.List.{List}
-use Prim.Native.Nat.{ℕ, zero, suc, _+_, _-_, _*_, _≤_}
+use Prim.Native.Nat.{ℕ, zero, suc, _+_, _-_, _≤_}
 use native.Mathlib.Omega.{arith}
 use lib.Dec.{eqb, leb}
 use lib.ListN.{length, drop, length-append, length-drop}
@@ -22,7 +22,7 @@ use Rattle.fox_text.proofs.Laws.Pairs.{length-hex-text}
 use Rattle.fox_text.proofs.Laws.Values.{pairs-line-again}
 use Rattle.fox_run_file.specs.Format.{scansName, closeName}
 use Rattle.fox_run_file.specs.Sizes.{headerSize, blockLineSize}
-use Rattle.fox_run_file.specs.Says.{isBlockLine, headIn, sizeIn, isScan, fromBytes, afterScan, afterScans, closeText, isEnd, scansFrom, scansOf, signed, isRest}
+use Rattle.fox_run_file.specs.Says.{isBlockLine, headIn, sizeIn, isScan, afterScan, afterScans, closeText, isEnd, scansFrom, scansOf, signed, isRest}
 
 -- u is an end of t
 record Tail (t u : List ℕ) : Type 0 where

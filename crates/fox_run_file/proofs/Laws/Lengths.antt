@@ -2,12 +2,12 @@
 -- the sum of theirs; the key stream leaves the length of a scan as it is. And data cut into scans of given lengths has scans of these lengths.
 -- Assumes nothing.
 use mathlib.Core.Path.{_≡_, refl, ap, _∙_}
-use mathlib.Core.Bool.{Bool, true, false, _||_, true≢false}
+use mathlib.Core.Bool.{false, _||_, true≢false}
 use mathlib.Core.List.{List, [], _∷_, _++_, flatten}
-use Prim.Native.Nat.{ℕ, suc, _+_, _≤_}
+use Prim.Native.Nat.{ℕ, zero, suc, _+_, _≤_, _<_}
 use native.Mathlib.Omega.{arith}
 use lib.Dec.{ltb}
-use lib.ListN.{length, drop, length-append, length-drop, take-append-drop}
+use lib.ListN.{length, drop, getD, length-append, length-drop, take-append-drop}
 use lib.Seq.{length-take-le}
 use borrow.Author.Tests.{ltb-false}
 use Rattle.fox_refusals.specs.Refusals.{blockSize}
@@ -17,12 +17,12 @@ use Rattle.fox_run.proofs.Laws.Served.{length-runWith}
 use Rattle.fox_tag.specs.Tag.{tagWith}
 use Rattle.fox_tag.proofs.Tags.{length-tag}
 use Rattle.fox_text.specs.Fields.{decimalLineText, pairsLineText}
-use Rattle.fox_text.proofs.Laws.Tests.{by-test}
+use Rattle.fox_text.proofs.Laws.Tests.{neither, by-test}
 use Rattle.fox_text.proofs.Laws.Texts.{length-pairs-text}
 use Rattle.fox_run_file.specs.Format.{counterName, scansName, closeName, keyLines, headerText, scanHead, scanText, scansText, unclosed, closedBy}
 use Rattle.fox_run_file.specs.Format.{fileOf, turnedScans, runFile, cutBy}
 use Rattle.fox_run_file.specs.Sizes.{blockLineSize, headerSize, scanSize, scansSize, unclosedSize, fileSize, total, anyAbove, pastLimit}
-use Rattle.fox_run_file.specs.Values.{sizesOf}
+use Rattle.fox_run_file.specs.Values.{sizesOf, offsetOf}
 
 -- lines and texts
 
@@ -119,10 +119,6 @@ pub record Limits (cipher rounds : ℕ) (sizes : List ℕ) : Type 0 where
   pub each : anyAbove 65536 sizes ≡ false
   pub all : unclosedSize cipher rounds sizes ≤ 1073741824
 
-neither : (a b : Bool) → (a || b) ≡ false → (a ≡ false) × (b ≡ false)
-neither true b e = absurd (true≢false e)
-neither false b e = (refl, e)
-
 pub limits : (cipher rounds : ℕ) (sizes : List ℕ) → pastLimit cipher rounds sizes ≡ false → Limits cipher rounds sizes
 unfolding pastLimit
 limits cipher rounds sizes e =
@@ -134,3 +130,32 @@ limits cipher rounds sizes e =
 pub first-small : (limit n : ℕ) (ns : List ℕ) → anyAbove limit (n ∷ ns) ≡ false → (n ≤ limit) × (anyAbove limit ns ≡ false)
 unfolding anyAbove
 first-small limit n ns e = by-test (ltb limit n) (λ t. absurd (true≢false (rw t at e))) (λ t. (ltb-false limit n t, rw t at e))
+
+-- the bytes of the scans are among those before the line `close`
+total-scans : (n : ℕ) (sizes : List ℕ) → total sizes ≤ scansSize n sizes
+unfolding total scansSize scanSize
+total-scans n [] = omega arith
+total-scans n (s ∷ ss) = omega (arith, total-scans (suc n) ss)
+
+-- a scan is as long as its entry among the lengths, and ends within all of them
+pub size-at : (k : ℕ) (ss : List (List ℕ)) → length (getD ss k []) ≡ getD (sizesOf ss) k 0
+unfolding sizesOf
+size-at k [] = refl
+size-at zero (s ∷ ss) = refl
+size-at (suc k) (s ∷ ss) = size-at k ss
+
+pub scan-small : (limit k : ℕ) (ss : List (List ℕ)) → anyAbove limit (sizesOf ss) ≡ false → length (getD ss k []) ≤ limit
+unfolding sizesOf
+scan-small limit k [] e = omega arith
+scan-small limit zero (s ∷ ss) e = first-small limit (length s) (sizesOf ss) e .0
+scan-small limit (suc k) (s ∷ ss) e = scan-small limit k ss (first-small limit (length s) (sizesOf ss) e .1)
+
+pub scan-within : (k : ℕ) (ss : List (List ℕ)) → k < length ss → offsetOf k ss + length (getD ss k []) ≤ total (sizesOf ss)
+unfolding sizesOf offsetOf total
+scan-within k [] h = absurd (omega arith)
+scan-within zero (s ∷ ss) h = omega arith
+scan-within (suc k) (s ∷ ss) h = omega (arith, scan-within k ss (omega arith))
+
+pub total-within : (cipher rounds : ℕ) (sizes : List ℕ) → total sizes ≤ unclosedSize cipher rounds sizes
+unfolding unclosedSize
+total-within cipher rounds sizes = omega (arith, total-scans 0 sizes)

@@ -2,7 +2,7 @@
 -- refusal. A list's number is 0 only where each of its tests is false, and so is that of its first part.
 -- Assumes nothing.
 use mathlib.Core.Path.{_≡_, refl, sym, _∙_}
-use mathlib.Core.Bool.{Bool, true, false, cond, not, _||_, true≢false}
+use mathlib.Core.Bool.{true, false, cond}
 use mathlib.Core.List.{List, [], _∷_, _++_}
 use mathlib.Core.Logic.{⊎-elim}
 use Prim.Native.Nat.{ℕ, _≤_, _<_}
@@ -10,7 +10,7 @@ use native.Mathlib.Omega.{arith}
 use lib.Dec.{eqb}
 use Rattle.fox_refusals.specs.declared.answer.Answer.{Answer}
 use Rattle.fox_refusals.proofs.Laws.Reply.{chosen, passed-over}
-use Rattle.fox_text.proofs.Laws.Tests.{by-test}
+use Rattle.fox_text.proofs.Laws.Tests.{by-test, neither}
 use borrow.Author.Tests.{ltb-false, eqb-true, not-false}
 use Rattle.fox_refusals.specs.Refusals.{Refusal, refusalOf, differs, blockSize, wrongCipher, wrongRounds, longKey, wrongBlockLength, forKey, Keyed}
 use Rattle.fox_refusals.proofs.Laws.Refusals.{Passed, numbered, passed-served, served-passed, keyed}
@@ -54,10 +54,6 @@ passed-front (x ∷ xs) ys p = (p .0, passed-front xs ys (p .1))
 
 pub front-served : (xs ys : List Refusal) → numbered (xs ++ ys) ≡ true → refusalOf (xs ++ ys) ≡ 0 → refusalOf xs ≡ 0
 front-served xs ys some e = passed-served xs (passed-front xs ys (served-passed (xs ++ ys) some e))
-
-neither : (a b : Bool) → (a || b) ≡ false → (a ≡ false) × (b ≡ false)
-neither true b e = absurd (true≢false e)
-neither false b e = (refl, e)
 
 -- what holds where a call that writes a file meets no refusal
 pub record Writable (c r k b d : ℕ) (sizes : List ℕ) (o : ℕ) : Type 0 where

@@ -4,7 +4,7 @@
 use mathlib.Core.Path.{_≡_, refl, sym, _∙_}
 use mathlib.Core.Bool.{true, false}
 use mathlib.Core.List.{List, [], _∷_, _++_, append-nil, append-assoc}
-use Prim.Native.Nat.{ℕ, zero, suc, _≤_}
+use Prim.Native.Nat.{ℕ, zero, suc, _-_, _≤_}
 use native.Mathlib.Omega.{arith}
 use lib.ListN.{length, length-append}
 use lib.Seq.{take-append-seam, drop-append-seam}
@@ -16,12 +16,12 @@ use Rattle.fox_text.specs.Fields.{decimalLineText, pairsLineText}
 use Rattle.fox_text.proofs.Laws.Written.{Plain, drop-written}
 use Rattle.fox_text.proofs.Laws.Values.{starts-written}
 use Rattle.fox_text.proofs.Laws.Texts.{end-decimal-text, right-decimal-text, read-decimal-text, after-pairs-text, right-pairs-text, read-pairs-text}
-use Rattle.fox_run_file.specs.Format.{counterName, scanName, bytesName, scansName, closeName, scanHead, scanText, scansText}
-use Rattle.fox_run_file.specs.Sizes.{anyAbove}
+use Rattle.fox_run_file.specs.Format.{counterName, scanName, bytesName, scansName, closeName, scanHead, scanText, scansText, closedBy}
+use Rattle.fox_run_file.specs.Sizes.{blockLineSize, anyAbove}
 use Rattle.fox_run_file.specs.Says.{isBlockLine, blockIn, bytesText, sizeIn, headIn, fromBytes, isScan, bytesIn, afterScan, scansIn, afterScans}
-use Rattle.fox_run_file.specs.Says.{isEnd}
+use Rattle.fox_run_file.specs.Says.{isEnd, signed, closeIn}
 use Rattle.fox_run_file.specs.Values.{sizesOf}
-use Rattle.fox_run_file.proofs.Laws.Lengths.{first-small}
+use Rattle.fox_run_file.proofs.Laws.Lengths.{length-block-line, first-small}
 
 -- names have no line feed
 
@@ -118,6 +118,23 @@ end-right cipher n tag size bytes =
       block-right closeName cipher tag [] close-plain size bytes,
       after-pairs-text closeName tag [] close-plain bytes,
     )
+
+-- any text that was closed by a block: its end is found from behind
+
+module _ (cipher : ℕ) (tag text : List ℕ) (size : length tag ≡ blockSize cipher) where
+  close-place : length (closedBy tag text) - blockLineSize closeName cipher ≡ length text
+  unfolding closedBy
+  close-place = omega (arith, length-append text (pairsLineText closeName tag), length-block-line closeName cipher tag size)
+
+  pub closed-signed : signed cipher (closedBy tag text) ≡ text
+  unfolding signed closedBy
+  closed-signed = rw close-place (take-append-seam text (pairsLineText closeName tag))
+
+  pub closed-tag : Bytes tag → closeIn cipher (closedBy tag text) ≡ tag
+  unfolding closeIn closedBy
+  closed-tag bytes =
+      let close = pairsLineText closeName tag in
+      rw (close-place, drop-append-seam text close, ← append-nil close) (block-read closeName cipher tag [] close-plain size bytes)
 
 -- scans one after the other are read, and passed, where what comes after them begins with no scan
 pub scans-read : (rest : List ℕ) → ((n : ℕ) → isScan n rest ≡ false) → (most n : ℕ) (ss : List (List ℕ)) → length ss ≤ most
