@@ -22,6 +22,7 @@ use Rattle.fox_run_file_place.specs.Laid.{Laid, Room}
 use Rattle.fox_run_file_place.proofs.Laws.Laid.{put-laid, laid-then}
 use Rattle.fox_run_file_write.specs.Ready.{FileRoom}
 
+-- a block has at least 8 bytes
 block-low : (cipher : ℕ) → 8 ≤ blockSize cipher
 unfolding blockSize
 block-low cipher = low (eqb cipher 64)
@@ -33,7 +34,8 @@ block-low cipher = low (eqb cipher 64)
 module _ {cipher rounds from : ℕ} {counter sizes out : List ℕ} (room : FileRoom cipher rounds counter from sizes out) where
   -- the sizes that the places below go by
   record Parts : Type 0 where
-    pub whole : from + total sizes ≡ headerSize cipher rounds + scansSize 0 sizes + length (decimalLineText scansName (length sizes)) + blockLineSize closeName cipher
+    pub whole : from + total sizes
+        ≡ headerSize cipher rounds + scansSize 0 sizes + length (decimalLineText scansName (length sizes)) + blockLineSize closeName cipher
     pub within : from + total sizes ≤ length out
     pub bytes : total sizes ≤ scansSize 0 sizes
     pub header : 52 ≤ headerSize cipher rounds

@@ -1,4 +1,4 @@
--- `writing::put_unclosed` meets its contract: header, scans and their number, one after the other.
+-- `write::put_unclosed` meets its contract: header, scans and their number, one after the other.
 -- Assumes nothing.
 use native.Mathlib.Omega.{arith}
 use Rattle.fox_text.specs.Ascii.{codes, ascii}
@@ -6,8 +6,8 @@ use Rattle.fox_run_file.specs.Format.{counterName, scansName}
 use Rattle.fox_run_file_write.proofs.Laws.Unclosed.{key-room, counter-room, scans-room, number-room, unclosed-laid}
 use Rattle.fox_run_file.proofs.Laws.Lengths.{limits}
 use borrow.Author.Needs.{needs}
-use Rattle.fox_run_file_write.proofs.writing.put_unclosed.Statement.{statement}
-use Rattle.fox_run_file_write.proofs.writing.put_unclosed.Tie as tie
+use Rattle.fox_run_file_write.proofs.write.put_unclosed.Statement.{statement}
+use Rattle.fox_run_file_write.proofs.write.put_unclosed.Tie as tie
 
 put-key-lines-requires : tie.Need-put-key-lines-requires
 put-key-lines-requires c κs = key-room (c .before .before .before .before .pre)

@@ -1,4 +1,4 @@
--- `writing::put_tag` meets its contract: the tag of the text before the line is made, since no refusal applies, and is put into it.
+-- `write::put_tag` meets its contract: the tag of the text before the line is made, since no refusal applies, and is put into it.
 -- Assumes nothing.
 use mathlib.Core.Path.{_≡_, sym}
 use Prim.Native.Nat.{_≤_}
@@ -11,8 +11,8 @@ use Rattle.fox_text.specs.Ascii.{codes, ascii}
 use Rattle.fox_run_file.specs.Format.{closeName}
 use Rattle.fox_run_file.specs.Sizes.{blockLineSize}
 use borrow.Author.Needs.{needs}
-use Rattle.fox_run_file_write.proofs.writing.put_tag.Statement.{statement}
-use Rattle.fox_run_file_write.proofs.writing.put_tag.Tie as tie
+use Rattle.fox_run_file_write.proofs.write.put_tag.Statement.{statement}
+use Rattle.fox_run_file_write.proofs.write.put_tag.Tie as tie
 
 slice-aggregate-make : tie.Need-slice-aggregate-make
 slice-aggregate-make c = sym (length-take-le _ _ (search needs))

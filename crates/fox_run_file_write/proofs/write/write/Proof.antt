@@ -1,12 +1,12 @@
--- `writing::write` meets its contract: a refused call returns the first refusal that applies and writes nothing; past the refusals the file is written, and its
+-- `write::write` meets its contract: a refused call returns the first refusal that applies and writes nothing; past the refusals the file is written, and its
 -- length is the count.
 -- Assumes nothing.
 use mathlib.Core.Path.{sym, _∙_}
 use Rattle.fox_run_file.proofs.Laws.Writes.{refused-writes, served-writes}
 use Rattle.fox_run_file_write.proofs.Laws.File.{to-write}
 use borrow.Author.Needs.{needs}
-use Rattle.fox_run_file_write.proofs.writing.write.Statement.{statement}
-use Rattle.fox_run_file_write.proofs.writing.write.Tie as tie
+use Rattle.fox_run_file_write.proofs.write.write.Statement.{statement}
+use Rattle.fox_run_file_write.proofs.write.write.Tie as tie
 
 returns : tie.Need-returns
 returns c =

@@ -1,10 +1,10 @@
--- `writing::put_file` meets its contract: the data is sealed into the end of the file's room, and the file's text is laid over it up to its end.
+-- `write::put_file` meets its contract: the data is sealed into the end of the file's room, and the file's text is laid over it up to its end.
 -- Assumes nothing.
 use Rattle.fox_server_key.specs.Prepared.{roundKeysIn}
 use Rattle.fox_run_file_write.proofs.Laws.File.{input-within, sealed-ready, file-room, close-room, file-put}
 use borrow.Author.Needs.{needs}
-use Rattle.fox_run_file_write.proofs.writing.put_file.Statement.{statement}
-use Rattle.fox_run_file_write.proofs.writing.put_file.Tie as tie
+use Rattle.fox_run_file_write.proofs.write.put_file.Statement.{statement}
+use Rattle.fox_run_file_write.proofs.write.put_file.Tie as tie
 
 sub-from : tie.Need-sub-from
 sub-from c = input-within (c .before .before .before .before .pre)

@@ -1,4 +1,4 @@
--- `writing::write_from_key` meets its contract: the refusals are those of the key bytes; past them the prepared key is that of the key, and holds the round
+-- `write::write_from_key` meets its contract: the refusals are those of the key bytes; past them the prepared key is that of the key, and holds the round
 -- keys of the definition.
 -- Assumes nothing.
 use mathlib.Core.Path.{sym, _∙_}
@@ -6,8 +6,8 @@ use Rattle.fox_run_file.proofs.Laws.Refusals.{writable}
 use Rattle.fox_run_file.proofs.Laws.Writes.{refused-writes}
 use Rattle.fox_run_file_write.proofs.ByPrepared.{write-prepared}
 use borrow.Author.Needs.{needs}
-use Rattle.fox_run_file_write.proofs.writing.write_from_key.Statement.{statement}
-use Rattle.fox_run_file_write.proofs.writing.write_from_key.Tie as tie
+use Rattle.fox_run_file_write.proofs.write.write_from_key.Statement.{statement}
+use Rattle.fox_run_file_write.proofs.write.write_from_key.Tie as tie
 
 returns : tie.Need-returns
 returns c =

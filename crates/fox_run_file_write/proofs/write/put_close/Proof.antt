@@ -1,12 +1,12 @@
--- `writing::put_close` meets its contract: the room that it passes for the tag is one block.
+-- `write::put_close` meets its contract: the room that it passes for the tag is one block.
 -- Assumes nothing.
 use mathlib.Core.Path.{sym, _∙_}
 use native.Mathlib.Omega.{arith}
 use lib.Seq.{length-take-le}
 use Rattle.fox_tag.proofs.Laws.Parts.{size-most}
 use borrow.Author.Needs.{needs}
-use Rattle.fox_run_file_write.proofs.writing.put_close.Statement.{statement}
-use Rattle.fox_run_file_write.proofs.writing.put_close.Tie as tie
+use Rattle.fox_run_file_write.proofs.write.put_close.Statement.{statement}
+use Rattle.fox_run_file_write.proofs.write.put_close.Tie as tie
 
 array-borrow-prefix-tag : tie.Need-array-borrow-prefix-tag
 array-borrow-prefix-tag c =
