@@ -1,4 +1,5 @@
--- Lengths: of a decimal by its value, of a line, of the header, of a scan, and of the scans that are left, one scan further, as a loop goes over them.
+-- Lengths: of a decimal by its value, of lines, of the header and of a scan; of the scans that are left, one scan further, as a loop goes over them; and what
+-- the limits on them tell.
 -- Assumes nothing.
 use mathlib.Core.Path.{_≡_, sym, ap, _∙_}
 use mathlib.Core.Bool.{true, false, cond, _||_, or-true}
