@@ -62,13 +62,11 @@ close-line-size cipher = omega arith
 pub header-line-sizes : (cipher rounds : ℕ)
     → headerSize cipher rounds ≡ 36 + length (decimalText cipher) + length (decimalText rounds) + 2 * blockSize cipher
 unfolding headerSize keyLines blockLineSize formatText cipherName roundsName counterName ascii codes
-header-line-sizes cipher rounds =
-    simp (length-append, decimal-line-size) (omega arith)
+header-line-sizes cipher rounds = simp (length-append, decimal-line-size) (omega arith)
 
 pub scan-line-sizes : (number size : ℕ) → scanSize number size ≡ 14 + length (decimalText number) + length (decimalText size) + size
 unfolding scanSize scanHead scanName bytesName ascii codes
-scan-line-sizes number size =
-    simp (length-append, decimal-line-size) (omega arith)
+scan-line-sizes number size = simp (length-append, decimal-line-size) (omega arith)
 
 pub scans-line-size : (number : ℕ) → length (decimalLineText scansName number) ≡ 7 + length (decimalText number)
 unfolding scansName ascii codes
