@@ -7,7 +7,7 @@ use mathlib.Core.List.{List, [], _∷_}
 use Prim.Native.Nat.{ℕ, zero, suc, _+_, _-_, _≤_, _<_}
 use native.Mathlib.Numerals.{add-one}
 use native.Mathlib.Omega.{arith}
-use lib.ListN.{length, drop, length-drop}
+use lib.ListN.{length, take, drop, length-drop}
 use lib.Seq.{length-take-le, drop-drop}
 use Rattle.fox_text.specs.Ascii.{startsWith}
 use Rattle.fox_text.specs.Lines.{line, lineEnd}
@@ -33,6 +33,10 @@ pub size-small : (number : ℕ) (t : List ℕ) → sizeIn number t ≤ 65536
 unfolding sizeIn
 size-small number t = decimal-small 65536 bytesName (line (bytesText number t))
 
+-- what is returned where there is no whole scan
+abbrev pub none : Scan
+none = record { whole = false; head = 0; size = 0 }
+
 module _ (number : ℕ) (t : List ℕ) where
   pub scan-fits : isScan number t ≡ true → headIn number t + suc (sizeIn number t) ≤ length t
   unfolding isScan
@@ -51,7 +55,7 @@ module _ (number : ℕ) (t : List ℕ) where
 
   -- what looking for a scan returns
 
-  no-scan : isScan number t ≡ false → FindsScan number t (record { whole = false; head = 0; size = 0 })
+  no-scan : isScan number t ≡ false → FindsScan number t none
   no-scan e =
       record {
         whole = sym e;
@@ -83,19 +87,19 @@ pub record Settled (number : ℕ) (t : List ℕ) (feed : Bool) (h s : ℕ) : Typ
   pub size : s ≡ sizeIn number t
 
 pub feed-missing : {number : ℕ} {t : List ℕ} {feed : Bool} {h s : ℕ} → Settled number t feed h s → feed ≡ false
-    → FindsScan number t (record { whole = false; head = 0; size = 0 })
-feed-missing {number} {t} by none = no-scan number t (sym (by .is) ∙ none)
+    → FindsScan number t none
+feed-missing {number} {t} by e = no-scan number t (sym (by .is) ∙ e)
 
 pub feed-there : {number : ℕ} {t : List ℕ} {feed : Bool} {h s : ℕ} → Settled number t feed h s → feed ≡ true
     → FindsScan number t (record { whole = true; head = h; size = s })
-feed-there {number} {t} by there = found-scan number t (sym (by .is) ∙ there) (by .head) (by .size)
+feed-there {number} {t} by e = found-scan number t (sym (by .is) ∙ e) (by .head) (by .size)
 
 -- a scan looked for step by step: its first line, its second line, and the line feed after its bytes
 
 pub first-missing : (number : ℕ) (t : List ℕ) {n : ℕ} → FindsLine scanName number t n → n ≡ 0
-    → FindsScan number t (record { whole = false; head = 0; size = 0 })
+    → FindsScan number t none
 unfolding isScan
-first-missing number t first none = no-scan number t (rw (line-missing scanName number t first none))
+first-missing number t first e = no-scan number t (rw (line-missing scanName number t first e))
 
 module _ (number : ℕ) (t : List ℕ) {n : ℕ} {second : List ℕ} {d : Decimal} (first : FindsLine scanName number t n) (some : n ≡ 0 → ⊥)
     (is-second : second ≡ drop n t)
@@ -103,7 +107,7 @@ module _ (number : ℕ) (t : List ℕ) {n : ℕ} {second : List ℕ} {d : Decima
   second-text : second ≡ bytesText number t
   second-text = is-second ∙ rw (line-there scanName number t first some .1)
 
-  pub second-missing : d .right ≡ false → FindsScan number t (record { whole = false; head = 0; size = 0 })
+  pub second-missing : d .right ≡ false → FindsScan number t none
   unfolding isScan
   second-missing wrong = no-scan number t (rw (line-there scanName number t first some .0, ← second-text, ← read .right, wrong))
 
@@ -116,16 +120,26 @@ module _ (number : ℕ) (t : List ℕ) {n : ℕ} {second : List ℕ} {d : Decima
       let size : d .value ≡ sizeIn number t = rw second-text at (read .value) in
       record { is = is-feed ∙ rw (is-after, is-bytes, head, size, starts, ← second-text, ← read .right, right); head = head; size = size }
 
--- a whole scan that was found in a file at a place: the place after it
-pub after-found : (file : List ℕ) (at : ℕ) {number : ℕ} {r : Scan} → FindsScan number (drop at file) r → r .whole ≡ true
-    → afterScan number (drop at file) ≡ drop (at + r .head + r .size + 1) file
-unfolding afterScan
-after-found file at {number} {r} found whole =
-    let e = sym (found .whole) ∙ whole in
-    let head = rw e at (found .head) in
-    let size = rw e at (found .size) in
-    let next : at + r .head + suc (r .size) ≡ at + r .head + r .size + 1 = omega arith in
-    rw (← head, ← size, drop-drop (r .head) at file, drop-drop (suc (r .size)) (at + r .head) file, next)
+-- a whole scan that was found in a file at a place: its head and its size, its bytes, and what comes after it
+module _ (file : List ℕ) (at : ℕ) {number : ℕ} {r : Scan} (found : FindsScan number (drop at file) r) (whole : r .whole ≡ true) where
+  pub found-is : isScan number (drop at file) ≡ true
+  found-is = sym (found .whole) ∙ whole
+
+  pub found-head : r .head ≡ headIn number (drop at file)
+  found-head = rw found-is at (found .head)
+
+  pub found-size : r .size ≡ sizeIn number (drop at file)
+  found-size = rw found-is at (found .size)
+
+  pub bytes-found : bytesIn number (drop at file) ≡ take (r .size) (drop (at + r .head) file)
+  unfolding bytesIn
+  bytes-found = rw (← found-head, ← found-size, drop-drop (r .head) at file)
+
+  pub after-found : afterScan number (drop at file) ≡ drop (at + r .head + r .size + 1) file
+  unfolding afterScan
+  after-found =
+      let next : at + r .head + suc (r .size) ≡ at + r .head + r .size + 1 = omega arith in
+      rw (← found-head, ← found-size, drop-drop (r .head) at file, drop-drop (suc (r .size)) (at + r .head) file, next)
 
 -- n whole scans, of at most so many at the start of a text, were passed over, and this is left
 pub record Passed (most : ℕ) (t : List ℕ) (n : ℕ) (left : List ℕ) : Type 0 where

@@ -11,15 +11,15 @@ add-if1 : tie.Need-add-if1
 add-if1 c = omega (arith, close-small (c .before .args .cipher))
 
 returns : tie.Need-returns
-returns c = sym (past-limit _ _ _ (rw (c .before .before .pre .1) at (c .if1 .taken)))
+returns c = sym (past-limit _ _ _ (omega (arith, c .before .before .pre .1)))
 
 returns-2 : tie.Need-returns-2
 returns-2 c =
     let text = c .before .before in
     let passed = text .before in
     let start = passed .before .before .before in
-    c .end-fits .ensures ∙ rw (text .rest .ensures)
-    (within-limit _ _ _ (rw (start .pre .1) at (passed .before .if1 .left)) (rw (start .pre .0) at (passed .pass-scans .ensures)))
+    let all = rw (start .pre .0) at (passed .pass-scans .ensures) in
+    c .end-fits .ensures ∙ rw (text .rest .ensures) (within-limit _ _ _ (omega (arith, passed .before .if1 .left, start .pre .1)) all)
 
 pub rest-fits-spec : {M : Type 1} → statement M
 rest-fits-spec =
