@@ -44,11 +44,11 @@ pub(crate) fn after(place: Place, s: Scan) -> Place
 pub fn next_at(file: &[u8], place: Place) -> Next
     ensures { λ r. ⌜ r ≡ nextAt (now (file .entry)) place ⌝ }
 {
-    let s = find_at(file, place);
-    if !s.whole {
+    let next = find_at(file, place);
+    if !next.whole {
         return Next::End;
     }
-    Next::Scan(s.size)
+    Next::Scan(next.size)
 }
 
 pub fn pass_over(file: &[u8], place: Place) -> Place

@@ -1,4 +1,5 @@
--- Lengths: of a decimal by its value, of a line, of the header, of a scan, and of the scans that are left, one scan further, as a loop goes over them.
+-- Lengths: of a decimal by its value, of lines, of the header and of a scan; of the scans that are left, one scan further, as a loop goes over them; and what
+-- the limits on them tell.
 -- Assumes nothing.
 use mathlib.Core.Path.{_≡_, sym, ap, _∙_}
 use mathlib.Core.Bool.{true, false, cond, _||_, or-true}
@@ -61,13 +62,11 @@ close-line-size cipher = omega arith
 pub header-line-sizes : (cipher rounds : ℕ)
     → headerSize cipher rounds ≡ 36 + length (decimalText cipher) + length (decimalText rounds) + 2 * blockSize cipher
 unfolding headerSize keyLines blockLineSize formatText cipherName roundsName counterName ascii codes
-header-line-sizes cipher rounds =
-    simp (length-append, decimal-line-size) (omega arith)
+header-line-sizes cipher rounds = simp (length-append, decimal-line-size) (omega arith)
 
 pub scan-line-sizes : (number size : ℕ) → scanSize number size ≡ 14 + length (decimalText number) + length (decimalText size) + size
 unfolding scanSize scanHead scanName bytesName ascii codes
-scan-line-sizes number size =
-    simp (length-append, decimal-line-size) (omega arith)
+scan-line-sizes number size = simp (length-append, decimal-line-size) (omega arith)
 
 pub scans-line-size : (number : ℕ) → length (decimalLineText scansName number) ≡ 7 + length (decimalText number)
 unfolding scansName ascii codes

@@ -12,21 +12,22 @@ use borrow.Author.Tests.{lt-ltb, le-ltb, le-leb, lt-leb, not-true, not-false}
 use Rattle.fox_run_file.specs.declared.place.Place.{Place}
 use Rattle.fox_run_file.specs.declared.scan.Scan.{Scan}
 use Rattle.fox_run_file.specs.Says.{isScan, headIn}
-use Rattle.fox_run_file.specs.Places.{atScan, sizeAt, placeAfter}
+use Rattle.fox_run_file.specs.Places.{atScan, sizeAt, bytesAt, placeAfter}
 use Rattle.fox_run_file.specs.Parts.{FindsScan}
+use Rattle.fox_run_file.proofs.Laws.Scan.{none, found-head, found-size, bytes-found}
 use Rattle.fox_run_file_read.specs.Found.{Stands, movedOn, FindsAt}
 
 module _ (file : List ℕ) (place : Place) where
-  none : atScan file place ≡ false → FindsAt file place (record { whole = false; head = 0; size = 0 })
-  none e = record { whole = sym e; stands = λ p. absurd (true≢false (sym p)) }
+  not-there : atScan file place ≡ false → FindsAt file place none
+  not-there e = record { whole = sym e; stands = λ p. absurd (true≢false (sym p)) }
 
-  pub none-many : 65535 ≤ place .scans → FindsAt file place (record { whole = false; head = 0; size = 0 })
+  pub none-many : 65535 ≤ place .scans → FindsAt file place none
   unfolding atScan
-  none-many h = none (rw (le-ltb (place .scans) 65535 h))
+  none-many h = not-there (rw (le-ltb (place .scans) 65535 h))
 
-  pub none-late : 1073741824 < place .offset → FindsAt file place (record { whole = false; head = 0; size = 0 })
+  pub none-late : 1073741824 < place .offset → FindsAt file place none
   unfolding atScan
-  none-late h = none (rw (lt-leb (place .offset) 1073741824 h, and-false (ltb (place .scans) 65535)))
+  none-late h = not-there (rw (lt-leb (place .offset) 1073741824 h, and-false (ltb (place .scans) 65535)))
 
   module _ (few : place .scans < 65535) (early : place .offset ≤ 1073741824) where
     in-reach : atScan file place ≡ isScan (suc (place .scans)) (drop (place .at) file)
@@ -34,17 +35,15 @@ module _ (file : List ℕ) (place : Place) where
     in-reach = rw (lt-ltb (place .scans) 65535 few, le-leb (place .offset) 1073741824 early)
 
     pub found : {s : Scan} → FindsScan (place .scans + 1) (drop (place .at) file) s → FindsAt file place s
-    unfolding sizeAt
-    found {s} r =
-        let whole = rw add-one at (r .whole) in
+    unfolding sizeAt bytesAt
+    found r =
         record {
-          whole = whole ∙ sym in-reach;
+          whole = rw add-one at (r .whole) ∙ sym in-reach;
           stands =
-              λ p.
-              let e : isScan (suc (place .scans)) (drop (place .at) file) ≡ true = sym whole ∙ p in
-              record {
-                head = rw (add-one, e) at (r .head);
-                size = rw (add-one, e) at (r .size);
+              λ p. record {
+                head = rw add-one at (found-head file (place .at) r p);
+                size = rw add-one at (found-size file (place .at) r p);
+                bytes = rw add-one at (bytes-found file (place .at) r p);
                 ends = omega (arith, r .ends p, length-drop (place .at) file);
                 small = r .small;
                 few = few;

@@ -8,7 +8,6 @@ use Prim.Native.Nat.{ℕ, suc, _+_, _-_}
 use native.Mathlib.Omega.{arith}
 use lib.Dec.{ltb, leb, eqb}
 use lib.ListN.{length, take, drop}
-use lib.Seq.{drop-drop}
 use borrow.Author.Tests.{eq-eqb, ne-eqb}
 use Rattle.fox_refusals.specs.Refusals.{refusalOf, forKey, forStretch, forRun}
 use Rattle.fox_refusals.specs.declared.answer.Answer.{Answer}
@@ -18,7 +17,7 @@ use Rattle.fox_text.proofs.Laws.Tests.{both}
 use Rattle.fox_run_file.specs.declared.place.Place.{Place}
 use Rattle.fox_run_file.specs.declared.reading.Read.the-variants as read
 use Rattle.fox_run_file.specs.declared.scan.Scan.{Scan}
-use Rattle.fox_run_file.specs.Says.{isScan, sizeIn, bytesIn, counterIn}
+use Rattle.fox_run_file.specs.Says.{isScan, counterIn}
 use Rattle.fox_run_file.specs.Places.{atScan, sizeAt, bytesAt, placeAfter}
 use Rattle.fox_run_file.specs.Promise.{readRefusal, readAt, ReadsWith}
 use Rattle.fox_run_file.proofs.Laws.Scan.{bytes-length}
@@ -28,10 +27,9 @@ use Rattle.fox_run_file_read.specs.Found.{Stands}
 -- the part of the file that a scan's bytes are
 pub bytes-there : {file : List ℕ} {place : Place} {s : Scan} → Stands file place s
     → take (place .at + s .head + s .size - (place .at + s .head)) (drop (place .at + s .head) file) ≡ bytesAt file place
-unfolding sizeAt bytesAt bytesIn
-bytes-there {file} {place} {s} stands =
-    let size : place .at + s .head + s .size - (place .at + s .head) ≡ sizeIn (suc (place .scans)) (drop (place .at) file) = omega (arith, stands .size) in
-    rw (size, ← stands .head, drop-drop (s .head) (place .at) file)
+bytes-there {place = place} {s} stands =
+    let size : place .at + s .head + s .size - (place .at + s .head) ≡ s .size = omega arith in
+    rw size (sym (stands .bytes))
 
 -- and their number
 bytes-number : (file : List ℕ) (place : Place) → atScan file place ≡ true → length (bytesAt file place) ≡ sizeAt file place
