@@ -1,9 +1,9 @@
 // Places in a run file: whether a scan stands at a place, how long it is, and the place after it. A place may have any numbers.
 ghost use mathlib.Core.Path.{_≡_};
-ghost use mathlib.Core.Bool.{true};
-ghost use Rattle.fox_run_file.specs.Places.{atScan, passedOver, placeAfter};
+ghost use Prim.Native.Nat.{_+_, _^_, _<_};
+ghost use Rattle.fox_run_file.specs.Places.{passedOver};
 ghost use Rattle.fox_run_file.specs.Promise.{nextAt};
-ghost use Rattle.fox_run_file_read.specs.Found.{FindsAt};
+ghost use Rattle.fox_run_file_read.specs.Found.{FindsAt, movedOn};
 use fox_run_file::place::Place;
 use fox_run_file::reading::Next;
 use fox_run_file::scan::Scan;
@@ -30,9 +30,9 @@ pub(crate) fn find_at(file: &[u8], place: Place) -> Scan
 }
 
 // The place after a scan that was found at a place.
-pub(crate) fn after(file: &[u8], place: Place, s: Scan) -> Place
-    requires { ⌜ FindsAt (now file) place s × (s .whole ≡ true) ⌝ }
-    ensures { λ r. ⌜ r ≡ placeAfter (now (file .entry)) place ⌝ }
+pub(crate) fn after(place: Place, s: Scan) -> Place
+    requires { ⌜ (place .at + s .head + s .size + 1 < 2 ^ 64) × (place .scans < 65535) × (place .offset + s .size < 2 ^ 64) ⌝ }
+    ensures { λ r. ⌜ r ≡ movedOn place s ⌝ }
 {
     Place {
         at: place.at + s.head + s.size + 1,
@@ -44,11 +44,11 @@ pub(crate) fn after(file: &[u8], place: Place, s: Scan) -> Place
 pub fn next_at(file: &[u8], place: Place) -> Next
     ensures { λ r. ⌜ r ≡ nextAt (now (file .entry)) place ⌝ }
 {
-    let s = find_at(file, place);
-    if !s.whole {
+    let next = find_at(file, place);
+    if !next.whole {
         return Next::End;
     }
-    Next::Scan(s.size)
+    Next::Scan(next.size)
 }
 
 pub fn pass_over(file: &[u8], place: Place) -> Place
@@ -58,5 +58,5 @@ pub fn pass_over(file: &[u8], place: Place) -> Place
     if !s.whole {
         return place;
     }
-    after(file, place, s)
+    after(place, s)
 }

@@ -35,7 +35,7 @@ pub fn read_at(p: Prepared, file: &[u8], place: Place, out: &mut [u8]) -> Read
     if answer.refusal != 0 {
         return Read::Refused(answer.refusal);
     }
-    let next = after(file, place, s);
+    let next = after(place, s);
     Read::Opened(s.size, next)
 }
 

@@ -12,8 +12,8 @@ use fox_run_file::reading::Read;
 use fox_run_file_read::places::next_at;
 use fox_run_file_read::places::pass_over;
 use fox_run_file_read::read::read_from_key;
-use fox_run_file_read::take::take_up_from_key;
 use fox_run_file_sizes::sizes::tell_size;
+use fox_run_file_take_up::take::take_up_from_key;
 use fox_run_file_write::write::write_from_key;
 
 fn place_in(words: &[u64; 3]) -> Place

@@ -1,16 +1,20 @@
 -- The end of a file whose rest is right. What comes after the scans is an end of the file, and the line `close` ends it, so the file's last bytes, as many as
--- such a line has, are that line.
+-- such a line has, are that line; and a test of the tag in it, over all that comes before, meets no refusal but that the tag differs.
 -- Assumes nothing.
 use mathlib.Core.Path.{_≡_, refl, sym, ap, _∙_}
-use mathlib.Core.Bool.{true, _&&_}
-use mathlib.Core.List.{List}
+use mathlib.Core.Bool.{Bool, true, false, cond, not, _&&_}
+use mathlib.Core.List.{List, [], _∷_}
 use Prim.Native.Nat.{ℕ, zero, suc, _+_, _-_, _≤_}
 use native.Mathlib.Omega.{arith}
 use lib.Dec.{eqb, leb}
-use lib.ListN.{length, drop, length-append, length-drop}
+use lib.ListN.{length, take, drop, length-append, length-drop}
 use lib.Seq.{drop-drop}
 use borrow.Author.Tests.{ltb-true, eqb-true, leb-true}
-use Rattle.fox_refusals.specs.Refusals.{blockSize}
+use Rattle.fox_refusals.specs.Refusals.{refusalOf, blockSize, same, otherTag, forTagTest, Keyed}
+use Rattle.fox_refusals.specs.declared.answer.Answer.{Answer}
+use Rattle.fox_refusals.proofs.Laws.Refusals.{tag-verdict}
+use Rattle.fox_tag.specs.Tag.{tagWith}
+use Rattle.fox_tag.specs.Promise.{TestsTagWith}
 use Rattle.fox_text.specs.Ascii.{empty, startsWith}
 use Rattle.fox_text.specs.Lines.{lineEnd, hasLine, line, afterLine}
 use Rattle.fox_text.specs.Rules.{isLine}
@@ -22,7 +26,10 @@ use Rattle.fox_text.proofs.Laws.Pairs.{length-hex-text}
 use Rattle.fox_text.proofs.Laws.Values.{pairs-line-again}
 use Rattle.fox_run_file.specs.Format.{scansName, closeName}
 use Rattle.fox_run_file.specs.Sizes.{headerSize, blockLineSize}
-use Rattle.fox_run_file.specs.Says.{isBlockLine, headIn, sizeIn, isScan, afterScan, afterScans, closeText, isEnd, scansFrom, scansOf, signed, isRest}
+use Rattle.fox_run_file.specs.Says.{isBlockLine, headIn, sizeIn, isScan, afterScan, afterScans, closeText, isEnd, scansFrom, scansOf}
+use Rattle.fox_run_file.specs.Says.{signed, closeIn, isRest}
+use Rattle.fox_run_file.specs.Parts.{ReadsBlock}
+use Rattle.fox_run_file.proofs.Laws.Lines.{block-length, block-part}
 
 -- u is an end of t
 record Tail (t u : List ℕ) : Type 0 where
@@ -88,3 +95,27 @@ closed cipher rounds file e =
     tail-drop (length (decimalLineText scansName n)) (tail-scans 65535 0 (record { at = headerSize cipher rounds; is = refl })) in
     let (room, is) = tail-last (blockLineSize closeName cipher) from (alone closeName cipher u right none) (omega arith) in
     record { room = room; line = rw is at right; short = leb-true (length (signed cipher file)) 1073741824 short }
+
+-- the tag in the line `close`, read into a buffer and tested over all that comes before
+
+turned-round : (t : Bool) → _≡_ {A = ℕ} (cond t 0 10) (cond (not t) 10 0)
+turned-round true = refl
+turned-round false = refl
+
+module _ (c r k : ℕ) (rks file : List ℕ) (keyed : Keyed c r k) (right : isRest c r file ≡ true) where
+  tag-settles : refusalOf (forTagTest c r k (length (signed c file)) (tagWith c rks (signed c file)) (closeIn c file))
+      ≡ refusalOf (otherTag (tagWith c rks (signed c file)) (closeIn c file) ∷ [])
+  unfolding refusalOf otherTag closeIn
+  tag-settles =
+      let end = closed c r file right in
+      tag-verdict (tagWith c rks (signed c file)) (closeIn c file)
+      (record { keyed = keyed; message = end .short; tag = block-length closeName c _ (end .line) })
+      ∙ turned-round (same (tagWith c rks (signed c file)) (closeIn c file))
+
+  pub tag-told : {m n : ℕ} {before after : List ℕ} {b : Bool} {a : Answer} → m ≡ length file - blockLineSize closeName c → n ≡ blockSize c
+      → blockSize c ≤ length before → ReadsBlock closeName c (drop m file) before after b → TestsTagWith c r k rks (take m file) (take n after) a
+      → a .refusal ≡ refusalOf (otherTag (tagWith c rks (signed c file)) (closeIn c file) ∷ [])
+  unfolding signed closeIn
+  tag-told {after = after} em en room read tested =
+      let part : take (blockSize c) after ≡ closeIn c file = block-part closeName c _ (rw em at read) (closed c r file right .line) room in
+      rw (em, en, part) at (tested .refusal) ∙ tag-settles

@@ -1,4 +1,5 @@
--- Lengths: of a decimal by its value, of a line, of the header, of a scan, and of the scans that are left, one scan further, as a loop goes over them.
+-- Lengths: of a decimal by its value, of lines, of the header and of a scan; of the scans that are left, one scan further, as a loop goes over them; and what
+-- the limits on them tell.
 -- Assumes nothing.
 use mathlib.Core.Path.{_≡_, sym, ap, _∙_}
 use mathlib.Core.Bool.{true, false, cond, _||_, or-true}
@@ -18,10 +19,10 @@ use Rattle.fox_text.specs.Fields.{decimalLineText}
 use Rattle.fox_text.proofs.Laws.Tests.{by-test}
 use Rattle.fox_text.proofs.Laws.Lines.{from-here}
 use Rattle.fox_run_file.specs.Format.{formatText, counterName, scanName, bytesName, scansName, closeName, keyLines, scanHead}
-use Rattle.fox_tag.proofs.Laws.Parts.{size-most}
 use Rattle.fox_run_file.specs.Sizes.{blockLineSize, headerSize, scanSize, scansSize, unclosedSize, fileSize, total, anyAbove, pastLimit}
 use Rattle.fox_run_file.specs.Parts.{Sized}
 use Rattle.fox_run_file.specs.declared.sizes.Sizes.{Sizes}
+use Rattle.fox_run_file.proofs.Laws.Lines.{block-small}
 
 -- digits
 
@@ -61,13 +62,11 @@ close-line-size cipher = omega arith
 pub header-line-sizes : (cipher rounds : ℕ)
     → headerSize cipher rounds ≡ 36 + length (decimalText cipher) + length (decimalText rounds) + 2 * blockSize cipher
 unfolding headerSize keyLines blockLineSize formatText cipherName roundsName counterName ascii codes
-header-line-sizes cipher rounds =
-    simp (length-append, decimal-line-size) (omega arith)
+header-line-sizes cipher rounds = simp (length-append, decimal-line-size) (omega arith)
 
 pub scan-line-sizes : (number size : ℕ) → scanSize number size ≡ 14 + length (decimalText number) + length (decimalText size) + size
 unfolding scanSize scanHead scanName bytesName ascii codes
-scan-line-sizes number size =
-    simp (length-append, decimal-line-size) (omega arith)
+scan-line-sizes number size = simp (length-append, decimal-line-size) (omega arith)
 
 pub scans-line-size : (number : ℕ) → length (decimalLineText scansName number) ≡ 7 + length (decimalText number)
 unfolding scansName ascii codes
@@ -77,10 +76,7 @@ pub decimal-few : (n : ℕ) → length (decimalText n) ≤ 5
 decimal-few n = digits-few 5 n
 
 pub header-few : (cipher rounds : ℕ) → headerSize cipher rounds ≤ 78
-header-few cipher rounds = omega (arith, header-line-sizes cipher rounds, decimal-few cipher, decimal-few rounds, size-most cipher)
-
-pub close-few : (cipher : ℕ) → blockLineSize closeName cipher ≤ 39
-close-few cipher = omega (arith, close-line-size cipher, size-most cipher)
+header-few cipher rounds = omega (arith, header-line-sizes cipher rounds, decimal-few cipher, decimal-few rounds, block-small cipher)
 
 pub scan-few : (number size : ℕ) → size ≤ 65536 → scanSize number size ≤ 65560
 scan-few number size h = omega (arith, scan-line-sizes number size, decimal-few number, decimal-few size)

@@ -2,16 +2,16 @@
 -- Assumes nothing.
 use native.Mathlib.Omega.{arith}
 use borrow.Author.Needs.{needs}
-use Rattle.fox_tag.proofs.Laws.Parts.{size-most}
+use Rattle.fox_run_file.proofs.Laws.Lines.{block-small}
 use Rattle.fox_run_file.proofs.Laws.Sizes.{close-line-size}
 use Rattle.fox_run_file_sizes.proofs.sizes.close_size.Statement.{statement}
 use Rattle.fox_run_file_sizes.proofs.sizes.close_size.Tie as tie
 
 mul-result : tie.Need-mul-result
-mul-result c = omega (arith, size-most (c .before .args .cipher))
+mul-result c = omega (arith, block-small (c .before .args .cipher))
 
 add-result : tie.Need-add-result
-add-result c = omega (arith, size-most (c .before .args .cipher))
+add-result c = omega (arith, block-small (c .before .args .cipher))
 
 returns : tie.Need-returns
 returns c = omega (arith, close-line-size (c .before .args .cipher))

@@ -10,10 +10,10 @@ use lib.ListN.{length}
 use borrow.Author.Needs.{needs}
 use borrow.Author.Tests.{not-true, not-false}
 use Rattle.fox_text.specs.Decimal.{decimalText}
-use Rattle.fox_run_file.specs.Format.{closeName}
-use Rattle.fox_run_file.specs.Sizes.{blockLineSize, headerSize, unclosedSize, fileSize, total, anyAbove}
+use Rattle.fox_run_file.specs.Sizes.{headerSize, unclosedSize, fileSize, total, anyAbove}
 use Rattle.fox_run_file.specs.declared.sizes.Sizes.{Sizes}
-use Rattle.fox_run_file.proofs.Laws.Sizes.{header-few, close-few, scans-line-size, many-past, long-past, large-past, in-limits, sized-past, sized-in}
+use Rattle.fox_run_file.proofs.Laws.Rest.{close-small}
+use Rattle.fox_run_file.proofs.Laws.Sizes.{header-few, scans-line-size, many-past, long-past, large-past, in-limits, sized-past, sized-in}
 use Rattle.fox_run_file_sizes.specs.Added.{Added}
 use Rattle.fox_run_file_sizes.proofs.sizes.file_size.Statement.{statement}
 use Rattle.fox_run_file_sizes.proofs.sizes.file_size.Tie as tie
@@ -63,7 +63,7 @@ returns-3 c =
     sized-past (a .cipher) (a .rounds) (a .sizes .now) (large-past (a .cipher) (a .rounds) _ (omega arith))
 
 add-t11 : tie.Need-add-t11
-add-t11 c = let a = c .before .before .before .before .before .before .before .before .before .before .args in omega (arith, close-few (a .cipher))
+add-t11 c = let a = c .before .before .before .before .before .before .before .before .before .before .args in omega (arith, close-small (a .cipher))
 
 returns-4 : tie.Need-returns-4
 unfolding fileSize

@@ -2,16 +2,16 @@
 -- Assumes nothing.
 use native.Mathlib.Omega.{arith}
 use borrow.Author.Needs.{needs}
-use Rattle.fox_tag.proofs.Laws.Parts.{size-most}
+use Rattle.fox_run_file.proofs.Laws.Lines.{block-small}
 use Rattle.fox_run_file.proofs.Laws.Sizes.{header-line-sizes}
 use Rattle.fox_run_file_sizes.proofs.sizes.header_size.Statement.{statement}
 use Rattle.fox_run_file_sizes.proofs.sizes.header_size.Tie as tie
 
 mul-result : tie.Need-mul-result
-mul-result c = omega (arith, size-most (c .before .before .before .args .cipher))
+mul-result c = omega (arith, block-small (c .before .before .before .args .cipher))
 
 add-result-3 : tie.Need-add-result-3
-add-result-3 c = omega (arith, size-most (c .before .before .before .args .cipher))
+add-result-3 c = omega (arith, block-small (c .before .before .before .args .cipher))
 
 returns : tie.Need-returns
 returns c =
