@@ -11,7 +11,7 @@ c=tests/common s=tests/second
 second="$s/second.c $s/cmac.c $s/schedule.c $s/rounds.c $s/matrix.c $s/box.c $s/field.c"
 helpers="$c/chance.c $c/hex.c $c/tally.c"
 engines="$c/call.c $c/engines.c $c/hex.c $c/tally.c"
-guarded="$engines $c/answers.c $c/chance.c $c/faults.c $c/laid.c"
+guarded="$engines $c/answers.c $c/chance.c $c/faults.c $c/laid.c $c/rooms.c"
 includes="-Iinclude -I$c -I$s -Itests/beside"
 
 engine_names() { # as the tests' table has them
