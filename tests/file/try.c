@@ -4,7 +4,6 @@
 #include "chance.h"
 #include "count.h"
 #include "faults.h"
-#include "file.h"
 #include "rooms.h"
 #include "tally.h"
 
@@ -26,36 +25,6 @@ static const uint64_t no_count = 0x7766554433221100;
 
 /* What a room of the output has before a call and after it. */
 static uint8_t before[MOST_ROOM], after[MOST_ROOM];
-
-struct outcome second_outcome(enum file_verb verb, const struct file_call *c)
-{
-    struct outcome o = {0, no_count, {0}};
-    uint64_t *place = o.place;
-    if (file_verbs[verb].has & HAS_PLACE)
-        memcpy(place, c->place, sizeof o.place);
-    switch (verb) {
-    case FILE_SIZE:
-        o.answer = second_file_size(c->cipher, c->rounds, c->lengths, c->scans, &o.count);
-        break;
-    case FILE_WRITE:
-        o.answer = second_file_write(c->cipher, c->rounds, c->key, c->key_len, c->counter, c->counter_len, c->data,
-                                     c->data_len, c->lengths, c->scans, c->out, c->out_len, &o.count);
-        break;
-    case FILE_TAKE_UP:
-        o.answer = second_file_take_up(c->cipher, c->rounds, c->key, c->key_len, c->file, c->file_len, place);
-        break;
-    case FILE_NEXT:
-        o.answer = second_file_next(c->file, c->file_len, place);
-        break;
-    case FILE_READ:
-        o.answer = second_file_read(c->cipher, c->rounds, c->key, c->key_len, c->file, c->file_len, place, c->out,
-                                    c->out_len, &o.count);
-        break;
-    default:
-        second_file_skip(c->file, c->file_len, place);
-    }
-    return o;
-}
 
 struct made {
     enum file_verb verb;

@@ -3,17 +3,7 @@
 #ifndef FILE_TRY_H
 #define FILE_TRY_H
 
-#include "file_call.h"
-
-/* What a call is to answer, with the count and the place after it. A verb that has no count or no place does not look
- * at it. */
-struct outcome {
-    uint64_t answer, count, place[FOX_PLACE_WORDS];
-};
-
-/* The second implementation's outcome. What it puts out goes to the call's own `out`; the call's place and count are
- * as they were. */
-struct outcome second_outcome(enum file_verb verb, const struct file_call *c);
+#include "outcome.h"
 
 /* The library does as the second implementation. Answers with what that does. The call's own `out` is not looked at. */
 struct outcome try_call(enum file_verb verb, const struct file_call *c);
