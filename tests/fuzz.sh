@@ -33,7 +33,8 @@ part() { # WHAT sheet|calls|file
                 "$second $engines $c/answers.c $c/chance.c"
             ;;
         sources-file)
-            echo "$t/file.c $t/begin.c $t/exact.c tests/file/outcome.c $s/file.c $c/file_call.c $c/hex.c $c/answers.c"
+            echo "$t/file.c $t/begin.c $t/change_file.c $t/exact.c tests/file/outcome.c $s/file.c $c/file_call.c" \
+                "$c/hex.c $c/answers.c $c/chance.c"
             ;;
         plain-file) echo "$second" ;;
         wrapped-sheet) echo fox_probe_sheet ;;

@@ -123,8 +123,9 @@ static int hold_next(struct file_call *c, uint8_t choice)
     return next != FOX_END;
 }
 
-/* The tag of what stands before the last line `close`, where there is one. */
-static void make_tag(const struct file_call *c, uint8_t *file)
+/* The tag of what stands before the last line `close`, where there is one; now and then with one of its last digits
+ * changed. */
+static void make_tag(const struct file_call *c, uint8_t *file, uint8_t choice)
 {
     static const char name[] = "close=";
     uint8_t tag[FOX128_BLOCK];
@@ -136,6 +137,9 @@ static void make_tag(const struct file_call *c, uint8_t *file)
             return;
         for (size_t i = 0; i < digits; i++)
             file[at + line - digits + i] = (uint8_t)"0123456789ABCDEF"[tag[i / 2] >> (i % 2 == 0 ? 4 : 0) & 15];
+        uint8_t *digit = &file[at + line - 1 - choice / 32];
+        if (choice / 8 % 4 == 3)
+            *digit = *digit == '0' ? '1' : '0';
         return;
     }
 }
@@ -211,7 +215,7 @@ int LLVMFuzzerTestOneInput(const uint8_t *bytes, size_t len)
                           .place = place};
     int kind = bytes[KIND] % KINDS;
     if (kind == TAGGED)
-        make_tag(&c, file);
+        make_tag(&c, file, bytes[OUTPUT]);
     if (kind == PLACED)
         hold_place(&c, bytes[OUTPUT]);
     else if (kind == WRITTEN)
