@@ -1,13 +1,11 @@
-/* How the fuzzer changes an input of tests/fuzz/file.c: by turns in its own way, which knows bytes alone, and as files go
- * wrong: by their lines and numbers. */
+/* How the fuzzer changes an input of tests/fuzz/file.c: by turns in its own way, which knows bytes alone, and as files
+ * go wrong: by their lines and numbers. */
 #define _GNU_SOURCE
 #include "chance.h"
+#include "file_input.h"
 
 #include <ctype.h>
 #include <string.h>
-
-/* The choices before the file are those of file.c. */
-enum { CHOICES = 5, TAGGED = 1 };
 
 size_t LLVMFuzzerMutate(uint8_t *bytes, size_t len, size_t most);
 size_t LLVMFuzzerCustomMutator(uint8_t *bytes, size_t len, size_t most, unsigned seed);
@@ -87,8 +85,11 @@ size_t LLVMFuzzerCustomMutator(uint8_t *bytes, size_t len, size_t most, unsigned
     if (below(2) == 0 || len < CHOICES || most < CHOICES)
         return LLVMFuzzerMutate(bytes, len, most);
     struct file f = {bytes + CHOICES, len - CHOICES, most - CHOICES};
-    changes[below(sizeof changes / sizeof *changes)](&f);
+    if (below(4) == 0)
+        bytes[OUTPUT] = (uint8_t)any_number();
+    else
+        changes[below(sizeof changes / sizeof *changes)](&f);
     if (below(4) != 0)
-        bytes[0] = TAGGED;
+        bytes[KIND] = TAGGED;
     return CHOICES + f.len;
 }

@@ -4,6 +4,7 @@
 #define _GNU_SOURCE
 #include "answers.h"
 #include "exact.h"
+#include "file_input.h"
 #include "outcome.h"
 #include "second.h"
 
@@ -12,11 +13,7 @@
 #include <stdlib.h>
 #include <string.h>
 
-/* The input's first bytes are choices, and a file or the lengths of scans follow. With TAGGED the tag in the file's
- * last line is made anew; PLACED asks for a scan at a place that no call has handed back. */
-enum { KIND, CIPHER, ROUNDS, KEY_LEN, OUTPUT, CHOICES };
-enum { AS_IT_IS, TAGGED, PLACED, WRITTEN, KINDS };
-enum { MOST_INPUT = 4096, MOST_SCANS = 64, MOST_DATA = 140000, MOST_WRITTEN = MOST_DATA + 8192, PAINT = 0x5A };
+enum { MOST_INPUT = 4096, MOST_SCANS = 64, MOST_DATA = 140000, MOST_WRITTEN = MOST_DATA + 8192 };
 
 int LLVMFuzzerTestOneInput(const uint8_t *bytes, size_t len);
 
