@@ -61,8 +61,8 @@ static int filed(const struct caller *c, uint8_t *file)
     const size_t b = block_of(c->cipher);
     uint64_t size, place[FOX_PLACE_WORDS], count;
     uint8_t out[LENGTH], *at = out;
-    if (fox_file_write(c->cipher, c->rounds, c->key, c->key_len, c->first, b, c->data, LENGTH, lengths, 2, file, FILE_ROOM,
-                       &size) != FOX_SERVED ||
+    if (fox_file_write(c->cipher, c->rounds, c->key, c->key_len, c->first, b, c->data, LENGTH, lengths, 2, file,
+                       FILE_ROOM, &size) != FOX_SERVED ||
         fox_file_take_up(c->cipher, c->rounds, c->key, c->key_len, file, (size_t)size, place) != FOX_SERVED)
         return 0;
     for (size_t i = 0; i < 2; i++, at += count)
