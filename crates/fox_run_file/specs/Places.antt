@@ -1,6 +1,6 @@
 -- Places in a run file: where reading begins, whether a scan stands at a place, and the place after it.
 -- Assumes nothing.
-use Prim.Native.Nat.{ℕ, suc, _+_, _-_, _^_}
+use Prim.Native.Nat.{ℕ, zero, suc, _+_, _-_, _^_}
 use mathlib.Core.Bool.{Bool, cond, _&&_}
 use mathlib.Core.List.{List}
 use lib.Dec.{ltb, leb}
@@ -40,3 +40,8 @@ placeAfter file place =
 -- the place after the next scan, or the same place at the end
 unfoldable pub passedOver : List ℕ → Place → Place
 passedOver file place = cond (atScan file place) (placeAfter file place) place
+
+-- the place after so many scans were passed over, or read
+unfoldable pub afterSteps : List ℕ → ℕ → Place → Place
+afterSteps file zero place = place
+afterSteps file (suc k) place = afterSteps file k (passedOver file place)

@@ -59,12 +59,16 @@ readAt cipher rounds keyLen file place outLen =
     let refusal = readRefusal cipher rounds keyLen file place outLen in
     cond (atScan file place) (cond (eqb refusal 0) (read.Opened (sizeAt file place) (placeAfter file place)) (read.Refused refusal)) read.End
 
--- the scan at a place read: how it ended, and the output, which is the scan's stretch of the run, opened, or as it was
+-- the output after that: the scan's stretch of the run, opened, or as it was
+abbrev pub readOutput : ℕ → ℕ → ℕ → List ℕ → List ℕ → Place → List ℕ → List ℕ
+readOutput cipher rounds keyLen rks file place before =
+    cond (atScan file place && eqb (readRefusal cipher rounds keyLen file place (length before)) 0)
+    (runWith cipher rks (counterIn cipher rounds file) (place .offset) (bytesAt file place)) before
+
+-- the scan at a place read: how it ended, and the output
 pub record ReadsWith (cipher rounds keyLen : ℕ) (rks file : List ℕ) (place : Place) (before after : List ℕ) (r : Read) : Type 0 where
   pub answer : r ≡ readAt cipher rounds keyLen file place (length before)
-  pub output : after
-      ≡ cond (atScan file place && eqb (readRefusal cipher rounds keyLen file place (length before)) 0)
-      (runWith cipher rks (counterIn cipher rounds file) (place .offset) (bytesAt file place)) before
+  pub output : after ≡ readOutput cipher rounds keyLen rks file place before
 
 -- 01's number, the count, and the place that follows, of how a reading ended at a place
 unfoldable pub numberOf : Read → ℕ

@@ -1,11 +1,12 @@
 -- The refusals of the run file's calls (02, order 4), in their order. 1 to 3 are those of the key, 4 of the counter block, 10 of a tag.
 -- Assumes nothing.
+use mathlib.Core.Path.{_≡_}
+use mathlib.Core.Logic.{_⊎_}
 use Prim.Native.Nat.{ℕ}
-use mathlib.Core.Bool.{not, _||_}
+use mathlib.Core.Bool.{true, not, _||_}
 use mathlib.Core.List.{List, [], _∷_, _++_}
 use lib.Dec.{ltb}
-use lib.ListN.{length}
-use Rattle.fox_refusals.specs.Refusals.{Refusal, differs, wrongCipher, wrongRounds, wrongBlockLength, otherTag, forKey}
+use Rattle.fox_refusals.specs.Refusals.{Refusal, differs, wrongCipher, wrongRounds, wrongBlockLength, otherTag, forKey, Keyed}
 use Rattle.fox_tag.specs.Tag.{tagWith}
 use Rattle.fox_run_file.specs.Sizes.{total, fileSize, pastLimit}
 use Rattle.fox_run_file.specs.Says.{isHeader, isRest, signed, closeIn}
@@ -44,3 +45,14 @@ unfoldable pub forTakeUp : ℕ → ℕ → ℕ → List ℕ → List ℕ → Lis
 forTakeUp cipher rounds keyLen rks file =
     forKey cipher rounds keyLen
     ++ (brokenHeader cipher rounds file ∷ brokenRest cipher rounds file ∷ otherTag (tagWith cipher rks (signed cipher file)) (closeIn cipher file) ∷ [])
+
+-- what holds where a call that takes up a file meets no refusal
+pub record Passes (cipher rounds keyLen : ℕ) (rks file : List ℕ) : Type 0 where
+  pub keyed : Keyed cipher rounds keyLen
+  pub header : isHeader cipher rounds file ≡ true
+  pub rest : isRest cipher rounds file ≡ true
+  pub tag : tagWith cipher rks (signed cipher file) ≡ closeIn cipher file
+
+-- a file is refused, and not for its key
+abbrev pub Told : ℕ → Type 0
+Told n = (n ≡ 10) ⊎ (n ≡ 11) ⊎ (n ≡ 12)

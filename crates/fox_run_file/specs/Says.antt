@@ -1,9 +1,9 @@
 -- What a run file says: its header, whole scans one after the other, and what comes after the last.
 -- Assumes nothing.
 use Prim.Native.Nat.{ℕ, zero, suc, _+_, _-_}
-use mathlib.Core.Bool.{Bool, cond, not, _&&_}
+use mathlib.Core.Bool.{Bool, cond, _&&_}
 use mathlib.Core.List.{List, [], _∷_}
-use lib.Dec.{eqb, ltb, leb}
+use lib.Dec.{eqb, leb}
 use lib.ListN.{length, take, drop}
 use Rattle.fox_refusals.specs.Refusals.{blockSize}
 use Rattle.fox_text.specs.Ascii.{empty, startsWith}

@@ -1,13 +1,12 @@
 -- How long a run file is, from the lengths of its scans alone, and which lengths it can have.
 -- Assumes nothing.
-use mathlib.Core.Path.{_≡_}
-use Prim.Native.Nat.{ℕ, suc, _+_, _*_, _≤_}
-use mathlib.Core.Bool.{Bool, true, false, cond, not, _||_}
+use Prim.Native.Nat.{ℕ, suc, _+_, _*_}
+use mathlib.Core.Bool.{Bool, true, false, cond, _||_}
 use mathlib.Core.List.{List, [], _∷_}
-use lib.Dec.{eqb, ltb}
-use lib.ListN.{length, replicate}
+use lib.Dec.{ltb}
+use lib.ListN.{length}
 use Rattle.fox_refusals.specs.Refusals.{blockSize}
-use Rattle.fox_text.specs.Fields.{decimalLineText, pairsLineText}
+use Rattle.fox_text.specs.Fields.{decimalLineText}
 use Rattle.fox_run_file.specs.Format.{counterName, scansName, closeName, keyLines, scanHead}
 
 -- a line of a name and a block in hex digits

@@ -1,4 +1,4 @@
-// The header's first three lines, a line that has a block, and the lines that end a file.
+// The header's first three lines, a line that has a block or a number, and the lines that end a file.
 ghost use mathlib.Core.Path.{_≡_};
 ghost use Prim.Native.Nat.{_+_, _≤_};
 ghost use lib.ListN.{length};
@@ -6,7 +6,7 @@ ghost use Rattle.fox_refusals.specs.Refusals.{blockSize};
 ghost use Rattle.fox_text.specs.Put.{Put, Stored};
 ghost use Rattle.fox_run_file.specs.Format.{keyLines};
 ghost use Rattle.fox_run_file.specs.Says.{isHeader, counterIn, isEnd};
-ghost use Rattle.fox_run_file.specs.Parts.{ReadsBlock};
+ghost use Rattle.fox_run_file.specs.Parts.{FindsLine, ReadsBlock};
 use fox_refusals::refusals::block_size;
 use fox_text_lines::lines::after_line;
 use fox_text_lines::lines::rest;
@@ -59,13 +59,25 @@ pub fn counter_of(file: &[u8], cipher: u32, rounds: u32, out: &mut [u8]) -> usiz
     got.count
 }
 
+// Looks for a line of this name and this number at the start of a text; returns how many bytes it has, or 0 where it is not there.
+pub fn number_line(t: &[u8], name: &[u8], number: u32) -> usize
+    requires { ⌜ length (now name) ≤ 6 ⌝ }
+    ensures { λ r. ⌜ FindsLine (now (name .entry)) number (now (t .entry)) r ⌝ }
+{
+    let mut line = [0u8; 12];
+    let n = put_decimal_line(&mut line, 0, name, number);
+    if starts_with(&line[..n], t) {
+        return n;
+    }
+    0
+}
+
 // Whether a text is the end of a file of so many scans.
 pub fn end_fits(t: &[u8], cipher: u32, number: u32) -> bool
     ensures { λ r. ⌜ r ≡ isEnd cipher number (now (t .entry)) ⌝ }
 {
-    let mut line = [0u8; 12];
-    let n = put_decimal_line(&mut line, 0, b"scans=", number);
-    if !starts_with(&line[..n], t) {
+    let n = number_line(t, b"scans=", number);
+    if n == 0 {
         return false;
     }
     let close = rest(t, n);

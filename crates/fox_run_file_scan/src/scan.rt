@@ -8,11 +8,11 @@ ghost use Rattle.fox_run_file.specs.Parts.{FindsScan, PassesScans};
 use fox_run_file::scan::Scan;
 use fox_run_file::scan::Scans;
 use fox_run_file_lines::lines::end_fits;
+use fox_run_file_lines::lines::number_line;
 use fox_text_lines::lines::line_end;
 use fox_text_lines::lines::rest;
 use fox_text_lines::lines::starts_with;
 use fox_text_read::fields::decimal_line;
-use fox_text_write::writing::put_decimal_line;
 
 // Looks for the scan with this number at the start of a text.
 pub fn scan_at(t: &[u8], number: u32) -> Scan
@@ -23,9 +23,8 @@ pub fn scan_at(t: &[u8], number: u32) -> Scan
         head: 0,
         size: 0,
     };
-    let mut line = [0u8; 11];
-    let n = put_decimal_line(&mut line, 0, b"scan=", number);
-    if !starts_with(&line[..n], t) {
+    let n = number_line(t, b"scan=", number);
+    if n == 0 {
         return none;
     }
     let second = rest(t, n);
@@ -36,10 +35,7 @@ pub fn scan_at(t: &[u8], number: u32) -> Scan
     let size = d.value as usize;
     let head = n + line_end(second) + 1;
     let bytes = rest(t, head);
-    if bytes.len() <= size {
-        return none;
-    }
-    if bytes[size] != 10 {
+    if !starts_with(b"\n", rest(bytes, size)) {
         return none;
     }
     Scan {

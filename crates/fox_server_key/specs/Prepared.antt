@@ -58,8 +58,12 @@ pub record Empty (r : Preparation) : Type 0 where
   pub key-len : r .key .«key_len» ≡ 0
   pub entries : (i : ℕ) → getD (r .key .keys) i 0 ≡ 0
 
+-- the round keys in 510 words, by the cipher
+unfoldable pub heldKeys : ℕ → List ℕ → ℕ → List ℕ
+heldKeys cipher words rounds =
+    let other = roundKeysIn128 words rounds in
+    cond (eqb cipher 64) (roundKeysIn64 words rounds) other
+
 -- the round keys that a prepared key holds, whoever filled it
 unfoldable pub roundKeysIn : Prepared → List ℕ
-roundKeysIn p =
-    let other = roundKeysIn128 (p .keys) (p .rounds) in
-    cond (eqb (p .cipher) 64) (roundKeysIn64 (p .keys) (p .rounds)) other
+roundKeysIn p = heldKeys (p .cipher) (p .keys) (p .rounds)

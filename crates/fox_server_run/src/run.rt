@@ -1,5 +1,9 @@
-// A stretch of a run by the server engine, from a prepared key and from key bytes: every input is answered.
-ghost use Rattle.fox_server_key.specs.Prepared.{roundKeysIn};
+// A stretch of a run by the server engine: of any length with round keys lent; and from a prepared key and from key bytes, where every input is answered.
+ghost use mathlib.Core.Path.{_≡_};
+ghost use Rattle.fox_refusals.specs.Refusals.{blockSize};
+ghost use Rattle.fox_server_key.specs.Prepared.{heldKeys, roundKeysIn};
+ghost use Rattle.fox_run.specs.Run.{runWith};
+ghost use Rattle.fox_run.specs.Parts.{Ready};
 ghost use Rattle.fox_run.specs.Promise.{Runs, RunsWith};
 use crate::fox64::run64;
 use crate::fox128::run128;
@@ -7,6 +11,27 @@ use fox_refusals::answer::Answer;
 use fox_refusals::stretch::for_run;
 use fox_server_key::prepared::Prepared;
 use fox_server_key::prepared::prepare;
+
+// Seals or opens the bytes of a run from its byte n on, as many as there are up to the run's end, with the round keys of an array.
+pub fn stretch(
+    cipher: u32,
+    keys: &[u64; 510],
+    rounds: usize,
+    counter: &[u8],
+    n: usize,
+    input: &[u8],
+    out: &mut [u8],
+)
+    requires { ⌜ Ready (blockSize cipher) rounds (now counter) n (now input) (now out) ⌝ }
+    ensures { λ _. ⌜ now (out .exit)
+        ≡ runWith cipher (heldKeys cipher (now (keys .entry)) rounds) (now (counter .entry)) n (now (input .entry)) ⌝ }
+{
+    if cipher == 64 {
+        run64(keys, rounds, counter, n, input, out);
+    } else {
+        run128(keys, rounds, counter, n, input, out);
+    }
+}
 
 // From a prepared key: the answer is that of the round keys it holds, also where the caller filled it.
 pub fn run(p: Prepared, counter: &[u8], offset: u64, input: &[u8], out: &mut [u8]) -> Answer
@@ -28,11 +53,7 @@ pub fn run(p: Prepared, counter: &[u8], offset: u64, input: &[u8], out: &mut [u8
     let keys = p.keys;
     let rounds = p.rounds as usize;
     let first = offset as usize;
-    if p.cipher == 64 {
-        run64(&keys, rounds, counter, first, input, out);
-        return Answer::served(out.len());
-    }
-    run128(&keys, rounds, counter, first, input, out);
+    stretch(p.cipher, &keys, rounds, counter, first, input, out);
     Answer::served(out.len())
 }
 

@@ -8,7 +8,7 @@ use Prim.Native.Nat.{ℕ}
 use native.Mathlib.Omega.{arith}
 use Rattle.fox_text.specs.Ascii.{codes, ascii, startsWith, same}
 use Rattle.fox_text.specs.Lines.{lines}
-use Rattle.fox_text.proofs.Laws.Written.{Plain, Plains, Passing, written-right, written-lines, right-lines}
+use Rattle.fox_text.proofs.Laws.Written.{Plain, Plains, Passing, cipher-plain, rounds-plain, written-right, written-lines, right-lines}
 use Rattle.fox_text.proofs.Laws.Values.{same-is, decimal-line-right, decimal-line-read, decimal-line-plain, decimal-line-again}
 use Rattle.fox_text.proofs.Laws.Values.{pairs-line-right, pairs-line-read, pairs-line-plain, pairs-line-again}
 use Rattle.fox_text.specs.Names.{cipherName, roundsName}
@@ -18,14 +18,6 @@ use Rattle.fox_sheet.proofs.Laws.{same-values}
 use Rattle.fox_sheet.specs.Written.{wayText, linesOf, sheetText, InRange, WrittenFrom, Says}
 
 -- names and ways have no line feed
-
-cipher-plain : Plain cipherName
-unfolding cipherName codes ascii Plain
-cipher-plain = (refl, (refl, (refl, (refl, (refl, (refl, (refl, tt)))))))
-
-rounds-plain : Plain roundsName
-unfolding roundsName codes ascii Plain
-rounds-plain = (refl, (refl, (refl, (refl, (refl, (refl, (refl, tt)))))))
 
 key-plain : Plain keyName
 unfolding keyName codes ascii Plain

@@ -8,3 +8,5 @@ pub mod Fields
 pub mod Prefixes
 pub mod Written
 pub mod Values
+pub mod Texts
+pub mod TextsAgain

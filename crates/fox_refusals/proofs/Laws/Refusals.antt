@@ -202,6 +202,13 @@ stretched c r k b n d o e =
       end = ltb-false 1073741824 (n + d) (q .1 .1 .1 .0);
     }
 
+-- an output of another length than the input is refused with 6, where nothing comes before that
+pub wrong-output : {c r k b d o : ℕ} (n : ℕ) → Keyed c r k → b ≡ blockSize c → d ≤ 65536 → (o ≡ d → ⊥) → refusalOf (forRun c r k b n d o) ≡ 6
+unfolding Passed refusalOf forKey forStretch forRun wrongBlockLength longData wrongOutputLength
+wrong-output {c} {r} {k} {b} {d} {o} n h block short other =
+    let p = keyed-passed h in
+    rw (p .0, p .1 .0, p .1 .1 .0, differs-passed b (blockSize c) block, le-ltb 65536 d short, ne-eqb o d other)
+
 -- a counter block that is made
 
 pub counter-served : (c n : ℕ) → (c ≡ 64) ⊎ (c ≡ 128) → n ≡ blockSize c → refusalOf (forCounter c n) ≡ 0

@@ -21,7 +21,7 @@ use Rattle.fox_key_schedule.specs.Schedule.{roundKey, roundKeys}
 use Rattle.fox_key_schedule.proofs.Laws.Schedules.{roundKey-128, roundKey128-lt}
 use Rattle.fox_block.specs.Block.{state64, state128, bytes, turnWith}
 use Rattle.fox_block.proofs.Laws.Block.{by-cipher, state-64, state-128}
-use Rattle.fox_server_key.specs.Prepared.{inHalves, filled, preparedWords, roundKeysIn}
+use Rattle.fox_server_key.specs.Prepared.{inHalves, filled, preparedWords, heldKeys, roundKeysIn}
 use Rattle.fox_server_key.specs.declared.prepared.Prepared.{Prepared}
 use Rattle.fox_server_key.proofs.Laws.Filled.{length-inHalves}
 
@@ -95,13 +95,21 @@ pub preparedWords-128 : (c r : ℕ) (key : List ℕ) → (c ≡ 64 → ⊥) → 
 unfolding preparedWords
 preparedWords-128 c r key n = simp (ne-eqb c 64 n)
 
+pub heldKeys-64 : (c : ℕ) (words : List ℕ) (r : ℕ) → c ≡ 64 → heldKeys c words r ≡ roundKeysIn64 words r
+unfolding heldKeys
+heldKeys-64 c words r e = simp (eq-eqb c 64 e)
+
+pub heldKeys-128 : (c : ℕ) (words : List ℕ) (r : ℕ) → (c ≡ 64 → ⊥) → heldKeys c words r ≡ roundKeysIn128 words r
+unfolding heldKeys
+heldKeys-128 c words r n = simp (ne-eqb c 64 n)
+
 pub roundKeysIn-64 : (p : Prepared) → p .cipher ≡ 64 → roundKeysIn p ≡ roundKeysIn64 (p .keys) (p .rounds)
 unfolding roundKeysIn
-roundKeysIn-64 p e = simp (eq-eqb (p .cipher) 64 e)
+roundKeysIn-64 p e = heldKeys-64 (p .cipher) (p .keys) (p .rounds) e
 
 pub roundKeysIn-128 : (p : Prepared) → (p .cipher ≡ 64 → ⊥) → roundKeysIn p ≡ roundKeysIn128 (p .keys) (p .rounds)
 unfolding roundKeysIn
-roundKeysIn-128 p n = simp (ne-eqb (p .cipher) 64 n)
+roundKeysIn-128 p n = heldKeys-128 (p .cipher) (p .keys) (p .rounds) n
 
 -- the round keys of FOX128 fit two words
 pub wide : (c r : ℕ) (key : List ℕ) (i : ℕ) → (c ≡ 64 → ⊥) → roundKey c r key i < 2 ^ 128

@@ -54,7 +54,7 @@ pub at-most : {m k at r : ℕ} {a l l′ : List ℕ} → Put m a l l′ at r →
 at-most p h = record { place = p .place; short = omega (arith, p .short); bytes = p .bytes }
 
 -- bytes stored at the start of a list that has room for them are there, and what is after them stays
-take-stored : (l v : List ℕ) → length v ≤ length l → take (length v) (sets l 0 v) ≡ v
+pub take-stored : (l v : List ℕ) → length v ≤ length l → take (length v) (sets l 0 v) ≡ v
 take-stored l v h =
     let e : 0 + length v ≡ length v = omega arith in
     rw (sets-eq v l 0 (rw e h)) (take-append-seam v _)

@@ -10,7 +10,8 @@ use lib.ListN.{length, drop, length-append}
 use lib.Seq.{take-at}
 use lib.Dec.{eqb}
 use borrow.Author.Tests.{ltb-true, eqb-true, lt-ltb}
-use Rattle.fox_text.specs.Ascii.{empty}
+use Rattle.fox_text.specs.Ascii.{codes, ascii, empty}
+use Rattle.fox_text.specs.Names.{cipherName, roundsName}
 use Rattle.fox_text.specs.Lines.{lineEnd, hasLine, line, afterLine, lines, textOf}
 use Rattle.fox_text.specs.Rules.{Test, isLine, brokenFrom}
 use Rattle.fox_text.proofs.Laws.Tests.{both, by-test}
@@ -24,6 +25,14 @@ pub plain-append : (a b : List ℕ) → Plain a → Plain b → Plain (a ++ b)
 unfolding Plain
 plain-append [] b p q = q
 plain-append (x ∷ xs) b p q = (p .0, plain-append xs b (p .1) q)
+
+pub cipher-plain : Plain cipherName
+unfolding cipherName codes ascii Plain
+cipher-plain = (refl, (refl, (refl, (refl, (refl, (refl, (refl, tt)))))))
+
+pub rounds-plain : Plain roundsName
+unfolding roundsName codes ascii Plain
+rounds-plain = (refl, (refl, (refl, (refl, (refl, (refl, (refl, tt)))))))
 
 -- lines that pass tests, one after the other; lines without a line feed
 unfoldable pub Passing : List Test → List (List ℕ) → Type 0

@@ -7,7 +7,6 @@ use native.Mathlib.Omega.{arith}
 use Rattle.fox_refusals.proofs.Laws.Refusals.{tagged}
 use Rattle.fox_refusals.proofs.Laws.Reply.{served-reply, refused-reply}
 use Rattle.fox_server_key.specs.Prepared.{roundKeysIn}
-use Rattle.fox_server_tag.specs.Held.{heldKeys}
 use Rattle.fox_tag.proofs.Laws.Answers.{tag-bytes, tag-size}
 use Rattle.fox_server_tag.proofs.tag.make.Statement.{statement}
 use Rattle.fox_server_tag.proofs.tag.make.Tie as tie
@@ -29,7 +28,7 @@ write-requires c κs =
     known .tag ∙ sym (tag-size _ _ _ (made .tag .ensures))
 
 returns-2 : tie.Need-returns-2
-unfolding roundKeysIn heldKeys
+unfolding roundKeysIn
 returns-2 c =
     let write = c .before .before .before in
     let made = write .before .before in

@@ -6,7 +6,6 @@ use mathlib.Core.Path.{sym, _∙_}
 use native.Mathlib.Omega.{arith}
 use Rattle.fox_refusals.proofs.Laws.Refusals.{tagged}
 use Rattle.fox_server_key.specs.Prepared.{roundKeysIn}
-use Rattle.fox_server_tag.specs.Held.{heldKeys}
 use Rattle.fox_tag.proofs.Laws.Answers.{tag-bytes, tag-size, test-refused, test-compared}
 use Rattle.fox_server_tag.proofs.tag.test.Statement.{statement}
 use Rattle.fox_server_tag.proofs.tag.test.Tie as tie
@@ -32,7 +31,7 @@ verdict-requires c κs =
     known .tag ∙ sym (tag-size _ _ _ (c .tag .ensures))
 
 returns-2 : tie.Need-returns-2
-unfolding roundKeysIn heldKeys
+unfolding roundKeysIn
 returns-2 c =
     let made = c .before in
     let at = made .before .before .before .before in

@@ -1,0 +1,2 @@
+-- A run file to compute the definitions on.
+pub mod Example

@@ -1,0 +1,2 @@
+-- What the parts of this crate promise each other.
+pub mod Found

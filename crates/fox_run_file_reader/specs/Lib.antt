@@ -1,0 +1,2 @@
+-- The reader as one value.
+pub mod Reader

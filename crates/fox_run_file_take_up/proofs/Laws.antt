@@ -1,0 +1,2 @@
+-- Laws on what taking up a file returns.
+pub mod Taken

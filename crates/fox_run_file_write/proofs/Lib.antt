@@ -1,0 +1,3 @@
+-- The laws that the proofs of this crate share, and the theorems on files written with a prepared key.
+pub mod Laws
+pub mod ByPrepared

@@ -1,0 +1,2 @@
+-- What the parts of the writer need.
+pub mod Ready

@@ -1,2 +1,0 @@
--- The round keys in an array, by the cipher.
-pub mod Held

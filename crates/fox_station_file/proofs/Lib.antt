@@ -1,0 +1,2 @@
+-- The theorems on the exports on run files.
+pub mod Exports

@@ -1,0 +1,2 @@
+-- What the station's exports on run files promise.
+pub mod Files
