@@ -1,6 +1,7 @@
 /* FOX64 and FOX128 for the station's C programs: one block sealed or opened, any stretch of a run in CTR
- * mode, and the tag of a message made and tested. Link with libfox.a or libfox.so. libfox_card.a has all but
- * the calls named fox_server_, in about a ninth of the code. C99 and C++.
+ * mode, the tag of a message made and tested, and run files written and read. Link with libfox.a or libfox.so.
+ * libfox_card.a has all but the calls named fox_server_ and fox_file_, in about a ninth of the code. C99 and
+ * C++.
  *
  * To seal safely:
  *
@@ -18,7 +19,8 @@
  *   1 in 2,000 comes at 8,589,934,592 GiB.
  * - Keep cipher, rounds and counter block, or its number, with the sealed run: they are no secret, and without
  *   them it cannot be opened.
- * - Tag what was sealed, and test the tag before opening it (fox_card_make_tag and the calls after it).
+ * - Tag what was sealed, and test the tag before opening it (fox_card_make_tag and the calls after it), or put
+ *   it into a run file, which has its tag in it (fox_file_write and the calls after it).
  * - Wipe keys when they are done with (fox_wipe, fox_wipe_stack).
  *
  * The users' words, and what the field says:
@@ -32,11 +34,15 @@
  *   message        the bytes that a tag is made over, such as the sealed bytes of a run
  *   tag            the CMAC of a message (NIST SP 800-38B), as long as the block: whoever has the key sees by
  *                  it whether the message was changed
+ *   scan           a part of a run, 0 to 65,536 bytes, as the station recorded them together
+ *   run file       a run as a file, scan after scan, with its cipher, rounds, counter block and tag
+ *   place          where a reader stands in a run file
  *   engine         an implementation: card, with little memory, and server, with much
  *   prepared key   the expanded key, which is all round keys; the server engine makes it in each call
  *   refusal        an error number from 1 on; 0 is success
  *   count          the number of bytes written, which the answer tells: the output's length for a call that
- *                  answers 0, and 0 for any other; a test of a tag has no output, and count 0 always
+ *                  answers 0, and 0 for any other; a test of a tag has no output, and count 0 always. Calls on
+ *                  run files put it where they are told to
  *
  * The card engine (fox_card_...) and the server engine (fox_server_...) do the same work: they give the
  * same answer and the same bytes for the same parameters, so what one seals the other opens, and a tag that
@@ -44,41 +50,55 @@
  * The server engine expands the key and makes its tables once in a call, and is fast on many blocks; for one
  * block these preparations are most of the work.
  *
- * Every call of an engine, and fox_counter, answers FOX_SERVED, which is 0, or the number of the first refusal
- * below that applies. A served call has written all of `out`, or of the `tag` or `counter` that it makes; a
- * refused one has written nothing. fox_refusal_text has a sentence for each number.
+ * Every call of an engine, fox_counter, and every call on a run file that gives a count or takes a file up,
+ * answers FOX_SERVED, which is 0, or the number of the first refusal below that applies; for run files 12 is
+ * looked for before 6, and 10 after all others. A served call has written all of `out`, or of the `tag` or
+ * `counter` that it makes, and fox_file_write as much of `out` as it counts; a refused one has written nothing,
+ * but for a count of 0, or a place that is the end. fox_refusal_text has a sentence for each number.
  *
  *    1  FOX_REFUSED_CIPHER      cipher is neither 64 nor 128
  *    2  FOX_REFUSED_ROUNDS      rounds is below 12 or above 255 (not fox_counter)
- *    3  FOX_REFUSED_KEY         key_len is above 32 (not fox_counter)
+ *    3  FOX_REFUSED_KEY         key_len is above 32 (not fox_counter and fox_file_size, which have no key)
  *    4  FOX_REFUSED_BLOCK       block_len, or counter_len, is not the cipher's block: 8 for FOX64, 16 for
- *                               FOX128 (blocks, runs and fox_counter)
+ *                               FOX128 (blocks, runs, fox_counter and fox_file_write); the file's header has
+ *                               no counter block of this cipher (fox_file_read)
  *    5  FOX_REFUSED_DATA        a run's data_len is above 65,536, or message_len is above 1,073,741,824
  *    6  FOX_REFUSED_OUTPUT      out_len is not block_len, or not data_len; for a tag that is made, tag_len is
- *                               not the cipher's block
- *    7  FOX_REFUSED_END         offset + data_len, as a sum that does not wrap, is above 1,073,741,824 (runs
- *                               only)
+ *                               not the cipher's block; out_len is below the length of the file that is to be
+ *                               written, or is not that of the scan that is to be read
+ *    7  FOX_REFUSED_END         offset + data_len, as a sum that does not wrap, is above 1,073,741,824 (runs;
+ *                               fox_file_read at a place that is not good)
  *    8  FOX_REFUSED_SHEET       the bench program's sheet is malformed; no call here answers it
  *    9  FOX_REFUSED_TAG_LENGTH  for a tag that is tested, tag_len is not the cipher's block
- *   10  FOX_REFUSED_TAG         the tag that is tested is not that of the message
+ *   10  FOX_REFUSED_TAG         the tag that is tested is not that of the message; the tag in the file that is
+ *                               taken up is not that of the file
+ *   11  FOX_REFUSED_HEADER      the header of the file that is taken up is broken, or it is not that of this
+ *                               cipher and these rounds
+ *   12  FOX_REFUSED_FILE        after its header the file that is taken up is broken, or cut short; it has, or
+ *                               would have, more than 65,535 scans, a scan of more than 65,536 bytes, or more
+ *                               than 1,073,741,824 bytes before the line `close`; the lengths of the scans
+ *                               that are to be written do not add up to data_len, as a sum that does not wrap
  *
  * What a caller has to see to, since nothing checks it:
  *
- * - Each pointer has as many bytes behind it as its length says, with any alignment. This holds for refused
- *   calls too.
+ * - Each pointer has as many bytes behind it as its length says, with any alignment; `lengths` has as many
+ *   numbers behind it as there are scans, `place` three and `count` one, all aligned as a uint64_t is. This
+ *   holds for refused calls too.
  * - No pointer is NULL, not even with a length of 0: the proofs are about references, and those are never
  *   NULL. With a length of 0 nothing is read or written there, so any other address will do, such as that
  *   of any variable.
- * - `out` overlaps none of key, block, counter and data, so nothing is sealed in place; a `tag` that is made
- *   overlaps neither key nor message. All others, a tag that is tested among them, are only read, and may
+ * - `out` overlaps none of key, block, counter, data, lengths and file, so nothing is sealed in place; a `tag`
+ *   that is made overlaps neither key nor message. `count`, and a `place` that is set or moved on, overlap
+ *   nothing else that the call is lent. All others, a tag that is tested among them, are only read, and may
  *   overlap one another.
- * - While a call runs, no other thread writes to what it reads, and none reads or writes its `out`, or the
- *   `tag` that it makes.
+ * - While a call runs, no other thread writes to what it reads, and none reads or writes its `out`, its
+ *   `count`, the `place` that it sets or moves on, or the `tag` that it makes.
  *
  * The calls keep no state, allocate nothing and make no system calls, so several threads may call at once.
  * Of the C library they use memcpy and memset alone. A call by the card engine takes less than FOX_CARD_STACK
  * bytes of stack, which is 1 KiB. A call by the server engine has its tables and round keys there, and takes
- * less than FOX_SERVER_STACK, which is 40 KiB.
+ * less than FOX_SERVER_STACK, which is 40 KiB. So does a call on a run file, which does its work by that
+ * engine.
  *
  * Left out: protection against timing measurement; nothing of it is promised. What is measured, of the code
  * that the tests run on: calls by the card engine with the same cipher, rounds, lengths, offset and counter
@@ -89,16 +109,16 @@
  *
  * Opening does not detect a wrong key, counter block or round count, or sealed bytes that were changed: it
  * then gives other bytes. That sealed bytes were changed, a tag over them tells, where one was made and is
- * tested before opening. And no call wipes what it leaves behind: the server engine's round keys, and the
- * card engine's key and mixed key, stay in the stack below the caller until something else is written there;
- * fox_wipe_stack wipes them. What stays even then is named there. */
+ * tested before opening, as is done when a run file is taken up. And no call wipes what it leaves behind: the
+ * server engine's round keys, and the card engine's key and mixed key, stay in the stack below the caller until
+ * something else is written there; fox_wipe_stack wipes them. What stays even then is named there. */
 #ifndef FOX_H
 #define FOX_H
 
 #include <stddef.h>
 #include <stdint.h>
 
-#define FOX_VERSION "0.2.0"
+#define FOX_VERSION "0.3.0"
 
 /* What the compiler is told of the calls, where it knows the words: that no pointer is NULL, that the answer is to
  * be looked at, and which parameter is the length of what is read or written. */
@@ -112,6 +132,7 @@
 #if __has_attribute(access)
 #define FOX_READS(pointer, length) __attribute__((access(read_only, pointer, length)))
 #define FOX_WRITES(pointer, length) __attribute__((access(write_only, pointer, length)))
+#define FOX_WRITES_ONE(pointer) __attribute__((access(write_only, pointer)))
 #endif
 #endif
 #ifndef FOX_NONNULL
@@ -123,6 +144,7 @@
 #ifndef FOX_READS
 #define FOX_READS(pointer, length)
 #define FOX_WRITES(pointer, length)
+#define FOX_WRITES_ONE(pointer)
 #endif
 #define FOX_ON_BLOCK FOX_NONNULL FOX_ANSWERS FOX_READS(3, 4) FOX_READS(5, 6) FOX_WRITES(7, 8)
 #define FOX_ON_RUN FOX_NONNULL FOX_ANSWERS FOX_READS(3, 4) FOX_READS(5, 6) FOX_READS(8, 9) FOX_WRITES(10, 11)
@@ -143,6 +165,10 @@ enum {
     FOX_MOST_DATA = 65536,
     FOX_RUN_END = 1073741824,
     FOX_MOST_MESSAGE = 1073741824,
+    FOX_MOST_SCANS = 65535,
+    FOX_MOST_SCAN = 65536,
+    FOX_MOST_FILE = 1073741824, /* before the line `close` */
+    FOX_PLACE_WORDS = 3,
     FOX_CARD_STACK = 1024,
     FOX_SERVER_STACK = 40960
 };
@@ -158,8 +184,13 @@ enum {
     FOX_REFUSED_END = 7,
     FOX_REFUSED_SHEET = 8,
     FOX_REFUSED_TAG_LENGTH = 9,
-    FOX_REFUSED_TAG = 10
+    FOX_REFUSED_TAG = 10,
+    FOX_REFUSED_HEADER = 11,
+    FOX_REFUSED_FILE = 12
 };
+
+/* What fox_file_next_length tells where no scan follows. */
+#define FOX_END UINT64_MAX
 
 /* One block, sealed or opened. With the same cipher, rounds and key either undoes the other.
  *
@@ -247,6 +278,81 @@ uint32_t fox_server_test_tag(uint32_t cipher, uint32_t rounds, const uint8_t *ke
                              const uint8_t *message, size_t message_len, const uint8_t *tag, size_t tag_len)
     FOX_ON_STORED_TAG;
 
+/* A run file, written and read: a run of scans, as these lines and bytes. Every line ends with one line feed,
+ * and nothing follows the last.
+ *
+ *   format=run
+ *   cipher=64                 or 128
+ *   rounds=16                 12 to 255
+ *   counter=0000000100000000  the counter block that the run begins with, in upper-case hex digits
+ *   scan=1                    then for each scan its number, counted from 1,
+ *   bytes=5                   its length,
+ *   .....                     its sealed bytes, which take their place in the run after those of earlier scans,
+ *                             and a line feed
+ *   scans=1                   the number of scans
+ *   close=0123456789ABCDEF    the tag of all bytes before this line, in upper-case hex digits
+ *
+ * fox_file_size tells, as the count, how long the file of such scans will be. The refusals are 1, 2 and 12.
+ *
+ * fox_file_write seals the scans and writes their file; the count is its length, and what follows it in `out`
+ * stays as it was. The refusals are 1 to 4, 12 and 6, looked for in this order.
+ *
+ * fox_file_take_up looks whether a file is right, every byte of it and the tag last, and sets `place` to its
+ * first scan. The refusals are 1 to 3, 11, 12 and 10, looked for in this order; with any of them `place` is set
+ * to the end of every file, so that nothing can be read there. Of a file above the limit no byte after the
+ * header is read.
+ *
+ * fox_file_next_length tells how long the next scan is, or FOX_END where there is none.
+ *
+ * fox_file_read opens the next scan, with its length as the count, and moves the place on. At the end it answers
+ * FOX_SERVED with a count of 0, writes nothing, and the place stays; an empty scan has a count of 0 too, so ask
+ * fox_file_next_length which of them comes. The refusals are 1 to 4 and 6; the place stays with them too, so
+ * that the scan can be read after all. Nothing is looked at but this scan and the header: that the file is right
+ * was seen when it was taken up, and it is not to be changed since. A scan read with another key, or another
+ * number of rounds, than the file was taken up with opens to other bytes.
+ *
+ * fox_file_skip moves the place over the next scan, and takes as long for a long one as for a short one. At the
+ * end it does nothing.
+ *
+ * Each file is a run: under one key its counter block is that of no other (fox_counter). The key seals and tags
+ * here, since the file has room for no other; so let no run have the number 0, whose first counter block, of
+ * zeros, is the one that the tag's subkeys are made from. What the tag covers is the whole file, cipher, rounds
+ * and counter block with it; that one whole file was put in the place of another under the same key goes unseen.
+ *
+ * cipher, rounds, key, key_len  as for a block; where a file is read, those that it was taken up with
+ * counter, counter_len          the counter block that the run begins with, as for a run
+ * data, data_len                the plain scans, one after the other
+ * lengths, scans                how long each scan is, 0 to 65,536 bytes, and how many there are, 0 to 65,535;
+ *                               together they are as long as the data
+ * out, out_len                  for a file as many bytes as fox_file_size tells, or more; for a scan as many as
+ *                               fox_file_next_length tells
+ * count                         gets the count; 0 where the call is refused
+ * file, file_len                the whole file, with at most 1,073,741,824 bytes before the line `close`
+ * place                         three numbers: where the next scan's first line is in the file, how many scans
+ *                               were passed, and where the next scan's bytes stand in the run. Take-up sets
+ *                               them, reading and skipping move them on, and a copy of them is a place to come
+ *                               back to. Only a place that these calls have handed back for the same file is
+ *                               good. Of any other one nothing is promised but that the calls end, and read and
+ *                               write nothing outside what they were lent */
+uint32_t fox_file_size(uint32_t cipher, uint32_t rounds, const uint64_t *lengths, size_t scans, uint64_t *count)
+    FOX_NONNULL FOX_ANSWERS FOX_READS(3, 4) FOX_WRITES_ONE(5);
+uint32_t fox_file_write(uint32_t cipher, uint32_t rounds, const uint8_t *key, size_t key_len,
+                        const uint8_t *counter, size_t counter_len, const uint8_t *data, size_t data_len,
+                        const uint64_t *lengths, size_t scans, uint8_t *out, size_t out_len, uint64_t *count)
+    FOX_NONNULL FOX_ANSWERS FOX_READS(3, 4) FOX_READS(5, 6) FOX_READS(7, 8) FOX_READS(9, 10) FOX_WRITES(11, 12)
+    FOX_WRITES_ONE(13);
+uint32_t fox_file_take_up(uint32_t cipher, uint32_t rounds, const uint8_t *key, size_t key_len,
+                          const uint8_t *file, size_t file_len, uint64_t place[FOX_PLACE_WORDS])
+    FOX_NONNULL FOX_ANSWERS FOX_READS(3, 4) FOX_READS(5, 6);
+uint64_t fox_file_next_length(const uint8_t *file, size_t file_len, const uint64_t place[FOX_PLACE_WORDS])
+    FOX_NONNULL FOX_ANSWERS FOX_READS(1, 2);
+uint32_t fox_file_read(uint32_t cipher, uint32_t rounds, const uint8_t *key, size_t key_len,
+                       const uint8_t *file, size_t file_len, uint64_t place[FOX_PLACE_WORDS],
+                       uint8_t *out, size_t out_len, uint64_t *count)
+    FOX_NONNULL FOX_ANSWERS FOX_READS(3, 4) FOX_READS(5, 6) FOX_WRITES(8, 9) FOX_WRITES_ONE(10);
+void fox_file_skip(const uint8_t *file, size_t file_len, uint64_t place[FOX_PLACE_WORDS])
+    FOX_NONNULL FOX_READS(1, 2);
+
 /* Wiping, which is C code and not proved; the tests look for keys in the stack after each call, and find none
  * once it was wiped.
  *
@@ -262,7 +368,7 @@ uint32_t fox_server_test_tag(uint32_t cipher, uint32_t rounds, const uint8_t *ke
 void fox_wipe(void *bytes, size_t length) FOX_NONNULL FOX_WRITES(1, 2);
 void fox_wipe_stack(void);
 
-/* One sentence in English for a number from 0 to 10: what it means, and what would be right. For any other
+/* One sentence in English for a number from 0 to 12: what it means, and what would be right. For any other
  * number the sentence says that it means nothing. Never NULL; the text is constant and stays valid while
  * the program runs. */
 const char *fox_refusal_text(uint32_t number);
@@ -275,6 +381,7 @@ const char *fox_refusal_text(uint32_t number);
 #undef FOX_ANSWERS
 #undef FOX_READS
 #undef FOX_WRITES
+#undef FOX_WRITES_ONE
 #undef FOX_ON_BLOCK
 #undef FOX_ON_RUN
 #undef FOX_ON_STORED_TAG

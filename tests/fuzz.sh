@@ -1,14 +1,15 @@
 #!/bin/sh
-# Fuzzes the bench sheet and the calls of every engine by clang's libFuzzer, with the second implementation beside them:
-# sh tests/fuzz.sh [SECONDS] [sheet|calls]. Without a name both are run, each for half of the seconds, 600 in all.
-# SEED=.. in the environment gives the seed that an earlier run printed. FAULT=.. puts that fault of tests/fuzz/wrong_*.c
-# into the library. What is found stays in build/fuzz/found; build/fuzz/sheet.fuzzer FILE, or calls.fuzzer, shows it again.
+# Fuzzes the bench sheet, the calls of every engine and those on run files by clang's libFuzzer, with the second
+# implementation beside them: sh tests/fuzz.sh [SECONDS] [sheet|calls|file]. Without a name all are run, each for a third of
+# the seconds, 600 in all. SEED=.. in the environment gives the seed that an earlier run printed. FAULT=.. puts that fault of
+# tests/fuzz/wrong_*.c into the library. What is found stays in build/fuzz/found; build/fuzz/sheet.fuzzer FILE, or that of
+# another name, shows it again.
 # The exit status is 1 where anything was found, and 2 where something could not be run.
 set -u
 cd "$(dirname "$0")/.." || exit 2
 unset PROCESSOR
 . tests/host.sh
-seconds=${1:-600} names=${2:-sheet calls} seed=${SEED:-$(date +%s)}
+seconds=${1:-600} names=${2:-sheet calls file} seed=${SEED:-$(date +%s)}
 clang=${CLANG:-clang}
 t=tests/fuzz libraries=build/fuzz into=build/fuzz${FAULT:+/wrong}
 flags="-std=gnu11 -g -O2 -Wall -Wextra -Werror $includes"
@@ -21,19 +22,27 @@ stop() { # WHAT
     exit 2
 }
 
-part() { # WHAT sheet|calls
+part() { # WHAT sheet|calls|file
     case $1-$2 in
         crates-sheet) echo fox_check_probe ;;
         crates-calls) sed -n 's/^CALLS = //p' Makefile | sed -e 's|$(OUT)/||g' -e 's|\.o||g' ;;
+        crates-file) echo fox_station_file fox_station_server ;;
         sources-sheet) echo "$t/sheet.c $t/begin.c $t/exact.c $s/sheet.c $second $c/answers.c" ;;
         sources-calls)
             echo "$t/calls.c $t/begin.c $t/take.c $t/change.c $t/exact.c tests/beside/second_answer.c" \
                 "$second $engines $c/answers.c $c/chance.c"
             ;;
+        sources-file)
+            echo "$t/file.c $t/begin.c $t/change_file.c $t/exact.c tests/file/outcome.c $s/file.c $c/file_call.c" \
+                "$c/hex.c $c/answers.c $c/chance.c"
+            ;;
+        plain-file) echo "$second" ;;
         wrapped-sheet) echo fox_probe_sheet ;;
         wrapped-calls) echo fox_card_open_block fox_server_run fox_server_make_tag fox_card_test_tag ;;
+        wrapped-file) echo fox_file_take_up fox_file_read fox_file_skip fox_file_write ;;
         words-sheet) echo "-dict=$t/sheet.dict -max_len=400" ;;
         words-calls) echo "-max_len=256 -len_control=0 -entropic_scale_per_exec_time=1" ;;
+        words-file) echo "-dict=$t/file.dict -max_len=400 -entropic_scale_per_exec_time=1" ;;
     esac
 }
 
@@ -61,9 +70,15 @@ guarded_library() { # CRATE
         -c -x ir "$libraries/$1.ll" -o "$library" 2>>"target/log/$1.guarded"
 }
 
-# Besides the fuzzer itself there is one to which the library's branches alone count.
-build() { # sheet|calls
+# Besides the fuzzer itself there is one to which the library's branches alone count. What is plain is compiled without
+# sanitizers: the second implementation's cipher, where it would take most of the time.
+build() { # sheet|calls|file
     sources=$(part sources "$1")
+    for source in $(part plain "$1"); do
+        object=$into/$(basename "$source" .c).o
+        "$clang" -std=gnu11 -O2 -Wall -Wextra -Werror $includes -c -o "$object" "$source" || stop "$source was not compiled"
+        sources="$sources $object"
+    done
     for crate in $(part crates "$1"); do
         guarded_library "$crate" || stop "the library of $crate was not made"
         sources="$sources $library"
@@ -103,6 +118,21 @@ seed_calls() { # FOLDER: a served call of each verb, taken back by each engine, 
     done
 }
 
+# The choices that tests/fuzz/file.c lists, and a file of the vectors, with its own tag, which is another key's, and with one
+# that is made anew; the same file behind a place in it; and lengths of scans behind a counter.
+seed_file() { # FOLDER
+    tail -n +2 tests/vectors/files/LIST.csv | while IFS=, read -r name cipher rounds rest; do
+        [ "$name" != 8.run ] || continue
+        choices=$(printf '\\%03o\\%03o\\020\\000' "$cipher" "$rounds")
+        for kind in 0 1; do
+            { printf "\\00$kind$choices" && cat "tests/vectors/files/$name"; } >"$1/file.$kind.$name"
+        done
+        { printf "\\002$choices\\$(printf %03o $((cipher == 64 ? 56 : 73)))\\000\\000\\000\\000\\000" &&
+            cat "tests/vectors/files/$name"; } >"$1/place.$name"
+        printf "\\003$choices"'0123456701234567\003\000\020\001\002\003\004\005\006\007\010\011' >"$1/lengths.$name"
+    done
+}
+
 number() { # LOG EXPRESSION: the last number that stands in its place
     sed -n "s/.*$2.*/\\1/p" "$into/$1" | tail -n 1
 }
@@ -138,8 +168,8 @@ fuzz() { # NAME SECONDS
 
 case $seconds in '' | *[!0-9]*) stop "the seconds are to be a number" ;; esac
 case $names in
-    'sheet calls') seconds=$((seconds / 2)) ;;
-    sheet | calls) ;;
+    'sheet calls file') seconds=$((seconds / 3)) ;;
+    sheet | calls | file) ;;
     *) stop "there is no fuzzer named $names" ;;
 esac
 [ "$seconds" -gt 0 ] || stop "so few seconds leave no time to run"

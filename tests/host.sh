@@ -11,8 +11,8 @@ c=tests/common s=tests/second
 second="$s/second.c $s/cmac.c $s/schedule.c $s/rounds.c $s/matrix.c $s/box.c $s/field.c"
 helpers="$c/chance.c $c/hex.c $c/tally.c"
 engines="$c/call.c $c/engines.c $c/hex.c $c/tally.c"
-guarded="$engines $c/answers.c $c/chance.c $c/faults.c $c/laid.c"
-includes="-Iinclude -I$c -I$s -Itests/beside"
+guarded="$engines $c/answers.c $c/chance.c $c/faults.c $c/laid.c $c/rooms.c"
+includes="-Iinclude -I$c -I$s -Itests/beside -Itests/file"
 
 engine_names() { # as the tests' table has them
     sed -n 's/^ENGINE(\([a-z0-9_]*\),.*/\1/p' "$c/engines.def"

@@ -1,6 +1,6 @@
 #!/bin/sh
-# Tests what a C programmer gets: the header, the libraries, the texts, the example in README.md, the installed files, the
-# program stretch and, on the machine's own processor, what make shows and says. Each check counts one; what a missing
+# Tests what a C programmer gets: the header, the libraries, the texts, the examples in README.md, the installed files, the
+# programs stretch and runfile and, on the machine's own processor, what make shows and says. Each check counts one; what a missing
 # optional tool makes impossible is said and left out.
 # Last line: 'N passed, M failed'.
 set -u
@@ -23,5 +23,6 @@ strict='-Wall -Wextra -Wpedantic -Wshadow -Wconversion -Werror'
 . tests/product/stretch.sh
 . tests/product/trouble.sh
 . tests/product/progress.sh
+. tests/product/runfile.sh
 [ "$PROCESSOR" != "$MACHINE" ] || . tests/product/commands.sh
 close_sum

@@ -38,14 +38,33 @@ void catch_faults(void)
         sigaction(faults[i], &action, NULL);
 }
 
-uint32_t make_caught(const struct engine *engine, enum verb verb, const struct call *c)
+int work_faults(void (*work)(void *given), void *given)
 {
     if (sigsetjmp(before_call, 0) != 0)
-        return FAULTED;
+        return 1;
     calling = 1;
-    uint32_t answer = make_call(engine, verb, c);
+    work(given);
     calling = 0;
-    return answer;
+    return 0;
+}
+
+struct made {
+    const struct engine *engine;
+    enum verb verb;
+    const struct call *call;
+    uint32_t answer;
+};
+
+static void make(void *given)
+{
+    struct made *m = given;
+    m->answer = make_call(m->engine, m->verb, m->call);
+}
+
+uint32_t make_caught(const struct engine *engine, enum verb verb, const struct call *c)
+{
+    struct made m = {engine, verb, c, FAULTED};
+    return work_faults(make, &m) ? FAULTED : m.answer;
 }
 
 const uint8_t *fault_place(void)

@@ -13,6 +13,9 @@ void catch_faults(void);
 
 uint32_t make_caught(const struct engine *engine, enum verb verb, const struct call *c);
 
+/* The same for any work that makes a call; answers whether it faulted. */
+int work_faults(void (*work)(void *given), void *given);
+
 /* The address at which the last fault came. */
 const uint8_t *fault_place(void);
 

@@ -7,5 +7,6 @@ int main(void)
     tally_begin("measure");
     instructions();
     stacks();
+    file_stacks();
     return tally_end();
 }

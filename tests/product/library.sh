@@ -1,4 +1,4 @@
-# Sourced by tests/product.sh: the header in each language, the archive, the calls, the texts, and README.md's example.
+# Sourced by tests/product.sh: the header in each language, the archive, the calls, the texts, and README.md's examples.
 
 header_alone() { # COMPILER LANGUAGE STANDARD..: it compiles by itself under each standard, once and twice
     compiler=$1 language=$2
@@ -38,18 +38,18 @@ symbols() { # LIBRARY EXPRESSION WORDS..: those of nm
     same_text '' "$(grep -v -x -e memcpy -e memset "$room/wanted")"
 }
 
-# The tests' table of engines, and its verbs, leave out no call of the header but those that no engine has, each of which has
-# a test of its own.
+# The tests' table of engines, its verbs, and those of run files leave out no call of the header but the few that are named
+# here, each of which has a test of its own.
 every_call() {
     same_text "$(declared . | grep -v -x -e fox_refusal_text -e fox_counter -e fox_wipe -e fox_wipe_stack)" \
-        "$(run_host "$room/calls" names | sort)"
+        "$({ run_host "$room/calls" names && sed -n 's/^    \[FILE_.* = {"\([a-z_]*\)",.*/fox_\1/p' $c/file_call.c; } | sort)"
 }
 
 # A program that keeps to the header is compiled without a word; the compiler tells of an answer that is not looked at, of
 # NULL, and of a buffer that is shorter than its length, where it knows how to.
 told_by_compiler() { # WORD LINE: the warning, and the line of the program that it is for
     printf '%s\n' '#include "fox.h"' 'uint32_t f(void);' 'uint32_t f(void)' '{' '    uint8_t b[8] = {0}, o[8], s[4] = {0};' \
-        '    (void)s, (void)o;' "    $2" '}' >"$room/warned.c"
+        '    uint64_t n[2] = {0}, p[3] = {0}, c;' '    (void)s, (void)o, (void)n, (void)p, (void)c;' "    $2" '}' >"$room/warned.c"
     $CC_HOST -std=c99 -O2 -Wall -Wextra -Iinclude -c -o "$room/warned.o" "$room/warned.c" 2>"$room/error" || return 1
     cat "$room/error"
     if [ -z "$1" ]; then
@@ -62,13 +62,19 @@ told_by_compiler() { # WORD LINE: the warning, and the line of the program that 
 warned_of() {
     told_by_compiler '' 'return fox_card_seal_block(FOX64, 16, b, 8, b, 8, o, 8);' &&
         told_by_compiler unused-result 'fox_card_seal_block(FOX64, 16, b, 8, b, 8, o, 8); return 0;' &&
+        told_by_compiler '' 'return fox_file_read(FOX64, 16, b, 8, b, 8, p, o, 8, &c);' &&
         told_by_compiler unused-result 'fox_counter(FOX64, 1, o, 8); return 0;' &&
+        told_by_compiler unused-result 'fox_file_take_up(FOX64, 16, b, 8, b, 8, p); return 0;' &&
+        told_by_compiler nonnull 'return fox_file_size(FOX64, 16, n, 2, NULL);' &&
         told_by_compiler nonnull 'return fox_server_run(FOX64, 16, NULL, 0, b, 8, 0, b, 8, o, 8);' &&
         told_by_compiler nonnull 'return fox_card_test_tag(FOX64, 16, b, 8, b, 8, NULL, 8);' || return 1
     case $($CC_HOST --version) in *clang*) return 0 ;; esac
     told_by_compiler stringop-overflow 'return fox_card_make_tag(FOX64, 16, b, 8, b, 8, s, 8);' &&
         told_by_compiler stringop-overflow 'return fox_server_run(FOX64, 16, b, 8, b, 8, 0, b, 8, s, 8);' &&
         told_by_compiler stringop-overflow 'return fox_counter(FOX64, 1, s, 8);' &&
+        told_by_compiler stringop-overflow 'return fox_file_take_up(FOX64, 16, b, 8, b, 8, n);' &&
+        told_by_compiler stringop-overflow 'return fox_file_read(FOX64, 16, b, 8, b, 8, p, s, 8, &c);' &&
+        told_by_compiler stringop-overread 'return fox_file_size(FOX64, 16, n, 3, &c);' &&
         told_by_compiler stringop-overread 'return fox_server_run(FOX64, 16, s, 16, b, 8, 0, b, 8, o, 8);'
 }
 
@@ -85,30 +91,30 @@ card_alone() {
     [ "$text" -lt 40000 ] && [ "$((text * 4))" -lt "$(text_of "$OUT/libfox.a")" ]
 }
 
-readme_block() { # MARK: the block of README.md that is marked so, the first for C or the next after that
-    awk -v mark="$1" '
-        $0 == "```c" { seen = 1 }
-        seen && !on && $0 == "```" mark { on = 1; next }
+readme_block() { # MARK NUMBER: the block of README.md that is marked so, the one for C with this number or the next after that
+    awk -v mark="$1" -v number="$2" '
+        $0 == "```c" { seen++ }
+        seen == number && !on && $0 == "```" mark { on = 1; next }
         on && $0 == "```" { exit }
         on' README.md
 }
 
 # As printed, in a folder with the names that the command has.
-readme_example() {
-    readme_block c >"$room/example.c"
-    readme_block text >"$room/readme.shown"
-    command=$(sed -n 's/^    \(gcc example.c .*\)$/\1/p' README.md)
-    [ -s "$room/example.c" ] && [ -s "$room/readme.shown" ] && [ -n "$command" ] || {
-        echo "README.md has no block marked c, none marked text after it, or no command that compiles example.c"
+readme_example() { # NUMBER NAME: that of the block, and of the file that the command compiles
+    readme_block c "$1" >"$room/$2.c"
+    readme_block text "$1" >"$room/readme.shown"
+    command=$(sed -n "s/^    \(gcc $2.c .*\)\$/\1/p" README.md)
+    [ -s "$room/$2.c" ] && [ -s "$room/readme.shown" ] && [ -n "$command" ] || {
+        echo "README.md has no block $1 marked c, none marked text after it, or no command that compiles $2.c"
         return 1
     }
     if [ "$PROCESSOR" = "$MACHINE" ]; then
-        ln -s "$PWD/include" "$PWD/build" "$room"
+        ln -sfn "$PWD/include" "$room/include" && ln -sfn "$PWD/build" "$room/build"
         (cd "$room" && sh -c "$command") >"$room/readme.out"
     else
-        $CC_HOST -std=c99 -Iinclude -o "$room/readme" "$room/example.c" "$OUT/libfox.a" && run_host "$room/readme" >"$room/readme.out"
+        $CC_HOST -std=c99 -Iinclude -o "$room/readme" "$room/$2.c" "$OUT/libfox.a" && run_host "$room/readme" >"$room/readme.out"
     fi && diff "$room/readme.shown" "$room/readme.out" &&
-        $CC_HOST -std=c99 -Wall -Wextra -Wpedantic -Werror -Iinclude -fsyntax-only "$room/example.c"
+        $CC_HOST -std=c99 -Wall -Wextra -Wpedantic -Werror -Iinclude -fsyntax-only "$room/$2.c"
 }
 
 check "every refusal's text is there, names what is right, and is no other's" compiled_and_right texts tests/product/texts.c $c/tally.c
@@ -137,4 +143,5 @@ check "every call on vectors, refusals and limits" compiled_and_right calls test
 check "every call that the header declares is among those" every_call
 check "four threads at once get the bytes that one alone gets" \
     compiled_and_right threads tests/product/threads.c $engines -pthread
-check "the C example of README.md is compiled as printed and prints what is shown" readme_example
+check "the C example of README.md is compiled as printed and prints what is shown" readme_example 1 example
+check "its example of a run file is compiled as printed and prints what is shown" readme_example 2 runfile

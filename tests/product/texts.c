@@ -8,18 +8,20 @@
 #include <stdlib.h>
 #include <string.h>
 
-static const char *const named[][4] = {
+static const char *const named[][6] = {
     [FOX_SERVED] = {"Served", "output", "written", "tag"},
     [FOX_REFUSED_CIPHER] = {"cipher", "64", "128"},
     [FOX_REFUSED_ROUNDS] = {"rounds", "12", "255"},
     [FOX_REFUSED_KEY] = {"key", "32 bytes"},
     [FOX_REFUSED_BLOCK] = {"block", "counter", "8 bytes", "16 bytes"},
     [FOX_REFUSED_DATA] = {"data", "65,536", "message", "1,073,741,824"},
-    [FOX_REFUSED_OUTPUT] = {"output", "input", "tag 8", "16"},
+    [FOX_REFUSED_OUTPUT] = {"output", "input", "tag 8", "16", "scan", "file"},
     [FOX_REFUSED_END] = {"run", "offset", "length", "1,073,741,824"},
     [FOX_REFUSED_SHEET] = {"sheet", "line"},
     [FOX_REFUSED_TAG_LENGTH] = {"stored tag", "8 bytes", "16 bytes"},
-    [FOX_REFUSED_TAG] = {"tag", "differs", "message", "key"},
+    [FOX_REFUSED_TAG] = {"tag", "differs", "message", "key", "file"},
+    [FOX_REFUSED_HEADER] = {"header", "cipher", "rounds"},
+    [FOX_REFUSED_FILE] = {"cut short", "65,535", "65,536", "1,073,741,824", "lengths", "add up"},
 };
 static const uint32_t others[] = {COUNT(named), COUNT(named) + 1, 255, 256, 65536, 0x7FFFFFFF, 0x80000000, UINT32_MAX};
 

@@ -1,5 +1,5 @@
-/* Four threads make every engine's calls at once, each with another cipher, key and offset, and are to get the bytes
- * that the same calls gave alone. */
+/* Four threads make every engine's calls and those on run files at once, each with another cipher, key and offset, and
+ * are to get the bytes that the same calls gave alone. */
 #define _GNU_SOURCE
 #include "call.h"
 #include "fox.h"
@@ -8,13 +8,13 @@
 #include <stdio.h>
 #include <string.h>
 
-enum { THREADS = 4, TIMES = 30, LENGTH = 500 };
+enum { THREADS = 4, TIMES = 30, LENGTH = 500, FILE_ROOM = 700 };
 
 struct caller {
     uint32_t cipher, rounds;
     size_t key_len;
     uint64_t offset;
-    uint8_t key[FOX_MOST_KEY], first[FOX128_BLOCK], data[LENGTH], alone[VERBS][LENGTH];
+    uint8_t key[FOX_MOST_KEY], first[FOX128_BLOCK], data[LENGTH], alone[VERBS][LENGTH], file_alone[FILE_ROOM];
     int wrong;
 };
 
@@ -54,10 +54,29 @@ static int called(const struct caller *c, const struct engine *engine, uint8_t o
     return right;
 }
 
+/* The data as a run file of two scans, written, taken up, and read. */
+static int filed(const struct caller *c, uint8_t *file)
+{
+    const uint64_t lengths[] = {LENGTH - 77, 77};
+    const size_t b = block_of(c->cipher);
+    uint64_t size, place[FOX_PLACE_WORDS], count;
+    uint8_t out[LENGTH], *at = out;
+    if (fox_file_write(c->cipher, c->rounds, c->key, c->key_len, c->first, b, c->data, LENGTH, lengths, 2, file,
+                       FILE_ROOM, &size) != FOX_SERVED ||
+        fox_file_take_up(c->cipher, c->rounds, c->key, c->key_len, file, (size_t)size, place) != FOX_SERVED)
+        return 0;
+    for (size_t i = 0; i < 2; i++, at += count)
+        if (fox_file_read(c->cipher, c->rounds, c->key, c->key_len, file, (size_t)size, place, at, (size_t)lengths[i],
+                          &count) != FOX_SERVED)
+            return 0;
+    return memcmp(out, c->data, LENGTH) == 0 && fox_file_next_length(file, (size_t)size, place) == FOX_END;
+}
+
 static int again(const struct caller *c, const struct engine *engine)
 {
-    uint8_t out[VERBS][LENGTH] = {{0}};
-    return called(c, engine, out) && memcmp(out, c->alone, sizeof out) == 0;
+    uint8_t out[VERBS][LENGTH] = {{0}}, file[FILE_ROOM] = {0};
+    return called(c, engine, out) && memcmp(out, c->alone, sizeof out) == 0 && filed(c, file) &&
+           memcmp(file, c->file_alone, sizeof file) == 0;
 }
 
 static void *call_often(void *caller)
@@ -72,7 +91,7 @@ static void *call_often(void *caller)
 /* What the first engine gives alone, and every other one as well. */
 static int prepared(struct caller *c)
 {
-    int right = called(c, &engines[0], c->alone);
+    int right = called(c, &engines[0], c->alone) && filed(c, c->file_alone);
     for (size_t i = 1; i < ENGINES; i++)
         right = right && again(c, &engines[i]);
     return right;

@@ -1,5 +1,5 @@
-/* What the parts of the self-check have in common: cases that compare, rows of a file, and the groups about tags, which
- * vectors.c calls. */
+/* What the parts of the self-check have in common: cases that compare, rows of a file, and the groups about tags and
+ * run files, which vectors.c calls. */
 #ifndef SECOND_CHECK_H
 #define SECOND_CHECK_H
 
@@ -20,5 +20,8 @@ void rows(const char *path, size_t width, uint32_t expected, void (*check_row)(c
 
 /* tag_vectors.c; the path is that of the rows of tags. */
 void check_tags(const char *path);
+
+/* file_vectors.c; the path is that of a folder of run files, with LIST.csv, which says what is in them. */
+void check_files(const char *path);
 
 #endif

@@ -12,8 +12,7 @@ static size_t block_size(uint32_t cipher)
     return cipher / 8;
 }
 
-/* Refusals 1 to 3, which all calls have in common. */
-static uint32_t key_refusal(uint32_t cipher, uint32_t rounds, size_t key_len)
+uint32_t second_key_refusal(uint32_t cipher, uint32_t rounds, size_t key_len)
 {
     if (cipher != 64 && cipher != 128)
         return 1;
@@ -25,7 +24,7 @@ static uint32_t key_refusal(uint32_t cipher, uint32_t rounds, size_t key_len)
 /* Refusals 1 to 4, which a block and a run have in common. */
 static uint32_t early_refusal(uint32_t cipher, uint32_t rounds, size_t key_len, size_t block_len)
 {
-    uint32_t refusal = key_refusal(cipher, rounds, key_len);
+    uint32_t refusal = second_key_refusal(cipher, rounds, key_len);
     if (refusal != 0)
         return refusal;
     return block_len != block_size(cipher) ? 4 : 0;
@@ -111,7 +110,7 @@ uint32_t second_counter(uint32_t cipher, uint32_t number, uint8_t *counter, size
 static uint32_t tag_refusal(uint32_t cipher, uint32_t rounds, size_t key_len, size_t message_len, size_t tag_len,
                             uint32_t other_length)
 {
-    uint32_t refusal = key_refusal(cipher, rounds, key_len);
+    uint32_t refusal = second_key_refusal(cipher, rounds, key_len);
     if (refusal != 0)
         return refusal;
     if (message_len > MOST_MESSAGE)

@@ -7,6 +7,9 @@
 #include <stddef.h>
 #include <stdint.h>
 
+/* Refusals 1 to 3, which all calls with a key have in common. */
+uint32_t second_key_refusal(uint32_t cipher, uint32_t rounds, size_t key_len);
+
 /* One block, sealed, or opened where `opening` is not 0. */
 uint32_t second_block(int opening, uint32_t cipher, uint32_t rounds, const uint8_t *key, size_t key_len,
                       const uint8_t *block, size_t block_len, uint8_t *out, size_t out_len);

@@ -1,5 +1,6 @@
-/* The second implementation by itself: 001's vectors, 01's known values and sheet, tags, and the rows of three files.
- * Usage: vectors BLOCKS RUNS TAGS. Last line: 'N passed, M failed', where each group of cases counts as one. */
+/* The second implementation by itself: 001's vectors, 01's known values and sheet, tags, run files, and the rows of
+ * three files. Usage: vectors BLOCKS RUNS TAGS FILES. Last line: 'N passed, M failed', where each group of cases counts
+ * as one. */
 #include "check.h"
 #include "count.h"
 #include "hex.h"
@@ -242,8 +243,8 @@ static void run_row(char **fields)
 
 int main(int count, char **words)
 {
-    if (count != 4) {
-        fprintf(stderr, "usage: vectors BLOCKS RUNS TAGS\n");
+    if (count != 5) {
+        fprintf(stderr, "usage: vectors BLOCKS RUNS TAGS FILES\n");
         return 2;
     }
     tally_begin("second");
@@ -258,5 +259,6 @@ int main(int count, char **words)
     rows(words[1], 5, 252, block_row);
     rows(words[2], 7, 112, run_row);
     check_tags(words[3]);
+    check_files(words[4]);
     return tally_end();
 }

@@ -1,20 +1,26 @@
 /* Looks for keys in the stack that a call has left behind: without fox_wipe_stack they are there, and after it none is.
- * Usage: left [ENGINE], for the calls of that engine alone. Last line: 'N passed, M failed'. */
+ * Usage: left [ENGINE], for the calls of that engine alone; without it those on run files are made too. Last line: 'N
+ * passed, M failed'. */
 #include "call.h"
 #include "count.h"
+#include "file_call.h"
 #include "fox.h"
 #include "painted.h"
 #include "parts.h"
 #include "tally.h"
 
+#include <stdio.h>
 #include <string.h>
 
-enum { WORD = 4, ROUNDS = 16, LENGTH = 150 };
+enum { WORD = 4, ROUNDS = 16, LENGTH = 150, ROOM = 512 };
 
-static uint8_t first[FOX128_BLOCK], data[LENGTH], out[LENGTH], key[FOX_MOST_KEY];
+static uint8_t first[FOX128_BLOCK], data[LENGTH], out[LENGTH], key[FOX_MOST_KEY], file[ROOM];
 static const struct engine *engine;
 static enum verb verb;
 static struct call call;
+static enum file_verb file_verb;
+static struct file_call file_call;
+static uint64_t place[FOX_PLACE_WORDS], count;
 static uint32_t answer;
 static int wiping;
 
@@ -26,41 +32,92 @@ static void caller(void)
         fox_wipe_stack();
 }
 
+static void file_caller(void)
+{
+    answer = (uint32_t)make_file_call(file_verb, &file_call);
+    if (wiping)
+        fox_wipe_stack();
+}
+
+static void prepare(uint32_t cipher, size_t key_len)
+{
+    call = (struct call){cipher, ROUNDS, key, key_len, first, block_of(cipher), 3, data, sizeof data, out, 0};
+    call.out_len = right_out_len(verb, &call);
+}
+
+/* A file of two scans, the first of which is read. The library writes it, and takes it up, before. */
+static void prepare_file(uint32_t cipher, size_t key_len)
+{
+    static const uint64_t lengths[] = {LENGTH - 50, 50};
+    struct file_call *c = &file_call;
+    *c = (struct file_call){cipher, ROUNDS, key, key_len, first, block_of(cipher), data, sizeof data, lengths,
+                            COUNT(lengths), file, 0, place, file, sizeof file, &count};
+    answer = (uint32_t)make_file_call(FILE_WRITE, c);
+    c->file_len = (size_t)count;
+    answer += (uint32_t)make_file_call(FILE_TAKE_UP, c);
+    if (file_verb == FILE_READ)
+        c->out = out, c->out_len = (size_t)lengths[0];
+}
+
+/* How a call is prepared and made, by what name it goes, and what it answers. */
+struct made {
+    void (*prepare)(uint32_t cipher, size_t key_len), (*make)(void);
+    char name[40];
+    uint32_t right;
+};
+
 /* Words that are left, of key and mixed key, and of round keys. */
 struct left {
     size_t keys, round_keys;
 };
 
-static struct left left_by(uint32_t cipher, size_t key_len, int wiped)
+static struct left left_by(const struct made *made, uint32_t cipher, size_t key_len, int wiped)
 {
     uint8_t mixed[MOST_KEY], round_keys[ROUNDS * MOST_BLOCK];
     size_t block = block_of(cipher), ek = second_ek(block, key_len);
-    call = (struct call){cipher, ROUNDS, key, key_len, first, block, 3, data, sizeof data, out, 0};
-    call.out_len = right_out_len(verb, &call);
     second_mixed_key(mixed, ek, key, key_len);
     second_round_keys(round_keys, block, ROUNDS, key, key_len);
+    made->prepare(cipher, key_len);
     wiping = wiped;
-    on_painted_stack(caller);
+    on_painted_stack(made->make);
     return (struct left){words_left(key, key_len, WORD) + words_left(mixed, ek, WORD),
                          words_left(round_keys, block * ROUNDS, WORD)};
 }
 
-/* Keys that are mixed and keys that are not, for each cipher. No tag that is tested here is right. */
-static void one_call(void)
+/* Keys that are mixed and keys that are not, for each cipher. */
+static void one_call(const struct made *made)
 {
     static const size_t key_lens[] = {12, 16, 24, FOX_MOST_KEY};
     struct left without = {0, 0}, after = {0, 0};
     int some = 1;
     for (size_t i = 0; i < 2 * COUNT(key_lens); i++) {
         uint32_t cipher = i % 2 == 0 ? FOX64 : FOX128;
-        struct left l = left_by(cipher, key_lens[i / 2], 0), w = left_by(cipher, key_lens[i / 2], 1);
-        some &= l.keys + l.round_keys > 0 && answer == (verb == TEST_TAG ? FOX_REFUSED_TAG : FOX_SERVED);
+        struct left l = left_by(made, cipher, key_lens[i / 2], 0), w = left_by(made, cipher, key_lens[i / 2], 1);
+        some &= l.keys + l.round_keys > 0 && answer == made->right;
         without.keys += l.keys, without.round_keys += l.round_keys;
         after.keys += w.keys, after.round_keys += w.round_keys;
     }
     figure(some && after.keys + after.round_keys == 0,
-           "fox_%s_%s leaves %zu words of keys and mixed keys and %zu of round keys, after fox_wipe_stack %zu and %zu",
-           engine->name, verbs[verb].name, without.keys, without.round_keys, after.keys, after.round_keys);
+           "fox_%s leaves %zu words of keys and mixed keys and %zu of round keys, after fox_wipe_stack %zu and %zu",
+           made->name, without.keys, without.round_keys, after.keys, after.round_keys);
+}
+
+/* No tag that is tested here is right. */
+static void engine_call(void)
+{
+    struct made made = {prepare, caller, "", verb == TEST_TAG ? FOX_REFUSED_TAG : FOX_SERVED};
+    snprintf(made.name, sizeof made.name, "%s_%s", engine->name, verbs[verb].name);
+    one_call(&made);
+}
+
+static void calls_on_files(void)
+{
+    for (file_verb = 0; file_verb < FILE_VERBS; file_verb++) {
+        struct made made = {prepare_file, file_caller, "", FOX_SERVED};
+        snprintf(made.name, sizeof made.name, "%s", file_verbs[file_verb].name);
+        if (file_verbs[file_verb].has & HAS_KEY)
+            one_call(&made);
+    }
 }
 
 /* An array that nothing looks at afterwards. */
@@ -75,13 +132,13 @@ static void with_array(void)
 
 static void one_array(void)
 {
-    size_t count[2];
+    size_t left[2];
     for (wiping = 0; wiping < 2; wiping++) {
         on_painted_stack(with_array);
-        count[wiping] = words_left(key, sizeof key, WORD);
+        left[wiping] = words_left(key, sizeof key, WORD);
     }
-    figure(count[0] == sizeof key / WORD && count[1] == 0,
-           "of a key in an array of its caller's %zu words are left, and after fox_wipe %zu", count[0], count[1]);
+    figure(left[0] == sizeof key / WORD && left[1] == 0,
+           "of a key in an array of its caller's %zu words are left, and after fox_wipe %zu", left[0], left[1]);
 }
 
 static void exactly(void)
@@ -110,7 +167,7 @@ static void as_deep_as_said(size_t depth)
            zeros, taken, depth, depth + 64);
 }
 
-int main(int count, char **words)
+int main(int word_count, char **words)
 {
     size_t deepest = 0;
     tally_begin("wipe");
@@ -118,12 +175,14 @@ int main(int count, char **words)
         key[i] = (uint8_t)(0x9D + 37 * i);
     for (size_t i = 0; i < ENGINES; i++) {
         engine = &engines[i];
-        if (count > 1 && strcmp(words[1], engine->name) != 0)
+        if (word_count > 1 && strcmp(words[1], engine->name) != 0)
             continue;
         deepest = engine->stack > deepest ? engine->stack : deepest;
         for (verb = 0; verb < VERBS; verb++)
-            one_call();
+            engine_call();
     }
+    if (word_count == 1)
+        calls_on_files();
     one_array();
     exactly();
     as_deep_as_said(deepest);
