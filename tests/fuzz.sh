@@ -26,7 +26,7 @@ part() { # WHAT sheet|calls|file
     case $1-$2 in
         crates-sheet) echo fox_check_probe ;;
         crates-calls) sed -n 's/^CALLS = //p' Makefile | sed -e 's|$(OUT)/||g' -e 's|\.o||g' ;;
-        crates-file) echo fox_station_file fox_station_server ;;
+        crates-file) echo "fox_station_file${FAULT:+ fox_station_server}" ;;
         sources-sheet) echo "$t/sheet.c $t/begin.c $t/exact.c $s/sheet.c $second $c/answers.c" ;;
         sources-calls)
             echo "$t/calls.c $t/begin.c $t/take.c $t/change.c $t/exact.c tests/beside/second_answer.c" \
