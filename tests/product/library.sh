@@ -91,7 +91,7 @@ card_alone() {
     [ "$text" -lt 40000 ] && [ "$((text * 4))" -lt "$(text_of "$OUT/libfox.a")" ]
 }
 
-readme_block() { # MARK NUMBER: the block of README.md that is marked so, the one for C with this number or the next after that
+readme_block() { # MARK NUMBER: the block of README.md that is marked so, of the example of this number: its block for C, or the next after that
     awk -v mark="$1" -v number="$2" '
         $0 == "```c" { seen++ }
         seen == number && !on && $0 == "```" mark { on = 1; next }
@@ -100,21 +100,23 @@ readme_block() { # MARK NUMBER: the block of README.md that is marked so, the on
 }
 
 # As printed, in a folder with the names that the command has.
-readme_example() { # NUMBER NAME: that of the block, and of the file that the command compiles
-    readme_block c "$1" >"$room/$2.c"
-    readme_block text "$1" >"$room/readme.shown"
-    command=$(sed -n "s/^    \(gcc $2.c .*\)\$/\1/p" README.md)
-    [ -s "$room/$2.c" ] && [ -s "$room/readme.shown" ] && [ -n "$command" ] || {
-        echo "README.md has no block $1 marked c, none marked text after it, or no command that compiles $2.c"
+readme_example() { # NUMBER NAME: the example of this number in README.md, which its command compiles as NAME.c
+    own=$room/readme$1
+    mkdir "$own"
+    readme_block c "$1" >"$own/$2.c"
+    readme_block text "$1" >"$own/shown"
+    command=$(sed -n "s/^    \(gcc $2\.c .*\)$/\1/p" README.md)
+    [ -s "$own/$2.c" ] && [ -s "$own/shown" ] && [ -n "$command" ] || {
+        echo "README.md has no block number $1 marked c, none marked text after it, or no command that compiles $2.c"
         return 1
     }
     if [ "$PROCESSOR" = "$MACHINE" ]; then
-        ln -sfn "$PWD/include" "$room/include" && ln -sfn "$PWD/build" "$room/build"
-        (cd "$room" && sh -c "$command") >"$room/readme.out"
+        ln -s "$PWD/include" "$PWD/build" "$own"
+        (cd "$own" && sh -c "$command") >"$own/out"
     else
-        $CC_HOST -std=c99 -Iinclude -o "$room/readme" "$room/$2.c" "$OUT/libfox.a" && run_host "$room/readme" >"$room/readme.out"
-    fi && diff "$room/readme.shown" "$room/readme.out" &&
-        $CC_HOST -std=c99 -Wall -Wextra -Wpedantic -Werror -Iinclude -fsyntax-only "$room/$2.c"
+        $CC_HOST -std=c99 -Iinclude -o "$own/program" "$own/$2.c" "$OUT/libfox.a" && run_host "$own/program" >"$own/out"
+    fi && diff "$own/shown" "$own/out" &&
+        $CC_HOST -std=c99 -Wall -Wextra -Wpedantic -Werror -Iinclude -fsyntax-only "$own/$2.c"
 }
 
 check "every refusal's text is there, names what is right, and is no other's" compiled_and_right texts tests/product/texts.c $c/tally.c
@@ -144,4 +146,5 @@ check "every call that the header declares is among those" every_call
 check "four threads at once get the bytes that one alone gets" \
     compiled_and_right threads tests/product/threads.c $engines -pthread
 check "the C example of README.md is compiled as printed and prints what is shown" readme_example 1 example
+check "so is its example of run files" readme_example 2 runfile 1 example
 check "its example of a run file is compiled as printed and prints what is shown" readme_example 2 runfile

@@ -68,7 +68,7 @@ pub counters-apart : (counter : List ℕ) (i j : ℕ) → i < j → j < i + 2 ^ 
 counters-apart counter i j low high e =
     apart (2 ^ (8 * length counter)) (joined counter) i j low high (sym (counting counter i) ∙ ap joined e ∙ counting counter j)
 
-size-low : (c : ℕ) → 8 ≤ blockSize c
+pub size-low : (c : ℕ) → 8 ≤ blockSize c
 size-low c = by-cipher c (λ e. omega (arith, size-64 c e)) (λ n. omega (arith, size-128 c n))
 
 -- a run has fewer than 2 ^ 30 blocks

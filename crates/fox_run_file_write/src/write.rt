@@ -55,6 +55,7 @@ fn put_tag(p: Prepared, out: &mut [u8], at: usize, tag: &mut [u8]) -> usize
     put_pairs_line(out, at, b"close=", tag)
 }
 
+// The same, with room of its own for the tag.
 fn put_close(p: Prepared, out: &mut [u8], at: usize) -> usize
     requires { ⌜ CloseRoom p at (now out) ⌝ }
     ensures { λ r. ⌜ PutsPairs closeName (tagWith (p .cipher) (roundKeysIn p) (take at (now (out .entry)))) (now (out .entry)) (now (out .exit)) at r ⌝ }

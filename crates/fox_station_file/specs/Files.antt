@@ -12,10 +12,7 @@ use Rattle.fox_run_file.specs.declared.reading.Next.the-variants.{Scan, End}
 use Rattle.fox_run_file.specs.Places.{passedOver}
 use Rattle.fox_run_file.specs.Promise.{TellsSize, WritesFileWith, TakesUpWith, nextAt, readAt, readOutput, numberOf, countOf, placeOf}
 
--- a place as three words, and the place that three words hold
-unfoldable pub wordsOf : Place → List ℕ
-wordsOf place = place .at ∷ place .scans ∷ place .offset ∷ []
-
+-- the place that three words hold
 unfoldable pub placeIn : List ℕ → Place
 placeIn words = record { at = getD words 0 0; scans = getD words 1 0; offset = getD words 2 0 }
 

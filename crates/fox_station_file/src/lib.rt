@@ -5,7 +5,7 @@ ghost use Rattle.fox_run_file.specs.declared.place.Place.{Place};
 ghost use Rattle.fox_run_file.specs.declared.reading.Next.{Next};
 ghost use Rattle.fox_run_file.specs.declared.reading.Read.{Read};
 ghost use Rattle.fox_run_file.specs.Promise.{numberOf, countOf, placeOf};
-ghost use Rattle.fox_station_file.specs.Files.{wordsOf, placeIn, lengthOf, SizeHanded, WriteHanded, TakeUpHanded, NextHanded, ReadHanded, SkipHanded};
+ghost use Rattle.fox_station_file.specs.Files.{placeIn, lengthOf, SizeHanded, WriteHanded, TakeUpHanded, NextHanded, ReadHanded, SkipHanded};
 use fox_run_file::place::Place;
 use fox_run_file::reading::Next;
 use fox_run_file::reading::Read;
@@ -26,12 +26,10 @@ fn place_in(words: &[u64; 3]) -> Place
     }
 }
 
-fn store(words: &mut [u64; 3], place: Place)
-    ensures { λ _. ⌜ placeIn (now (words .exit)) ≡ place ⌝ }
+fn words_of(place: Place) -> [u64; 3]
+    ensures { λ r. ⌜ placeIn r ≡ place ⌝ }
 {
-    words[0] = place.at as u64;
-    words[1] = place.scans as u64;
-    words[2] = place.offset as u64;
+    [place.at as u64, place.scans as u64, place.offset as u64]
 }
 
 fn length_of(n: Next) -> u64
@@ -78,7 +76,8 @@ pub extern "C" fn fox_file_size(cipher: u32, rounds: u32, lengths: &[u64], count
     ensures { λ r. ⌜ SizeHanded cipher rounds (now (lengths .entry)) (now (count .exit)) r ⌝ }
 {
     let answer = tell_size(cipher, rounds, lengths);
-    *count = answer.count as u64;
+    let n = answer.count as u64;
+    *count = n;
     answer.refusal
 }
 
@@ -97,7 +96,8 @@ pub extern "C" fn fox_file_write(
         (now (out .exit)) (now (count .exit)) r ⌝ }
 {
     let answer = write_from_key(cipher, rounds, key, counter, input, lengths, out);
-    *count = answer.count as u64;
+    let n = answer.count as u64;
+    *count = n;
     answer.refusal
 }
 
@@ -113,7 +113,7 @@ pub extern "C" fn fox_file_take_up(
 {
     let taken = take_up_from_key(cipher, rounds, key, file);
     let start = taken.place;
-    store(place, start);
+    *place = words_of(start);
     taken.refusal
 }
 
@@ -139,8 +139,9 @@ pub extern "C" fn fox_file_read(
 {
     let at = place_in(place);
     let x = read_from_key(cipher, rounds, key, file, at, out);
-    store(place, place_of(at, x));
-    *count = count_of(x) as u64;
+    *place = words_of(place_of(at, x));
+    let n = count_of(x) as u64;
+    *count = n;
     number_of(x)
 }
 
@@ -149,5 +150,5 @@ pub extern "C" fn fox_file_skip(file: &[u8], place: &mut [u64; 3])
     ensures { λ _. ⌜ SkipHanded (now (file .entry)) (now (place .entry)) (now (place .exit)) ⌝ }
 {
     let at = place_in(place);
-    store(place, pass_over(file, at));
+    *place = words_of(pass_over(file, at));
 }

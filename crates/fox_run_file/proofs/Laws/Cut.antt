@@ -1,5 +1,5 @@
 -- Data cut into scans: how many there are, that bytes after the last scan do not count, and that cutting and sealing change places, since each scan is sealed
--- from its own place in the run. And scans have no more bytes than the text that they are written in.
+-- from its own place in the run.
 -- Assumes nothing.
 use mathlib.Core.Path.{_≡_, refl, sym, ap, _∙_}
 use mathlib.Core.List.{List, [], _∷_, _++_}
@@ -12,12 +12,7 @@ use Rattle.fox_run.specs.Cuts.{eachAlone}
 use Rattle.fox_run.proofs.Stretches.{run-append}
 use Rattle.fox_run.proofs.Laws.Served.{length-runWith}
 use Rattle.fox_run_file.specs.Format.{turnedScans, cutBy}
-use Rattle.fox_run_file.specs.Sizes.{scanSize, scansSize, total}
-
-pub total-within : (n : ℕ) (sizes : List ℕ) → total sizes ≤ scansSize n sizes
-unfolding total scansSize scanSize
-total-within n [] = omega arith
-total-within n (size ∷ sizes) = omega (arith, total-within (suc n) sizes)
+use Rattle.fox_run_file.specs.Sizes.{total}
 
 pub length-cut : (sizes input : List ℕ) → length (cutBy sizes input) ≡ length sizes
 unfolding cutBy

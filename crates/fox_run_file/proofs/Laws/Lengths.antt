@@ -132,7 +132,7 @@ unfolding anyAbove
 first-small limit n ns e = by-test (ltb limit n) (λ t. absurd (true≢false (rw t at e))) (λ t. (ltb-false limit n t, rw t at e))
 
 -- the bytes of the scans are among those before the line `close`
-total-scans : (n : ℕ) (sizes : List ℕ) → total sizes ≤ scansSize n sizes
+pub total-scans : (n : ℕ) (sizes : List ℕ) → total sizes ≤ scansSize n sizes
 unfolding total scansSize scanSize
 total-scans n [] = omega arith
 total-scans n (s ∷ ss) = omega (arith, total-scans (suc n) ss)

@@ -15,9 +15,8 @@ use Rattle.fox_text.proofs.Laws.Stores.{then}
 use Rattle.fox_text.proofs.Laws.Lines.{from-here}
 use Rattle.fox_run_file.specs.Format.{scanName, bytesName, scanHead, scanText, scansText, cutBy}
 use Rattle.fox_run_file.specs.Sizes.{scanSize, scansSize, total, anyAbove}
-use Rattle.fox_run_file.proofs.Laws.Lengths.{length-scan, first-small}
+use Rattle.fox_run_file.proofs.Laws.Lengths.{length-scan, first-small, total-scans}
 use Rattle.fox_run_file.proofs.Laws.Sizes.{total-here, scans-here, scans-done}
-use Rattle.fox_run_file.proofs.Laws.Cut.{total-within}
 use Rattle.fox_run_file_place.specs.Laid.{Laid, ScanRoom, Room}
 use Rattle.fox_run_file_place.proofs.Laws.Laid.{drop-later, put-laid, laid-then}
 
@@ -63,7 +62,7 @@ module _ {at src : ℕ} {sizes before : List ℕ} (room : Room at src sizes befo
       onward-room =
           let ends = o .end in
           let starts = o .source in
-          let more = total-within (i + 1) (drop (i + 1) sizes) in
+          let more = total-scans (i + 1) (drop (i + 1) sizes) in
           let scans = scans-here sizes i here in
           let bytes = total-here sizes i here in
           let gap = room .gap in

@@ -23,9 +23,9 @@ use Rattle.fox_text.specs.Fields.{PutsPairs}
 use Rattle.fox_run_file.specs.Format.{closeName, cutBy, unclosed, closedBy, fileOf, turnedScans, runFile}
 use Rattle.fox_run_file.specs.Sizes.{blockLineSize, unclosedSize, fileSize, total}
 use Rattle.fox_run_file.specs.Parts.{MayWrite}
-use Rattle.fox_run_file.proofs.Laws.Lengths.{length-block-line, length-unclosed, sizes-cut, limits}
+use Rattle.fox_run_file.proofs.Laws.Lengths.{length-block-line, length-unclosed, sizes-cut, limits, total-within}
 use Rattle.fox_run_file.proofs.Laws.Refusals.{writable}
-use Rattle.fox_run_file.proofs.Laws.Cut.{total-within, cut-front, cut-turned}
+use Rattle.fox_run_file.proofs.Laws.Cut.{cut-front, cut-turned}
 use Rattle.fox_run_file_place.specs.Laid.{Laid}
 use Rattle.fox_run_file_place.proofs.Laws.Laid.{put-laid, laid-then}
 use Rattle.fox_run_file_write.specs.Ready.{FileRoom, CloseRoom, ToWrite}
@@ -78,10 +78,10 @@ module _ {p : Prepared} {counter input sizes out : List ℕ} {size : ℕ} (w : T
     pub fits : size ≤ length out
 
   known : Known
-  unfolding fileSize unclosedSize
+  unfolding fileSize
   known =
       let few = limits c r sizes (w .limits) .all in
-      let bytes = total-within 0 sizes in
+      let bytes = total-within c r sizes in
       record {
         within = omega (arith, w .all, w .end);
         few = omega (arith, w .all);

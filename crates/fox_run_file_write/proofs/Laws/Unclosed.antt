@@ -2,34 +2,23 @@
 -- to be laid take more room than the bytes that are still to be moved.
 -- Assumes nothing.
 use mathlib.Core.Path.{_≡_, ap}
-use mathlib.Core.Bool.{Bool, true, false, cond}
 use mathlib.Core.List.{List}
 use Prim.Native.Nat.{ℕ, _+_, _*_, _≤_}
 use native.Mathlib.Omega.{arith}
-use lib.Dec.{eqb, lit≤}
 use lib.ListN.{length, drop, length-append, length-drop}
-use Rattle.fox_refusals.specs.Refusals.{blockSize}
+use Rattle.fox_run.proofs.Counters.{size-low}
 use Rattle.fox_text.specs.Put.{Put}
 use Rattle.fox_text.specs.Fields.{PutsPairs, decimalLineText, pairsLineText}
 use Rattle.fox_text.proofs.Laws.Stores.{then}
 use Rattle.fox_run_file.specs.Format.{counterName, scansName, closeName, keyLines, headerText, scansText, unclosed, cutBy}
 use Rattle.fox_run_file.specs.Sizes.{blockLineSize, headerSize, scansSize, unclosedSize, fileSize, total}
 use Rattle.fox_run_file.specs.Values.{sizesOf}
-use Rattle.fox_run_file.proofs.Laws.Lengths.{length-header, length-scans, sizes-cut, limits}
+use Rattle.fox_run_file.proofs.Laws.Lengths.{length-header, length-scans, sizes-cut, limits, total-scans}
 use Rattle.fox_run_file.proofs.Laws.Sizes.{close-line-size, header-line-sizes}
-use Rattle.fox_run_file.proofs.Laws.Cut.{total-within, length-cut}
+use Rattle.fox_run_file.proofs.Laws.Cut.{length-cut}
 use Rattle.fox_run_file_place.specs.Laid.{Laid, Room}
 use Rattle.fox_run_file_place.proofs.Laws.Laid.{put-laid, laid-then}
 use Rattle.fox_run_file_write.specs.Ready.{FileRoom}
-
--- a block has at least 8 bytes
-block-low : (cipher : ℕ) → 8 ≤ blockSize cipher
-unfolding blockSize
-block-low cipher = low (eqb cipher 64)
-  where
-    low : (t : Bool) → 8 ≤ cond t 8 16
-    low true = lit≤ tt
-    low false = lit≤ tt
 
 module _ {cipher rounds from : ℕ} {counter sizes out : List ℕ} (room : FileRoom cipher rounds counter from sizes out) where
   -- the sizes that the places below go by
@@ -44,11 +33,11 @@ module _ {cipher rounds from : ℕ} {counter sizes out : List ℕ} (room : FileR
   parts : Parts
   unfolding fileSize unclosedSize
   parts =
-      let low = block-low cipher in
+      let low = size-low cipher in
       record {
         whole = room .end;
         within = omega (arith, room .end, room .fits);
-        bytes = total-within 0 sizes;
+        bytes = total-scans 0 sizes;
         header = omega (arith, header-line-sizes cipher rounds);
         close = omega (arith, close-line-size cipher);
       }
