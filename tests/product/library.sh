@@ -146,5 +146,4 @@ check "every call that the header declares is among those" every_call
 check "four threads at once get the bytes that one alone gets" \
     compiled_and_right threads tests/product/threads.c $engines -pthread
 check "the C example of README.md is compiled as printed and prints what is shown" readme_example 1 example
-check "so is its example of run files" readme_example 2 runfile 1 example
-check "its example of a run file is compiled as printed and prints what is shown" readme_example 2 runfile
+check "so is its example of run files" readme_example 2 runfile
