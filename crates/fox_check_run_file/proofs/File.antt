@@ -33,7 +33,7 @@ use Rattle.fox_run_file.specs.Format.{formatText, counterName, scanName, bytesN
 use Rattle.fox_run_file.specs.Format.{scansText, unclosed, closedBy, fileOf, turnedScans, runFile, cutBy}
 use Rattle.fox_run_file.specs.Sizes.{blockLineSize, headerSize}
 use Rattle.fox_run_file.specs.Says.{isBlockLine, blockIn, isHeader, counterIn, sizeIn, headIn, isScan, bytesIn, afterScan, scansIn, afterScans, isEnd}
-use Rattle.fox_run_file.specs.Says.{scansOf, signed, closeIn, isRest}
+use Rattle.fox_run_file.specs.Says.{scansOf, beforeClose, closeIn, isRest}
 use Rattle.fox_check_run_file.specs.Example.{key, keys, counter, plain, sizes, file}
 
 pub round-keys : roundKeys 64 16 key ≡ keys
@@ -63,6 +63,6 @@ said = refl
 pub well-formed : (isHeader 64 16 file && isRest 64 16 file ≡ true) × (closeIn 64 file ≡ 0x7D ∷ 0x2A ∷ 0x22 ∷ 0x81 ∷ 0x7B ∷ 0x1E ∷ 0xD0 ∷ 0x1A ∷ [])
 unfolding file blockSize codes ascii startsWith lineEnd afterLine isLine allDigits onward begins inRange isDecimal digitsText allHex nibble pairsOf
     isDecimalLine isPairsLine decimalIn pairsIn decimalLineText cipherName roundsName formatText counterName scanName bytesName scansName closeName keyLines
-    blockLineSize headerSize isBlockLine blockIn isHeader counterIn sizeIn headIn isScan bytesIn afterScan scansIn afterScans isEnd scansOf signed closeIn
+    blockLineSize headerSize isBlockLine blockIn isHeader counterIn sizeIn headIn isScan bytesIn afterScan scansIn afterScans isEnd scansOf beforeClose closeIn
     isRest
 well-formed = (refl, refl)

@@ -1,2 +1,3 @@
--- The definitions of the run file on a published file.
+-- The definitions of the run file on a file of the customer's vectors, and its limits.
 pub mod File
+pub mod Limits

@@ -4,10 +4,10 @@
 -- Assumes nothing.
 use mathlib.Core.Path.{_≡_, refl, sym, ap, ap₂, _∙_}
 use mathlib.Core.Bool.{true, false}
-use mathlib.Core.List.{List, []}
+use mathlib.Core.List.{List, [], flatten}
 use Prim.Native.Nat.{ℕ, zero, suc, _+_, _-_, _≤_, _<_, _^_}
 use native.Mathlib.Omega.{arith}
-use lib.ListN.{length, drop, getD, drop-of-length-le}
+use lib.ListN.{length, take, drop, getD, drop-of-length-le}
 use borrow.Author.Tests.{ne-eqb}
 use Rattle.fox_refusals.specs.Refusals.{refusalOf, Keyed}
 use Rattle.fox_refusals.proofs.Laws.Refusals.{stretched-served, wrong-output}
@@ -23,7 +23,7 @@ use Rattle.fox_run_file.specs.declared.reading.Read.{Read}
 use Rattle.fox_run_file.specs.declared.reading.Read.the-variants as read
 use Rattle.fox_run_file.specs.Format.{scanName, closedBy, turnedScans}
 use Rattle.fox_run_file.specs.Sizes.{total}
-use Rattle.fox_run_file.specs.Says.{counterIn, isScan, scansIn, scansOf, signed, closeIn}
+use Rattle.fox_run_file.specs.Says.{counterIn, isScan, scansIn, scansOf, beforeClose, closeIn}
 use Rattle.fox_run_file.specs.Refusals.{forTakeUp, Told}
 use Rattle.fox_run_file.specs.Places.{firstPlace, noPlace, atScan, sizeAt, bytesAt, placeAfter, passedOver, afterSteps}
 use Rattle.fox_run_file.specs.Values.{sizesOf, offsetOf, IsRunFile}
@@ -32,6 +32,7 @@ use Rattle.fox_run_file.proofs.Laws.Reading.{Standing, standing, finish
 use Rattle.fox_run_file.proofs.Laws.Turned.{turned-at}
 use Rattle.fox_run_file.proofs.Laws.Lengths.{limits, total-within, scan-small, scan-within}
 use Rattle.fox_run_file.proofs.Right.{taken-is-written}
+use Rattle.fox_run_file.proofs.Written.{scan-of-run}
 use Rattle.fox_run_file.proofs.Changed.{changed-file-is-told, changed-file-told}
 
 -- a scan is as long opened as it is sealed
@@ -103,8 +104,8 @@ module _ (c r keyLen : ℕ) (rks file : List ℕ) {t : Taken} (taken : TakesUpWi
   at-end = rw starts (finished file 65535 (firstPlace c r) scans from-first (omega (arith, first-number)) (omega (arith, first-offset, small)))
 
   -- scan k is told, with its length, and stands where its bytes are in the run
-  pub told : (k : ℕ) → k < length scans → nextAt file (stand k) ≡ next.Scan (length (getD scans k []))
-  told k h = let s = before-scan k h in next-there file (stand k) (s .there) ∙ ap next.Scan (s .size)
+  pub length-told : (k : ℕ) → k < length scans → nextAt file (stand k) ≡ next.Scan (length (getD scans k []))
+  length-told k h = let s = before-scan k h in next-there file (stand k) (s .there) ∙ ap next.Scan (s .size)
 
   pub offset-there : (k : ℕ) → k < length scans → stand k .offset ≡ offsetOf k scans
   offset-there k h = let s = before-scan k h in omega (arith, s .offset, first-offset)
@@ -150,6 +151,11 @@ module _ (c r keyLen : ℕ) (rks file : List ℕ) {t : Taken} (taken : TakesUpWi
               ∙ ap₂ (λ (n : ℕ) (l : List ℕ). runWith c rks (counterIn c r file) n l) (offset-there k h) (s .bytes)
               ∙ sym (turned-at c rks (counterIn c r file) k scans),
         )
+
+    -- which is its stretch of the whole run opened
+    pub opened-stretch : length before ≡ length (getD scans k [])
+        → after ≡ take (length (getD scans k [])) (drop (offsetOf k scans) (runWith c rks (counterIn c r file) 0 (flatten scans)))
+    opened-stretch room = opened room .1 ∙ scan-of-run c rks (counterIn c r file) k scans
 
     -- a buffer of another length is refused with 6, and stays as it was
     pub other-length : (length before ≡ length (getD scans k []) → ⊥) → (x ≡ read.Refused 6) × (after ≡ before)
@@ -199,8 +205,8 @@ module _ (c r keyLen : ℕ) (rks file : List ℕ) {t : Taken} (taken : TakesUpWi
 
 module _ (c r keyLen : ℕ) (rks file text : List ℕ) {t u : Taken} (taken : TakesUpWith c r keyLen rks file t) (served : t .refusal ≡ 0)
     (again : TakesUpWith c r keyLen rks (closedBy (closeIn c file) text) u) where
-  pub changed-served : u .refusal ≡ 0 → tagWith c rks text ≡ tagWith c rks (signed c file)
-  changed-served e = changed-file-is-told c r keyLen rks file text (sym (taken .refusal) ∙ served) (sym (again .refusal) ∙ e)
+  pub call-changed-served : u .refusal ≡ 0 → tagWith c rks text ≡ tagWith c rks (beforeClose c file)
+  call-changed-served e = changed-file-is-told c r keyLen rks file text (sym (taken .refusal) ∙ served) (sym (again .refusal) ∙ e)
 
-  pub changed-refused : (tagWith c rks text ≡ tagWith c rks (signed c file) → ⊥) → Told (u .refusal)
-  changed-refused other = rw (again .refusal) (changed-file-told c r keyLen rks file text (sym (taken .refusal) ∙ served) other)
+  pub call-changed-refused : (tagWith c rks text ≡ tagWith c rks (beforeClose c file) → ⊥) → Told (u .refusal)
+  call-changed-refused other = rw (again .refusal) (changed-file-told c r keyLen rks file text (sym (taken .refusal) ∙ served) other)

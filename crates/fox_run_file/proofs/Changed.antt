@@ -13,17 +13,17 @@ use Rattle.fox_refusals.proofs.Laws.Refusals.{same-known}
 use Rattle.fox_tag.specs.Tag.{tagWith}
 use Rattle.fox_text.proofs.Laws.Tests.{by-test}
 use Rattle.fox_run_file.specs.Format.{closedBy}
-use Rattle.fox_run_file.specs.Says.{isHeader, isRest, signed, closeIn}
+use Rattle.fox_run_file.specs.Says.{isHeader, isRest, beforeClose, closeIn}
 use Rattle.fox_run_file.specs.Refusals.{forTakeUp, Passes, Told}
 use Rattle.fox_run_file.specs.Values.{IsWritten}
-use Rattle.fox_run_file.proofs.Laws.Written.{closed-signed, closed-tag}
+use Rattle.fox_run_file.proofs.Laws.Written.{closed-before, closed-tag}
 use Rattle.fox_run_file.proofs.Laws.TakeUp.{take-up-verdict, passes}
 use Rattle.fox_run_file.proofs.Right.{right-is-written}
 
-told : (header rest : Bool) (n : ℕ) → n ≡ cond header (cond rest 10 12) 11 → Told n
-told true true n e = inl e
-told true false n e = inr (inr e)
-told false rest n e = inr (inl e)
+number-told : (header rest : Bool) (n : ℕ) → n ≡ cond header (cond rest 10 12) 11 → Told n
+number-told true true n e = inl e
+number-told true false n e = inr (inr e)
+number-told false rest n e = inr (inl e)
 
 -- a text that was closed by any tag of B bytes
 module _ (cipher rounds keyLen : ℕ) (rks tag t : List ℕ) (size : length tag ≡ blockSize cipher) (bytes : Bytes tag) where
@@ -31,7 +31,7 @@ module _ (cipher rounds keyLen : ℕ) (rks tag t : List ℕ) (size : length tag 
   pub changed-is-told : refusalOf (forTakeUp cipher rounds keyLen rks (closedBy tag t)) ≡ 0 → tagWith cipher rks t ≡ tag
   changed-is-told e =
       let p = passes cipher rounds keyLen rks (closedBy tag t) e in
-      ap (tagWith cipher rks) (sym (closed-signed cipher tag t size)) ∙ p .tag ∙ closed-tag cipher tag t size bytes
+      ap (tagWith cipher rks) (sym (closed-before cipher tag t size)) ∙ p .tag ∙ closed-tag cipher tag t size bytes
 
   -- with another tag it is refused: with 10, unless its header or its rest is broken
   module _ (key : Keyed cipher rounds keyLen) (other : tagWith cipher rks t ≡ tag → ⊥) where
@@ -40,14 +40,14 @@ module _ (cipher rounds keyLen : ℕ) (rks tag t : List ℕ) (size : length tag 
     changed-refused =
         let differ : same (tagWith cipher rks t) tag ≡ false =
         by-test (same (tagWith cipher rks t) tag) (λ e. absurd (other (same-known (tagWith cipher rks t) tag e))) (λ e. e) in
-        take-up-verdict key rks (closedBy tag t) ∙ rw (closed-signed cipher tag t size, closed-tag cipher tag t size bytes, differ)
+        take-up-verdict key rks (closedBy tag t) ∙ rw (closed-before cipher tag t size, closed-tag cipher tag t size bytes, differ)
 
     pub changed-whole-refused : isHeader cipher rounds (closedBy tag t) ≡ true → isRest cipher rounds (closedBy tag t) ≡ true
         → refusalOf (forTakeUp cipher rounds keyLen rks (closedBy tag t)) ≡ 10
     changed-whole-refused header rest = changed-refused ∙ rw (header, rest)
 
     pub changed-told : Told (refusalOf (forTakeUp cipher rounds keyLen rks (closedBy tag t)))
-    changed-told = told (isHeader cipher rounds (closedBy tag t)) (isRest cipher rounds (closedBy tag t)) _ changed-refused
+    changed-told = number-told (isHeader cipher rounds (closedBy tag t)) (isRest cipher rounds (closedBy tag t)) _ changed-refused
 
 -- so, of a file that is served: another text before its line `close` is served only where it has the same tag as what stood there, and else refused
 module _ (cipher rounds keyLen : ℕ) (rks file t : List ℕ) (served : refusalOf (forTakeUp cipher rounds keyLen rks file) ≡ 0) where
@@ -58,11 +58,11 @@ module _ (cipher rounds keyLen : ℕ) (rks file t : List ℕ) (served : refusalO
   was-written = right-is-written cipher rounds file (was-right .header) (was-right .rest)
 
   pub changed-file-is-told : refusalOf (forTakeUp cipher rounds keyLen rks (closedBy (closeIn cipher file) t)) ≡ 0
-      → tagWith cipher rks t ≡ tagWith cipher rks (signed cipher file)
+      → tagWith cipher rks t ≡ tagWith cipher rks (beforeClose cipher file)
   changed-file-is-told e =
       changed-is-told cipher rounds keyLen rks (closeIn cipher file) t (was-written .tag) (was-written .bytes) e ∙ sym (was-right .tag)
 
-  pub changed-file-told : (tagWith cipher rks t ≡ tagWith cipher rks (signed cipher file) → ⊥)
+  pub changed-file-told : (tagWith cipher rks t ≡ tagWith cipher rks (beforeClose cipher file) → ⊥)
       → Told (refusalOf (forTakeUp cipher rounds keyLen rks (closedBy (closeIn cipher file) t)))
   changed-file-told other =
       changed-told cipher rounds keyLen rks (closeIn cipher file) t (was-written .tag) (was-written .bytes) (was-right .keyed)

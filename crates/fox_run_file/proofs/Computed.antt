@@ -18,7 +18,7 @@ use Rattle.fox_text.specs.Names.{cipherName, roundsName}
 use Rattle.fox_run_file.specs.Format.{formatText, counterName, scanName, bytesName, scansName, closeName, keyLines, scanHead}
 use Rattle.fox_run_file.specs.Sizes.{blockLineSize, headerSize, scanSize, scansSize, unclosedSize, fileSize, total, anyAbove, pastLimit}
 use Rattle.fox_run_file.specs.Says.{isBlockLine, blockIn, isHeader, counterIn, sizeIn, headIn, isScan, bytesIn, afterScan, scansIn, afterScans, isEnd}
-use Rattle.fox_run_file.specs.Says.{scansOf, signed, closeIn, isRest}
+use Rattle.fox_run_file.specs.Says.{scansOf, beforeClose, closeIn, isRest}
 use Rattle.fox_run_file.specs.Refusals.{largeFile, wrongSizes, smallOutput, brokenHeader, brokenRest, forSize, forWrite, forTakeUp}
 
 -- a file of this header and a text after it is taken up
@@ -33,8 +33,22 @@ pub known-taken-up : (rks : List ℕ) →
 unfolding blockSize codes ascii startsWith lineEnd afterLine isLine allDigits onward begins inRange isDecimal
     digitsText allHex nibble pairsOf isDecimalLine isPairsLine decimalIn pairsIn decimalLineText cipherName roundsName formatText counterName scanName
     bytesName scansName closeName keyLines blockLineSize headerSize isBlockLine blockIn isHeader counterIn sizeIn headIn isScan bytesIn afterScan scansIn
-    afterScans isEnd scansOf signed closeIn isRest refusalOf wrongCipher wrongRounds longKey forKey brokenHeader brokenRest forTakeUp
+    afterScans isEnd scansOf beforeClose closeIn isRest refusalOf wrongCipher wrongRounds longKey forKey brokenHeader brokenRest forTakeUp
 known-taken-up rks = refl
+
+-- 11: a counter block of 7 pairs, a header cut after its third line or in the fourth, other rounds; 12: a header alone
+pub known-headers : (rks : List ℕ) →
+    (refusalOf (forTakeUp 64 12 32 rks (ascii "format=run\ncipher=64\nrounds=12\ncounter=00000000000000\n")) ∷ [])
+    ++ (refusalOf (forTakeUp 64 12 32 rks (ascii "format=run\ncipher=64\nrounds=12\n")) ∷ [])
+    ++ (refusalOf (forTakeUp 64 12 32 rks (ascii "format=run\ncipher=64\nrounds=12\ncounter=0000000000000000")) ∷ [])
+    ++ (refusalOf (forTakeUp 64 13 32 rks (ascii "format=run\ncipher=64\nrounds=12\ncounter=0000000000000000\n")) ∷ [])
+    ++ (taken rks "" ∷ [])
+    ≡ (11 ∷ 11 ∷ []) ++ (11 ∷ 11 ∷ 12 ∷ [])
+unfolding blockSize codes ascii startsWith lineEnd afterLine isLine allDigits onward begins inRange isDecimal
+    digitsText allHex nibble pairsOf isDecimalLine isPairsLine decimalIn pairsIn decimalLineText cipherName roundsName formatText counterName scanName
+    bytesName scansName closeName keyLines blockLineSize headerSize isBlockLine blockIn isHeader counterIn sizeIn headIn isScan bytesIn afterScan scansIn
+    afterScans isEnd scansOf beforeClose closeIn isRest refusalOf wrongCipher wrongRounds longKey forKey brokenHeader brokenRest forTakeUp
+known-headers rks = refl
 
 pub known-written :
     -- 1 before 2 before 3 before 4 before 12 before 6, and room for the file, of 87 bytes where it has no scan

@@ -24,7 +24,7 @@ use Rattle.fox_run_file.specs.Promise.{WritesFileWith, TakesUpWith, Read
 use Rattle.fox_run_file.proofs.Laws.Lengths.{length-cut-file, length-sizes, size-at, sizes-cut, sizes-turned}
 use Rattle.fox_run_file.proofs.Laws.Refusals.{Writable, writable}
 use Rattle.fox_run_file.proofs.Written.{written-taken, written-opened, run-file-says}
-use Rattle.fox_run_file.proofs.Calls.{told, opened, ended}
+use Rattle.fox_run_file.proofs.Calls.{length-told, opened, ended}
 
 module _ (c r k : ℕ) (rks counter input sizes : List ℕ) {before after : List ℕ} {w : Answer} (bytes : Bytes counter)
     (write : WritesFileWith c r k rks counter input sizes before after w) (served : w .refusal ≡ 0) where
@@ -82,7 +82,7 @@ module _ (c r k : ℕ) (rks counter input sizes : List ℕ) {before after : List
 
     -- scan i, counted from 0, is told with its length
     pub told-back : (i : ℕ) → i < length sizes → nextAt F (afterSteps F i (t .place)) ≡ next.Scan (getD sizes i 0)
-    told-back i h = told c r k rks F take-up taken-up i (omega (arith, many)) ∙ ap next.Scan (size-of i)
+    told-back i h = length-told c r k rks F take-up taken-up i (omega (arith, many)) ∙ ap next.Scan (size-of i)
 
     -- read into a buffer of its length, it is the plain scan, and the next one follows
     pub given-back : (i : ℕ) {buffer out : List ℕ} {x : Read} → i < length sizes → length buffer ≡ getD sizes i 0

@@ -7,4 +7,5 @@ pub mod Changed
 pub mod One
 pub mod Calls
 pub mod GivenBack
+pub mod Writing
 pub mod Computed

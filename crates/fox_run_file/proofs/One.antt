@@ -3,22 +3,25 @@
 -- Assumes nothing.
 use mathlib.Core.Path.{_≡_, sym, ap, _∙_}
 use mathlib.Core.Logic.{_⊎_, ⊎-elim}
-use mathlib.Core.Bool.{true}
+use mathlib.Core.Bool.{true, false}
 use mathlib.Core.List.{List, _++_, append-assoc}
 use Prim.Native.Nat.{ℕ, _≤_, _<_}
 use native.Mathlib.Omega.{arith}
 use lib.ListN.{length, drop}
 use lib.Seq.{drop-append-seam}
+use Rattle.fox_refusals.specs.Refusals.{refusalOf, Keyed}
 use Rattle.fox_text.specs.Ascii.{startsWith}
 use Rattle.fox_text.specs.Names.{cipherName, roundsName}
 use Rattle.fox_text.specs.Fields.{decimalLineText}
-use Rattle.fox_text.proofs.Laws.Tests.{both}
+use Rattle.fox_text.proofs.Laws.Tests.{both, by-test}
 use Rattle.fox_text.proofs.Laws.Written.{cipher-plain, rounds-plain}
 use Rattle.fox_text.proofs.Laws.Values.{starts-split}
 use Rattle.fox_text.proofs.Laws.TextsAgain.{decimal-first-one}
 use Rattle.fox_run_file.specs.Format.{formatText, counterName, keyLines, fileOf, runFile}
 use Rattle.fox_run_file.specs.Says.{isBlockLine, counterText, isHeader}
+use Rattle.fox_run_file.specs.Refusals.{forTakeUp}
 use Rattle.fox_run_file.specs.Values.{Settings, InRange, Says, SameValues}
+use Rattle.fox_run_file.proofs.Laws.TakeUp.{take-up-verdict, passes}
 use Rattle.fox_run_file.proofs.Laws.Turned.{turned-twice}
 use Rattle.fox_run_file.proofs.Written.{turned-range, file-says}
 
@@ -75,3 +78,17 @@ one-plain-file {c₁} {c₂} {r₁} {r₂} {counter₁} {counter₂} {scans₁} 
       counter = same .counter;
       scans = cc (turned-twice c₁ rks₁ counter₁ scans₁, turned-twice c₂ rks₂ counter₂ scans₂);
     }
+
+-- so a file that is taken up by one cipher and number of rounds is refused with 11 by any other
+pub other-settings : {c₁ c₂ r₁ r₂ k : ℕ} (rks₁ rks₂ file : List ℕ) → Keyed c₂ r₂ k → (c₁ ≡ c₂ → r₁ ≡ r₂ → ⊥)
+    → refusalOf (forTakeUp c₁ r₁ k rks₁ file) ≡ 0 → refusalOf (forTakeUp c₂ r₂ k rks₂ file) ≡ 11
+other-settings {c₁} {c₂} {r₁} {r₂} {k} rks₁ rks₂ file key other served =
+    let p = passes c₁ r₁ k rks₁ file served in
+    let none : isHeader c₂ r₂ file ≡ false =
+    by-test (isHeader c₂ r₂ file)
+    (λ e.
+    let (same-cipher, same-rounds) =
+    one-header file (settings c₁ r₁ (p .keyed .cipher) (p .keyed .high)) (settings c₂ r₂ (key .cipher) (key .high)) (p .header) e in
+    absurd (other same-cipher same-rounds))
+    (λ e. e) in
+    take-up-verdict key rks₂ file ∙ rw none

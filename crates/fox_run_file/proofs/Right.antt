@@ -13,11 +13,11 @@ use Rattle.fox_tag.specs.Tag.{tagWith}
 use Rattle.fox_text.proofs.Laws.Tests.{both}
 use Rattle.fox_run_file.specs.Format.{closeName, headerText, scansText, unclosed, closedBy, fileOf, runFile}
 use Rattle.fox_run_file.specs.Sizes.{pastLimit}
-use Rattle.fox_run_file.specs.Says.{blockIn, isHeader, counterIn, afterScans, closeText, isEnd, scansFrom, scansOf, signed, closeIn, isRest}
+use Rattle.fox_run_file.specs.Says.{blockIn, isHeader, counterIn, afterScans, closeText, isEnd, scansFrom, scansOf, beforeClose, closeIn, isRest}
 use Rattle.fox_run_file.specs.Refusals.{forTakeUp}
 use Rattle.fox_run_file.specs.Values.{IsWritten, IsRunFile}
 use Rattle.fox_run_file.proofs.Laws.Lengths.{length-sizes, length-unclosed}
-use Rattle.fox_run_file.proofs.Laws.Written.{closed-signed, closed-tag}
+use Rattle.fox_run_file.proofs.Laws.Written.{closed-before, closed-tag}
 use Rattle.fox_run_file.proofs.Laws.Again.{header-first, scans-first, is-end}
 use Rattle.fox_run_file.proofs.Laws.Turned.{turned-twice}
 use Rattle.fox_run_file.proofs.Laws.TakeUp.{passes}
@@ -31,7 +31,7 @@ right-is-written cipher rounds file header rest =
     let from = scansFrom cipher rounds file in
     let scans = scansOf cipher rounds file in
     let after = afterScans 65535 0 from in
-    let (ended, within) = both (isEnd cipher (length scans) after) (leb (length (signed cipher file)) 1073741824) rest in
+    let (ended, within) = both (isEnd cipher (length scans) after) (leb (length (beforeClose cipher file)) 1073741824) rest in
     let H = header-first cipher rounds file header in
     let S = scans-first 65535 0 from in
     let E = is-end cipher (length scans) after ended in
@@ -40,9 +40,9 @@ right-is-written cipher rounds file header rest =
     let whole : file ≡ closedBy tag text =
     H .text ∙ ap (λ (t : List ℕ). headerText cipher rounds counter ++ t) (S .text ∙ ap (λ (t : List ℕ). scansText 0 scans ++ t) (E .text))
     ∙ simp append-assoc in
-    let before : signed cipher file ≡ text = ap (signed cipher) whole ∙ closed-signed cipher tag text (E .size) in
+    let before : beforeClose cipher file ≡ text = ap (beforeClose cipher) whole ∙ closed-before cipher tag text (E .size) in
     let stored : closeIn cipher file ≡ tag = ap (closeIn cipher) whole ∙ closed-tag cipher tag text (E .size) (E .bytes) in
-    let small : length text ≤ 1073741824 = rw before at (leb-true (length (signed cipher file)) 1073741824 within) in
+    let small : length text ≤ 1073741824 = rw before at (leb-true (length (beforeClose cipher file)) 1073741824 within) in
     record {
       text = rw stored whole;
       before-close = before;

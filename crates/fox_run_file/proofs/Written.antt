@@ -28,7 +28,7 @@ use Rattle.fox_run_file.specs.Says.{isHeader, counterIn, afterScans, sca
 use Rattle.fox_run_file.specs.Refusals.{forTakeUp}
 use Rattle.fox_run_file.specs.Values.{sizesOf, offsetOf, InRange, Says}
 use Rattle.fox_run_file.proofs.Laws.Lengths.{length-header, length-sizes, length-unclosed, sizes-turned, cut-joined, limits}
-use Rattle.fox_run_file.proofs.Laws.Written.{counter-plain, block-read, block-right, scans-no-scan, end-right, closed-signed, closed-tag, scans-read}
+use Rattle.fox_run_file.proofs.Laws.Written.{counter-plain, block-read, block-right, scans-no-scan, end-right, closed-before, closed-tag, scans-read}
 use Rattle.fox_run_file.proofs.Laws.Turned.{turned-twice, turned-at, scan-joined}
 use Rattle.fox_run_file.proofs.Laws.TakeUp.{take-up-verdict}
 
@@ -84,7 +84,7 @@ module _ (cipher rounds : ℕ) (counter : List ℕ) (sealed : List (List ℕ)) (
     says-rest =
         let known = limits cipher rounds (sizesOf sealed) (range .limits) in
         let few : length text ≤ 1073741824 = omega (arith, known .all, length-unclosed cipher rounds counter sealed (range .block)) in
-        rw (says-scans .0, says-scans .1, end-right cipher (length sealed) tag size bytes, closed-signed cipher tag text size)
+        rw (says-scans .0, says-scans .1, end-right cipher (length sealed) tag size bytes, closed-before cipher tag text size)
         (le-leb (length text) 1073741824 few)
 
     pub written-says : Says cipher rounds (closedBy tag (unclosed cipher rounds counter sealed)) counter sealed (unclosed cipher rounds counter sealed) tag
@@ -94,7 +94,7 @@ module _ (cipher rounds : ℕ) (counter : List ℕ) (sealed : List (List ℕ)) (
           rest = says-rest;
           block = says-counter;
           scans = says-scans .0;
-          text = closed-signed cipher tag text size;
+          text = closed-before cipher tag text size;
           tag = closed-tag cipher tag text size bytes;
         }
 

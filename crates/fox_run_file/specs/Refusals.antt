@@ -9,7 +9,7 @@ use lib.Dec.{ltb}
 use Rattle.fox_refusals.specs.Refusals.{Refusal, differs, wrongCipher, wrongRounds, wrongBlockLength, otherTag, forKey, Keyed}
 use Rattle.fox_tag.specs.Tag.{tagWith}
 use Rattle.fox_run_file.specs.Sizes.{total, fileSize, pastLimit}
-use Rattle.fox_run_file.specs.Says.{isHeader, isRest, signed, closeIn}
+use Rattle.fox_run_file.specs.Says.{isHeader, isRest, beforeClose, closeIn}
 
 -- 12, where a file is to be written: past a limit; or past one, or the lengths of the scans do not add up to the data
 unfoldable pub largeFile : ℕ → ℕ → List ℕ → Refusal
@@ -44,14 +44,14 @@ forWrite cipher rounds keyLen counterLen inputLen sizes outLen =
 unfoldable pub forTakeUp : ℕ → ℕ → ℕ → List ℕ → List ℕ → List Refusal
 forTakeUp cipher rounds keyLen rks file =
     forKey cipher rounds keyLen
-    ++ (brokenHeader cipher rounds file ∷ brokenRest cipher rounds file ∷ otherTag (tagWith cipher rks (signed cipher file)) (closeIn cipher file) ∷ [])
+    ++ (brokenHeader cipher rounds file ∷ brokenRest cipher rounds file ∷ otherTag (tagWith cipher rks (beforeClose cipher file)) (closeIn cipher file) ∷ [])
 
 -- what holds where a call that takes up a file meets no refusal
 pub record Passes (cipher rounds keyLen : ℕ) (rks file : List ℕ) : Type 0 where
   pub keyed : Keyed cipher rounds keyLen
   pub header : isHeader cipher rounds file ≡ true
   pub rest : isRest cipher rounds file ≡ true
-  pub tag : tagWith cipher rks (signed cipher file) ≡ closeIn cipher file
+  pub tag : tagWith cipher rks (beforeClose cipher file) ≡ closeIn cipher file
 
 -- a file is refused, and not for its key
 abbrev pub Told : ℕ → Type 0

@@ -81,8 +81,8 @@ unfoldable pub scansOf : ℕ → ℕ → List ℕ → List (List ℕ)
 scansOf cipher rounds file = scansIn 65535 0 (scansFrom cipher rounds file)
 
 -- all that comes before the line `close`, and the tag in that line
-unfoldable pub signed : ℕ → List ℕ → List ℕ
-signed cipher file = take (length file - blockLineSize closeName cipher) file
+unfoldable pub beforeClose : ℕ → List ℕ → List ℕ
+beforeClose cipher file = take (length file - blockLineSize closeName cipher) file
 
 unfoldable pub closeIn : ℕ → List ℕ → List ℕ
 closeIn cipher file = blockIn closeName cipher (drop (length file - blockLineSize closeName cipher) file)
@@ -91,4 +91,4 @@ closeIn cipher file = blockIn closeName cipher (drop (length file - blockLineSiz
 unfoldable pub isRest : ℕ → ℕ → List ℕ → Bool
 isRest cipher rounds file =
     isEnd cipher (length (scansOf cipher rounds file)) (afterScans 65535 0 (scansFrom cipher rounds file))
-    && leb (length (signed cipher file)) 1073741824
+    && leb (length (beforeClose cipher file)) 1073741824

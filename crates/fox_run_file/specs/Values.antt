@@ -9,7 +9,7 @@ use Rattle.fox_layers.specs.Words.{Bytes}
 use Rattle.fox_refusals.specs.Refusals.{refusalOf, blockSize, Keyed}
 use Rattle.fox_run_file.specs.Format.{unclosed, closedBy, fileOf, turnedScans, runFile}
 use Rattle.fox_run_file.specs.Sizes.{pastLimit}
-use Rattle.fox_run_file.specs.Says.{isHeader, counterIn, scansOf, isRest, signed, closeIn}
+use Rattle.fox_run_file.specs.Says.{isHeader, counterIn, scansOf, isRest, beforeClose, closeIn}
 use Rattle.fox_run_file.specs.Refusals.{forTakeUp}
 
 -- the lengths of scans
@@ -40,7 +40,7 @@ pub record Says (cipher rounds : ℕ) (file counter : List ℕ) (sealed : List (
   pub rest : isRest cipher rounds file ≡ true
   pub block : counterIn cipher rounds file ≡ counter
   pub scans : scansOf cipher rounds file ≡ sealed
-  pub text : signed cipher file ≡ before-close
+  pub text : beforeClose cipher file ≡ before-close
   pub tag : closeIn cipher file ≡ stored
 
 -- two sets of values are the same
@@ -53,7 +53,7 @@ pub record SameValues (c₁ c₂ r₁ r₂ : ℕ) (counter₁ counter₂ : List 
 -- a file is written: it is the text of what it says, closed by the tag that it says, and what it says is in range
 pub record IsWritten (cipher rounds : ℕ) (file : List ℕ) : Type 0 where
   pub text : file ≡ closedBy (closeIn cipher file) (unclosed cipher rounds (counterIn cipher rounds file) (scansOf cipher rounds file))
-  pub before-close : signed cipher file ≡ unclosed cipher rounds (counterIn cipher rounds file) (scansOf cipher rounds file)
+  pub before-close : beforeClose cipher file ≡ unclosed cipher rounds (counterIn cipher rounds file) (scansOf cipher rounds file)
   pub values : InRange cipher rounds (counterIn cipher rounds file) (scansOf cipher rounds file)
   pub tag : length (closeIn cipher file) ≡ blockSize cipher
   pub bytes : Bytes (closeIn cipher file)

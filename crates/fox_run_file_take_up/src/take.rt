@@ -8,7 +8,7 @@ ghost use Rattle.fox_key_schedule.specs.Schedule.{roundKeys};
 ghost use Rattle.fox_refusals.specs.Refusals.{Keyed, otherTag, refusalOf};
 ghost use Rattle.fox_tag.specs.Tag.{tagWith};
 ghost use Rattle.fox_server_key.specs.Prepared.{roundKeysIn};
-ghost use Rattle.fox_run_file.specs.Says.{closeIn, isRest, signed};
+ghost use Rattle.fox_run_file.specs.Says.{closeIn, isRest, beforeClose};
 ghost use Rattle.fox_run_file.specs.Refusals.{brokenHeader, brokenRest};
 ghost use Rattle.fox_run_file.specs.Places.{firstPlace, noPlace};
 ghost use Rattle.fox_run_file.specs.Promise.{TakesUpWith};
@@ -45,7 +45,7 @@ fn of_text(file: &[u8], cipher: u32, rounds: u32) -> u32
 // The refusal of a file's tag: 10 where the tag in the line `close` is not that of all that comes before it.
 fn of_tag(p: Prepared, file: &[u8]) -> u32
     requires { ⌜ Keyed (p .cipher) (p .rounds) (p .«key_len») × (isRest (p .cipher) (p .rounds) (now file) ≡ true) ⌝ }
-    ensures { λ r. ⌜ r ≡ refusalOf (otherTag (tagWith (p .cipher) (roundKeysIn p) (signed (p .cipher) (now (file .entry))))
+    ensures { λ r. ⌜ r ≡ refusalOf (otherTag (tagWith (p .cipher) (roundKeysIn p) (beforeClose (p .cipher) (now (file .entry))))
         (closeIn (p .cipher) (now (file .entry))) ∷ []) ⌝ }
 {
     let close = close_size(p.cipher);

@@ -2,9 +2,9 @@
 -- of exports. `stand k` is the place after k scans were read or skipped.
 -- Assumes nothing.
 use mathlib.Core.Path.{_≡_, refl, sym, ap, _∙_}
-use mathlib.Core.List.{List, []}
+use mathlib.Core.List.{List, [], _∷_, flatten}
 use Prim.Native.Nat.{ℕ, suc, _+_, _-_, _^_, _<_}
-use lib.ListN.{length, take, getD}
+use lib.ListN.{length, take, drop, getD}
 use Rattle.fox_layers.specs.Words.{Bytes}
 use Rattle.fox_key_schedule.specs.Schedule.{roundKeys}
 use Rattle.fox_run_file.specs.declared.place.Place.{Place}
@@ -12,11 +12,18 @@ use Rattle.fox_run_file.specs.declared.reading.Read.{Read}
 use Rattle.fox_run_file.specs.declared.reading.Read.the-variants.{Opened, Refused, End}
 use Rattle.fox_run_file.specs.Format.{turnedScans, cutBy}
 use Rattle.fox_run_file.specs.Says.{counterIn, scansOf}
+use Rattle.fox_run.specs.Run.{runWith}
+use Rattle.fox_run_file.specs.Values.{offsetOf}
 use Rattle.fox_run_file.specs.Places.{passedOver, afterSteps}
 use Rattle.fox_run_file.specs.Promise.{ReadsWith, nextAt, readAt, numberOf, countOf, placeOf}
-use Rattle.fox_run_file.proofs.Calls.{opened-size, told, passed, opened, other-length, ended, ended-again, read-at-end, refused-ended, refused-stays, refused-reads}
+use Rattle.fox_run_file.proofs.Calls.{opened-size, length-told, passed, opened, opened-stretch, other-length, ended, ended-again, read-at-end, refused-ended, refused-stays, refused-reads}
 use Rattle.fox_run_file.proofs.GivenBack.{plain-size, taken-up, told-back, given-back, end-back}
 use Rattle.fox_station_file.specs.Files.{placeIn, lengthOf, WriteHanded, TakeUpHanded, NextHanded, ReadHanded, SkipHanded, Gave, Kept}
+
+-- the order of the three words
+pub words-order : placeIn (7 ∷ 8 ∷ 9 ∷ []) ≡ record { at = 7; scans = 8; offset = 9 }
+unfolding placeIn
+words-order = refl
 
 module _ (c r : ℕ) (key file : List ℕ) {words words-after before after : List ℕ} {n m : ℕ}
     (call : ReadHanded c r key file words words-after before after n m) where
@@ -62,7 +69,7 @@ module _ (c r : ℕ) (key file start : List ℕ) {m : ℕ} (taken : TakeUpHanded
     skipped words-after call = call ∙ ap (passedOver file) there ∙ passed c r (length key) keys file taken served k
 
     pub next-told : {n : ℕ} → k < length scans → NextHanded file words n → n ≡ length (getD scans k [])
-    next-told h call = call ∙ ap lengthOf (ap (nextAt file) there ∙ told c r (length key) keys file taken served k h)
+    next-told h call = call ∙ ap lengthOf (ap (nextAt file) there ∙ length-told c r (length key) keys file taken served k h)
 
     module _ {words-after before after : List ℕ} {n q : ℕ} (h : k < length scans) (call : ReadHanded c r key file words words-after before after n q) where
       here : ReadsWith c r (length key) keys file (stand k) before after (answer c r key file call)
@@ -74,6 +81,11 @@ module _ (c r : ℕ) (key file start : List ℕ) {m : ℕ} (taken : TakeUpHanded
           let (e, output) = opened c r (length key) keys file taken served k h here room in
           gave c r key file call (stand (suc k))
           (e ∙ ap (λ (l : ℕ). Opened l (stand (suc k))) (sym (opened-size c keys (counterIn c r file) k scans)), output)
+
+      -- which is its stretch of the whole run opened
+      pub stretch-read : length before ≡ length (getD scans k [])
+          → after ≡ take (length (getD scans k [])) (drop (offsetOf k scans) (runWith c keys (counterIn c r file) 0 (flatten scans)))
+      stretch-read room = opened-stretch c r (length key) keys file taken served k h here room
 
       pub buffer-refused : (length before ≡ length (getD scans k []) → ⊥) → Kept 6 words words-after before after n q
       buffer-refused other = kept-refused c r key file call 6 (other-length c r (length key) keys file taken served k h here other)

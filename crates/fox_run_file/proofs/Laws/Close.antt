@@ -27,7 +27,7 @@ use Rattle.fox_text.proofs.Laws.Values.{pairs-line-again}
 use Rattle.fox_run_file.specs.Format.{scansName, closeName}
 use Rattle.fox_run_file.specs.Sizes.{headerSize, blockLineSize}
 use Rattle.fox_run_file.specs.Says.{isBlockLine, headIn, sizeIn, isScan, afterScan, afterScans, closeText, isEnd, scansFrom, scansOf}
-use Rattle.fox_run_file.specs.Says.{signed, closeIn, isRest}
+use Rattle.fox_run_file.specs.Says.{beforeClose, closeIn, isRest}
 use Rattle.fox_run_file.specs.Parts.{ReadsBlock}
 use Rattle.fox_run_file.proofs.Laws.Lines.{block-length, block-part}
 
@@ -80,7 +80,7 @@ alone name cipher u e none =
 pub record Closed (cipher : ℕ) (file : List ℕ) : Type 0 where
   pub room : blockLineSize closeName cipher ≤ length file
   pub line : isBlockLine closeName cipher (drop (length file - blockLineSize closeName cipher) file) ≡ true
-  pub short : length (signed cipher file) ≤ 1073741824
+  pub short : length (beforeClose cipher file) ≤ 1073741824
 
 pub closed : (cipher rounds : ℕ) (file : List ℕ) → isRest cipher rounds file ≡ true → Closed cipher file
 unfolding isRest isEnd blockLineSize
@@ -88,13 +88,13 @@ closed cipher rounds file e =
     let n = length (scansOf cipher rounds file) in
     let t = afterScans 65535 0 (scansFrom cipher rounds file) in
     let u = closeText n t in
-    let (end, short) = both (isEnd cipher n t) (leb (length (signed cipher file)) 1073741824) e in
+    let (end, short) = both (isEnd cipher n t) (leb (length (beforeClose cipher file)) 1073741824) e in
     let (lines, none) = both (startsWith (decimalLineText scansName n) t && isBlockLine closeName cipher u) (empty (afterLine u)) end in
     let right = both (startsWith (decimalLineText scansName n) t) (isBlockLine closeName cipher u) lines .1 in
     let from : Tail file u =
     tail-drop (length (decimalLineText scansName n)) (tail-scans 65535 0 (record { at = headerSize cipher rounds; is = refl })) in
     let (room, is) = tail-last (blockLineSize closeName cipher) from (alone closeName cipher u right none) (omega arith) in
-    record { room = room; line = rw is at right; short = leb-true (length (signed cipher file)) 1073741824 short }
+    record { room = room; line = rw is at right; short = leb-true (length (beforeClose cipher file)) 1073741824 short }
 
 -- the tag in the line `close`, read into a buffer and tested over all that comes before
 
@@ -103,19 +103,19 @@ turned-round true = refl
 turned-round false = refl
 
 module _ (c r k : ℕ) (rks file : List ℕ) (keyed : Keyed c r k) (right : isRest c r file ≡ true) where
-  tag-settles : refusalOf (forTagTest c r k (length (signed c file)) (tagWith c rks (signed c file)) (closeIn c file))
-      ≡ refusalOf (otherTag (tagWith c rks (signed c file)) (closeIn c file) ∷ [])
+  tag-settles : refusalOf (forTagTest c r k (length (beforeClose c file)) (tagWith c rks (beforeClose c file)) (closeIn c file))
+      ≡ refusalOf (otherTag (tagWith c rks (beforeClose c file)) (closeIn c file) ∷ [])
   unfolding refusalOf otherTag closeIn
   tag-settles =
       let end = closed c r file right in
-      tag-verdict (tagWith c rks (signed c file)) (closeIn c file)
+      tag-verdict (tagWith c rks (beforeClose c file)) (closeIn c file)
       (record { keyed = keyed; message = end .short; tag = block-length closeName c _ (end .line) })
-      ∙ turned-round (same (tagWith c rks (signed c file)) (closeIn c file))
+      ∙ turned-round (same (tagWith c rks (beforeClose c file)) (closeIn c file))
 
   pub tag-told : {m n : ℕ} {before after : List ℕ} {b : Bool} {a : Answer} → m ≡ length file - blockLineSize closeName c → n ≡ blockSize c
       → blockSize c ≤ length before → ReadsBlock closeName c (drop m file) before after b → TestsTagWith c r k rks (take m file) (take n after) a
-      → a .refusal ≡ refusalOf (otherTag (tagWith c rks (signed c file)) (closeIn c file) ∷ [])
-  unfolding signed closeIn
+      → a .refusal ≡ refusalOf (otherTag (tagWith c rks (beforeClose c file)) (closeIn c file) ∷ [])
+  unfolding beforeClose closeIn
   tag-told {after = after} em en room read tested =
       let part : take (blockSize c) after ≡ closeIn c file = block-part closeName c _ (rw em at read) (closed c r file right .line) room in
       rw (em, en, part) at (tested .refusal) ∙ tag-settles

@@ -2,17 +2,18 @@
 -- from its own place in the run.
 -- Assumes nothing.
 use mathlib.Core.Path.{_≡_, refl, sym, ap, _∙_}
-use mathlib.Core.List.{List, [], _∷_, _++_}
+use mathlib.Core.List.{List, [], _∷_, _++_, flatten}
 use Prim.Native.Nat.{ℕ, suc, _+_, _≤_}
 use native.Mathlib.Omega.{arith}
-use lib.ListN.{length, take, drop, length-drop, take-append-drop}
-use lib.Seq.{length-take-le, take-append-le, drop-append-le, take-at, drop-at}
+use lib.ListN.{length, take, drop, length-append, length-drop, take-append-drop}
+use lib.Seq.{length-take-le, take-append-le, drop-append-le, take-append-seam, drop-append-seam, take-at, drop-at}
 use Rattle.fox_run.specs.Run.{runWith}
 use Rattle.fox_run.specs.Cuts.{eachAlone}
 use Rattle.fox_run.proofs.Stretches.{run-append}
 use Rattle.fox_run.proofs.Laws.Served.{length-runWith}
 use Rattle.fox_run_file.specs.Format.{turnedScans, cutBy}
 use Rattle.fox_run_file.specs.Sizes.{total}
+use Rattle.fox_run_file.specs.Values.{sizesOf}
 
 pub length-cut : (sizes input : List ℕ) → length (cutBy sizes input) ≡ length sizes
 unfolding cutBy
@@ -47,3 +48,14 @@ module _ (cipher : ℕ) (rks counter : List ℕ) where
       → turnedScans cipher rks counter (cutBy sizes input) ≡ cutBy sizes (runWith cipher rks counter 0 input)
   unfolding turnedScans
   cut-turned sizes input h = cut-alone 0 sizes input h
+
+-- scans joined, and cut again by their lengths
+pub total-joined : (ss : List (List ℕ)) → total (sizesOf ss) ≡ length (flatten ss)
+unfolding total sizesOf flatten
+total-joined [] = refl
+total-joined (s ∷ ss) = omega (arith, total-joined ss, length-append s (flatten ss))
+
+pub cut-again : (ss : List (List ℕ)) → cutBy (sizesOf ss) (flatten ss) ≡ ss
+unfolding cutBy sizesOf flatten
+cut-again [] = refl
+cut-again (s ∷ ss) = rw (take-append-seam s (flatten ss), drop-append-seam s (flatten ss), cut-again ss)

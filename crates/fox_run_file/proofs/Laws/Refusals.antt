@@ -11,11 +11,11 @@ use lib.Dec.{eqb}
 use Rattle.fox_refusals.specs.declared.answer.Answer.{Answer}
 use Rattle.fox_refusals.proofs.Laws.Reply.{chosen, passed-over}
 use Rattle.fox_text.proofs.Laws.Tests.{by-test, neither}
-use borrow.Author.Tests.{ltb-false, eqb-true, not-false}
+use borrow.Author.Tests.{ltb-false, eqb-true, le-ltb, eq-eqb, not-false}
 use Rattle.fox_refusals.specs.Refusals.{Refusal, refusalOf, differs, blockSize, wrongCipher, wrongRounds, longKey, wrongBlockLength, forKey, Keyed}
-use Rattle.fox_refusals.proofs.Laws.Refusals.{Passed, numbered, passed-served, served-passed, keyed}
+use Rattle.fox_refusals.proofs.Laws.Refusals.{Passed, numbered, passed-served, served-passed, keyed, keyed-served}
 use Rattle.fox_run_file.specs.Sizes.{total, fileSize, pastLimit}
-use Rattle.fox_run_file.specs.Refusals.{wrongSizes, smallOutput, forWrite}
+use Rattle.fox_run_file.specs.Refusals.{largeFile, wrongSizes, smallOutput, forSize, forWrite}
 
 -- a refusal of the first part is that of the whole; past the first part the rest decides
 
@@ -76,3 +76,24 @@ writable c r k b d sizes o e =
       all = eqb-true (total sizes) d (not-false (eqb (total sizes) d) all);
       room = ltb-false o (fileSize c r sizes) (q .1 .1 .0);
     }
+
+-- and the other way about: such a call is served
+pub writable-served : {c r k b d : ℕ} (sizes : List ℕ) {o : ℕ} → Writable c r k b d sizes o → refusalOf (forWrite c r k b d sizes o) ≡ 0
+unfolding refusalOf numbered forKey forWrite wrongCipher wrongRounds longKey wrongBlockLength wrongSizes smallOutput
+writable-served {c} {r} {k} {b} {d} sizes {o} w =
+    found-later (forKey c r k) (wrongBlockLength c b ∷ wrongSizes c r sizes d ∷ smallOutput c r sizes o ∷ []) refl (keyed-served (w .keyed))
+    ∙ rw (eq-eqb b (blockSize c) (w .counter), w .limits, eq-eqb (total sizes) d (w .all), le-ltb o (fileSize c r sizes) (w .room))
+
+-- the size is told exactly of a cipher and rounds that no key is refused for, and of lengths within the limits
+
+pub tellable : {c r : ℕ} (k : ℕ) (sizes : List ℕ) → k ≤ 32 → refusalOf (forSize c r sizes) ≡ 0 → Keyed c r k × (pastLimit c r sizes ≡ false)
+unfolding Passed numbered forKey forSize wrongCipher wrongRounds longKey largeFile
+tellable {c} {r} k sizes short e =
+    let p = served-passed (forSize c r sizes) refl e in
+    (keyed c r k (passed-served (forKey c r k) (p .0, (p .1 .0, (le-ltb 32 k short, tt)))), p .1 .1 .0)
+
+pub tellable-served : {c r k : ℕ} (sizes : List ℕ) → Keyed c r k → pastLimit c r sizes ≡ false → refusalOf (forSize c r sizes) ≡ 0
+unfolding Passed refusalOf numbered forKey forSize wrongCipher wrongRounds longKey largeFile
+tellable-served {c} {r} {k} sizes h limits =
+    let p = served-passed (forKey c r k) refl (keyed-served h) in
+    rw (p .0, p .1 .0, limits)

@@ -9,7 +9,7 @@ use borrow.Author.Tests.{not-false}
 use Rattle.fox_refusals.specs.Refusals.{refusalOf, wrongCipher, wrongRounds, longKey, same, otherTag, forKey, Keyed}
 use Rattle.fox_refusals.proofs.Laws.Refusals.{Passed, numbered, passed-served, served-passed, keyed, keyed-served, same-known}
 use Rattle.fox_tag.specs.Tag.{tagWith}
-use Rattle.fox_run_file.specs.Says.{isHeader, isRest, signed, closeIn}
+use Rattle.fox_run_file.specs.Says.{isHeader, isRest, beforeClose, closeIn}
 use Rattle.fox_run_file.specs.Refusals.{brokenHeader, brokenRest, forTakeUp, Passes}
 use Rattle.fox_run_file.proofs.Laws.Refusals.{found-later}
 
@@ -20,10 +20,10 @@ turned-round false m n = refl
 module _ {cipher rounds keyLen : ℕ} (key : Keyed cipher rounds keyLen) where
   pub take-up-verdict : (rks file : List ℕ) → refusalOf (forTakeUp cipher rounds keyLen rks file)
       ≡ cond (isHeader cipher rounds file)
-      (cond (isRest cipher rounds file) (cond (same (tagWith cipher rks (signed cipher file)) (closeIn cipher file)) 0 10) 12) 11
+      (cond (isRest cipher rounds file) (cond (same (tagWith cipher rks (beforeClose cipher file)) (closeIn cipher file)) 0 10) 12) 11
   unfolding refusalOf numbered forKey wrongCipher wrongRounds longKey forTakeUp brokenHeader brokenRest otherTag
   take-up-verdict rks file =
-      let tested = otherTag (tagWith cipher rks (signed cipher file)) (closeIn cipher file) in
+      let tested = otherTag (tagWith cipher rks (beforeClose cipher file)) (closeIn cipher file) in
       found-later (forKey cipher rounds keyLen) (brokenHeader cipher rounds file ∷ brokenRest cipher rounds file ∷ tested ∷ []) refl (keyed-served key)
       ∙ simp turned-round
 

@@ -19,7 +19,7 @@ use Rattle.fox_text.proofs.Laws.Texts.{end-decimal-text, right-decimal-text, re
 use Rattle.fox_run_file.specs.Format.{counterName, scanName, bytesName, scansName, closeName, scanHead, scanText, scansText, closedBy}
 use Rattle.fox_run_file.specs.Sizes.{blockLineSize, anyAbove}
 use Rattle.fox_run_file.specs.Says.{isBlockLine, blockIn, bytesText, sizeIn, headIn, fromBytes, isScan, bytesIn, afterScan, scansIn, afterScans}
-use Rattle.fox_run_file.specs.Says.{isEnd, signed, closeIn}
+use Rattle.fox_run_file.specs.Says.{isEnd, beforeClose, closeIn}
 use Rattle.fox_run_file.specs.Values.{sizesOf}
 use Rattle.fox_run_file.proofs.Laws.Lengths.{length-block-line, first-small}
 
@@ -126,9 +126,9 @@ module _ (cipher : ℕ) (tag text : List ℕ) (size : length tag ≡ blockSize c
   unfolding closedBy
   close-place = omega (arith, length-append text (pairsLineText closeName tag), length-block-line closeName cipher tag size)
 
-  pub closed-signed : signed cipher (closedBy tag text) ≡ text
-  unfolding signed closedBy
-  closed-signed = rw close-place (take-append-seam text (pairsLineText closeName tag))
+  pub closed-before : beforeClose cipher (closedBy tag text) ≡ text
+  unfolding beforeClose closedBy
+  closed-before = rw close-place (take-append-seam text (pairsLineText closeName tag))
 
   pub closed-tag : Bytes tag → closeIn cipher (closedBy tag text) ≡ tag
   unfolding closeIn closedBy

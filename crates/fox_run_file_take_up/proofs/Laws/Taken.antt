@@ -10,7 +10,7 @@ use Rattle.fox_refusals.proofs.Laws.Refusals.{Passed, numbered, served-passed}
 use Rattle.fox_refusals.proofs.Laws.Reply.{chosen, passed-over}
 use Rattle.fox_tag.specs.Tag.{tagWith}
 use Rattle.fox_run_file.specs.declared.place.Taken.{Taken}
-use Rattle.fox_run_file.specs.Says.{isRest, signed, closeIn}
+use Rattle.fox_run_file.specs.Says.{isRest, beforeClose, closeIn}
 use Rattle.fox_run_file.specs.Refusals.{brokenHeader, brokenRest, forTakeUp}
 use Rattle.fox_run_file.specs.Places.{firstPlace, noPlace}
 use Rattle.fox_run_file.specs.Promise.{TakesUpWith}
@@ -26,7 +26,7 @@ text-right c r file y = not-false (isRest c r file) (served-passed (text c r fil
 
 module _ (c r k : ℕ) (rks file : List ℕ) where
   abbrev tag : List Refusal
-  tag = otherTag (tagWith c rks (signed c file)) (closeIn c file) ∷ []
+  tag = otherTag (tagWith c rks (beforeClose c file)) (closeIn c file) ∷ []
 
   pub of-key : {n : ℕ} → n ≡ refusalOf (forKey c r k) → (n ≡ 0 → ⊥) → n ≡ refusalOf (forTakeUp c r k rks file)
   unfolding forTakeUp

@@ -26,8 +26,8 @@ use Rattle.fox_run_file.specs.Parts.{MayWrite}
 use Rattle.fox_run_file.proofs.Laws.Lengths.{length-block-line, length-unclosed, sizes-cut, limits, total-within}
 use Rattle.fox_run_file.proofs.Laws.Refusals.{writable}
 use Rattle.fox_run_file.proofs.Laws.Cut.{cut-front, cut-turned}
-use Rattle.fox_run_file_place.specs.Laid.{Laid}
-use Rattle.fox_run_file_place.proofs.Laws.Laid.{put-laid, laid-then}
+use Rattle.fox_run_file_lay.specs.Laid.{Laid}
+use Rattle.fox_run_file_lay.proofs.Laws.Laid.{put-laid, laid-then}
 use Rattle.fox_run_file_write.specs.Ready.{FileRoom, CloseRoom, ToWrite}
 
 -- a call that meets no refusal has all that a file is written from

@@ -16,8 +16,8 @@ use Rattle.fox_run_file.specs.Values.{sizesOf}
 use Rattle.fox_run_file.proofs.Laws.Lengths.{length-header, length-scans, sizes-cut, limits, total-scans}
 use Rattle.fox_run_file.proofs.Laws.Sizes.{close-line-size, header-line-sizes}
 use Rattle.fox_run_file.proofs.Laws.Cut.{length-cut}
-use Rattle.fox_run_file_place.specs.Laid.{Laid, Room}
-use Rattle.fox_run_file_place.proofs.Laws.Laid.{put-laid, laid-then}
+use Rattle.fox_run_file_lay.specs.Laid.{Laid, Room}
+use Rattle.fox_run_file_lay.proofs.Laws.Laid.{put-laid, laid-then}
 use Rattle.fox_run_file_write.specs.Ready.{FileRoom}
 
 module _ {cipher rounds from : ℕ} {counter sizes out : List ℕ} (room : FileRoom cipher rounds counter from sizes out) where

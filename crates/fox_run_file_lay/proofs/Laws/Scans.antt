@@ -17,8 +17,8 @@ use Rattle.fox_run_file.specs.Format.{scanName, bytesName, scanHead, scanText, 
 use Rattle.fox_run_file.specs.Sizes.{scanSize, scansSize, total, anyAbove}
 use Rattle.fox_run_file.proofs.Laws.Lengths.{length-scan, first-small, total-scans}
 use Rattle.fox_run_file.proofs.Laws.Sizes.{total-here, scans-here, scans-done}
-use Rattle.fox_run_file_place.specs.Laid.{Laid, ScanRoom, Room}
-use Rattle.fox_run_file_place.proofs.Laws.Laid.{drop-later, put-laid, laid-then}
+use Rattle.fox_run_file_lay.specs.Laid.{Laid, ScanRoom, Room}
+use Rattle.fox_run_file_lay.proofs.Laws.Laid.{drop-later, put-laid, laid-then}
 
 module _ {at src number size : ℕ} {out : List ℕ} (room : ScanRoom at src number size out) where
   pub head-end : {a b : ℕ} {l l′ : List ℕ} → PutsDecimal scanName number out l at a → PutsDecimal bytesName size l l′ a b → b < src

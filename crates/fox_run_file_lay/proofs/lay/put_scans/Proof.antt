@@ -5,10 +5,10 @@ use mathlib.Core.Path.{_≡_, refl}
 use Prim.Native.Nat.{_-_, _≤_}
 use native.Mathlib.Omega.{arith}
 use lib.ListN.{length}
-use Rattle.fox_run_file_place.proofs.Laws.Scans.{Onward, onward-first, onward-room, onward-next, onward-last}
+use Rattle.fox_run_file_lay.proofs.Laws.Scans.{Onward, onward-first, onward-room, onward-next, onward-last}
 use borrow.Author.Needs.{needs}
-use Rattle.fox_run_file_place.proofs.place.put_scans.Statement.{statement}
-use Rattle.fox_run_file_place.proofs.place.put_scans.Tie as tie
+use Rattle.fox_run_file_lay.proofs.lay.put_scans.Statement.{statement}
+use Rattle.fox_run_file_lay.proofs.lay.put_scans.Tie as tie
 
 abbrev Inv-loop : tie.InvT-loop
 Inv-loop out₀ at src sizes to₀ from₀ i₀ i-end out to from i =

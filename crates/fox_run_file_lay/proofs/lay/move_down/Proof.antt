@@ -6,11 +6,11 @@ use mathlib.Core.List.{append-nil}
 use Prim.Native.Nat.{_+_, _-_, _≤_}
 use native.Mathlib.Omega.{arith}
 use lib.ListN.{length, take, drop, length-set}
-use Rattle.fox_run_file_place.specs.Laid.{Laid}
-use Rattle.fox_run_file_place.proofs.Laws.Laid.{moved}
+use Rattle.fox_run_file_lay.specs.Laid.{Laid}
+use Rattle.fox_run_file_lay.proofs.Laws.Laid.{moved}
 use borrow.Author.Needs.{needs}
-use Rattle.fox_run_file_place.proofs.place.move_down.Statement.{statement}
-use Rattle.fox_run_file_place.proofs.place.move_down.Tie as tie
+use Rattle.fox_run_file_lay.proofs.lay.move_down.Statement.{statement}
+use Rattle.fox_run_file_lay.proofs.lay.move_down.Tie as tie
 
 abbrev Inv-loop : tie.InvT-loop
 Inv-loop out₀ at src n i₀ out i =

@@ -3,10 +3,10 @@
 use native.Mathlib.Omega.{arith}
 use Rattle.fox_text.specs.Ascii.{codes, ascii}
 use Rattle.fox_run_file.specs.Format.{scanName, bytesName}
-use Rattle.fox_run_file_place.proofs.Laws.Scans.{head-end, scan-laid}
+use Rattle.fox_run_file_lay.proofs.Laws.Scans.{head-end, scan-laid}
 use borrow.Author.Needs.{needs}
-use Rattle.fox_run_file_place.proofs.place.put_scan.Statement.{statement}
-use Rattle.fox_run_file_place.proofs.place.put_scan.Tie as tie
+use Rattle.fox_run_file_lay.proofs.lay.put_scan.Statement.{statement}
+use Rattle.fox_run_file_lay.proofs.lay.put_scan.Tie as tie
 
 move-down-requires : tie.Need-move-down-requires
 unfolding scanName bytesName ascii codes

@@ -3,7 +3,7 @@ ghost use Prim.Native.Nat.{_+_, _≤_};
 ghost use lib.ListN.{length, take, drop};
 ghost use Rattle.fox_run_file.specs.Format.{cutBy, scanText, scansText};
 ghost use Rattle.fox_run_file.specs.Sizes.{total};
-ghost use Rattle.fox_run_file_place.specs.Laid.{Laid, ScanRoom, Room};
+ghost use Rattle.fox_run_file_lay.specs.Laid.{Laid, ScanRoom, Room};
 use fox_text_write::writing::put;
 use fox_text_write::writing::put_decimal_line;
 

@@ -10,7 +10,7 @@ use lib.ListN.{length, take, drop, getD, set, length-append, length-drop}
 use lib.Seq.{sets-eq, length-take-le, take-at, drop-append-add, drop-drop, take-suc, getD-drop}
 use Rattle.fox_text.specs.Put.{Put}
 use Rattle.fox_text.proofs.Laws.Stores.{one}
-use Rattle.fox_run_file_place.specs.Laid.{Laid}
+use Rattle.fox_run_file_lay.specs.Laid.{Laid}
 
 -- lists that agree from a place on agree from a later place on
 pub drop-later : (f g : ℕ) (a b : List ℕ) → f ≤ g → drop f a ≡ drop f b → drop g a ≡ drop g b
