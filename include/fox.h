@@ -189,8 +189,8 @@ enum {
     FOX_REFUSED_FILE = 12
 };
 
-/* What fox_file_next_length tells where no scan follows. */
-#define FOX_END UINT64_MAX
+/* What fox_file_next_length tells where no scan follows: a number of 64 bits, so keep it in a uint64_t. */
+#define FOX_NO_SCAN UINT64_MAX
 
 /* One block, sealed or opened. With the same cipher, rounds and key either undoes the other.
  *
@@ -302,7 +302,7 @@ uint32_t fox_server_test_tag(uint32_t cipher, uint32_t rounds, const uint8_t *ke
  * to the end of every file, so that nothing can be read there. Of a file above the limit no byte after the
  * header is read.
  *
- * fox_file_next_length tells how long the next scan is, or FOX_END where there is none.
+ * fox_file_next_length tells how long the next scan is, or FOX_NO_SCAN where there is none.
  *
  * fox_file_read opens the next scan, with its length as the count, and moves the place on. At the end it answers
  * FOX_SERVED with a count of 0, writes nothing, and the place stays; an empty scan has a count of 0 too, so ask
