@@ -315,10 +315,10 @@ uint32_t fox_server_test_tag(uint32_t cipher, uint32_t rounds, const uint8_t *ke
  * it looks at nothing else, answers FOX_SERVED with a count of 0, writes nothing, and the place stays; an empty
  * scan has a count of 0 too, so ask fox_file_next_length which of them comes. The refusals are 1 to 4, 6 and 7;
  * the place stays with them too, so that the scan can be read after all. 7 comes only at a place that these
- * calls did not hand back. Nothing is looked at but this scan and the header: that the file is right was seen
- * when it was taken up, and it is not to be changed since. A scan read with another key than the file was taken
- * up with, or with another number of rounds of as many digits, opens to other bytes; with rounds of more or
- * fewer digits, or with the other cipher, the answer is 4.
+ * calls did not hand back for this file. Nothing is looked at but this scan and the header: that the file is
+ * right was seen when it was taken up, and it is not to be changed since. A scan read with another key than the
+ * file was taken up with, or with another number of rounds of as many digits, opens to other bytes; with rounds
+ * of more or fewer digits, or with the other cipher, the answer is 4.
  *
  * fox_file_skip moves the place over the next scan, and takes as long for a long one as for a short one. Where no
  * scan is left it does nothing.
