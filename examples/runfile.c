@@ -56,13 +56,13 @@ static int read_scan(const char *path, const uint8_t *file, size_t len, uint64_t
         for (uint64_t i = 1; i < number; i++)
             fox_file_skip(file, len, place);
         length = fox_file_next_length(file, len, place);
-        if (length != FOX_END)
+        if (length != FOX_NO_SCAN)
             refusal = fox_file_read(CIPHER, ROUNDS, key, key_len, file, len, place, scan, (size_t)length, &count);
     }
     fox_wipe_stack();
     if (refusal != FOX_SERVED)
         return complain(path, fox_refusal_text(refusal));
-    if (length == FOX_END)
+    if (length == FOX_NO_SCAN)
         return complain(path, "has no scan of this number");
     int written = fwrite(scan, 1, (size_t)count, stdout) == count && fflush(stdout) == 0;
     fox_wipe(scan, sizeof scan);

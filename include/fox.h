@@ -14,9 +14,9 @@
  *   sealed again with other data, or a stretch of it that is, is another run; cards that share a key share its
  *   numbers.
  * - With FOX64 seal no more than 1 GiB under one key, all runs together and the last block of each counted
- *   whole. Its blocks are small, so the odds that the sealed runs tell something of their data grow fast, with
- *   the square of their length: at most 1 in 2,000 at 1 GiB, 1 in 32 at 8 GiB, 1 in 2 at 32 GiB. With FOX128
- *   1 in 2,000 comes at 8,589,934,592 GiB.
+ *   whole; run files, which are tagged under that key too, count twice. Its blocks are small, so the odds that
+ *   the sealed runs tell something of their data grow fast, with the square of their length: at most 1 in 2,000
+ *   at 1 GiB, 1 in 32 at 8 GiB, 1 in 2 at 32 GiB. With FOX128 1 in 2,000 comes at 8,589,934,592 GiB.
  * - Keep cipher, rounds and counter block, or its number, with the sealed run: they are no secret, and without
  *   them it cannot be opened.
  * - Tag what was sealed, and test the tag before opening it (fox_card_make_tag and the calls after it), or put
@@ -36,13 +36,15 @@
  *                  it whether the message was changed
  *   scan           a part of a run, 0 to 65,536 bytes, as the station recorded them together
  *   run file       a run as a file, scan after scan, with its cipher, rounds, counter block and tag
- *   place          where a reader stands in a run file
+ *   place          where the next scan of a run file stands, once it was taken up
  *   engine         an implementation: card, with little memory, and server, with much
  *   prepared key   the expanded key, which is all round keys; the server engine makes it in each call
  *   refusal        an error number from 1 on; 0 is success
  *   count          the number of bytes written, which the answer tells: the output's length for a call that
  *                  answers 0, and 0 for any other; a test of a tag has no output, and count 0 always. Calls on
- *                  run files put it where they are told to
+ *                  run files put it where they are told to: the length of the file that was written, or of the
+ *                  scan that was read, and 0 where no scan was left; fox_file_size writes no file, and puts
+ *                  there how long it would be
  *
  * The card engine (fox_card_...) and the server engine (fox_server_...) do the same work: they give the
  * same answer and the same bytes for the same parameters, so what one seals the other opens, and a tag that
@@ -51,23 +53,27 @@
  * block these preparations are most of the work.
  *
  * Every call of an engine, fox_counter, and every call on a run file that gives a count or takes a file up,
- * answers FOX_SERVED, which is 0, or the number of the first refusal below that applies; for run files 12 is
- * looked for before 6, and 10 after all others. A served call has written all of `out`, or of the `tag` or
- * `counter` that it makes, and fox_file_write as much of `out` as it counts; a refused one has written nothing,
- * but for a count of 0, or a place that is the end. fox_refusal_text has a sentence for each number.
+ * answers FOX_SERVED, which is 0, or the number of the first refusal below that applies. Order for run files:
+ * fox_file_size 1, 2, 12; fox_file_write 1, 2, 3, 4, 12, 6; fox_file_take_up 1, 2, 3, 11, 12, 10; fox_file_read
+ * 1, 2, 3, 4, 6, 7, but where no scan is left it answers 0 and looks at nothing else, so that even a wrong
+ * cipher is not refused there. A served call has written all of `out`, or of the `tag` or `counter` that it
+ * makes; but fox_file_write only as much of `out` as it counts, and fox_file_read nothing where no scan is left.
+ * A refused call has written nothing, but for a count of 0, or a place where no scan is left. fox_refusal_text
+ * has a sentence for each number.
  *
  *    1  FOX_REFUSED_CIPHER      cipher is neither 64 nor 128
  *    2  FOX_REFUSED_ROUNDS      rounds is below 12 or above 255 (not fox_counter)
  *    3  FOX_REFUSED_KEY         key_len is above 32 (not fox_counter and fox_file_size, which have no key)
  *    4  FOX_REFUSED_BLOCK       block_len, or counter_len, is not the cipher's block: 8 for FOX64, 16 for
- *                               FOX128 (blocks, runs, fox_counter and fox_file_write); the file's header has
- *                               no counter block of this cipher (fox_file_read)
+ *                               FOX128 (blocks, runs, fox_counter and fox_file_write); or no counter block
+ *                               stands where a header of this cipher and these rounds would have it
+ *                               (fox_file_read with other settings than at take-up)
  *    5  FOX_REFUSED_DATA        a run's data_len is above 65,536, or message_len is above 1,073,741,824
  *    6  FOX_REFUSED_OUTPUT      out_len is not block_len, or not data_len; for a tag that is made, tag_len is
  *                               not the cipher's block; out_len is below the length of the file that is to be
  *                               written, or is not that of the scan that is to be read
  *    7  FOX_REFUSED_END         offset + data_len, as a sum that does not wrap, is above 1,073,741,824 (runs;
- *                               fox_file_read at a place that is not good)
+ *                               fox_file_read at a place that take-up, reading and skipping did not give)
  *    8  FOX_REFUSED_SHEET       the bench program's sheet is malformed; no call here answers it
  *    9  FOX_REFUSED_TAG_LENGTH  for a tag that is tested, tag_len is not the cipher's block
  *   10  FOX_REFUSED_TAG         the tag that is tested is not that of the message; the tag in the file that is
@@ -86,7 +92,7 @@
  *   holds for refused calls too.
  * - No pointer is NULL, not even with a length of 0: the proofs are about references, and those are never
  *   NULL. With a length of 0 nothing is read or written there, so any other address will do, such as that
- *   of any variable.
+ *   of any variable; malloc(0) will not, since it may answer NULL.
  * - `out` overlaps none of key, block, counter, data, lengths and file, so nothing is sealed in place; a `tag`
  *   that is made overlaps neither key nor message. `count`, and a `place` that is set or moved on, overlap
  *   nothing else that the call is lent. All others, a tag that is tested among them, are only read, and may
@@ -189,8 +195,8 @@ enum {
     FOX_REFUSED_FILE = 12
 };
 
-/* What fox_file_next_length tells where no scan follows. */
-#define FOX_END UINT64_MAX
+/* What fox_file_next_length tells where no scan follows: a number of 64 bits, so keep it in a uint64_t. */
+#define FOX_NO_SCAN UINT64_MAX
 
 /* One block, sealed or opened. With the same cipher, rounds and key either undoes the other.
  *
@@ -295,45 +301,71 @@ uint32_t fox_server_test_tag(uint32_t cipher, uint32_t rounds, const uint8_t *ke
  * fox_file_size tells, as the count, how long the file of such scans will be. The refusals are 1, 2 and 12.
  *
  * fox_file_write seals the scans and writes their file; the count is its length, and what follows it in `out`
- * stays as it was. The refusals are 1 to 4, 12 and 6, looked for in this order.
+ * stays as it was. The refusals are 1, 2, 3, 4, 12 and 6, looked for in this order.
  *
  * fox_file_take_up looks whether a file is right, every byte of it and the tag last, and sets `place` to its
- * first scan. The refusals are 1 to 3, 11, 12 and 10, looked for in this order; with any of them `place` is set
- * to the end of every file, so that nothing can be read there. Of a file above the limit no byte after the
+ * first scan. The refusals are 1, 2, 3, 11, 12 and 10, looked for in this order; with any of them `place` is set
+ * past the end of every file, so that nothing can be read there. Of a file above the limit no byte after the
  * header is read.
  *
- * fox_file_next_length tells how long the next scan is, or FOX_END where there is none.
+ * fox_file_next_length tells how long the next scan is, or FOX_NO_SCAN where there is none: keep it in a
+ * uint64_t.
  *
- * fox_file_read opens the next scan, with its length as the count, and moves the place on. At the end it answers
- * FOX_SERVED with a count of 0, writes nothing, and the place stays; an empty scan has a count of 0 too, so ask
- * fox_file_next_length which of them comes. The refusals are 1 to 4 and 6; the place stays with them too, so
- * that the scan can be read after all. Nothing is looked at but this scan and the header: that the file is right
- * was seen when it was taken up, and it is not to be changed since. A scan read with another key, or another
- * number of rounds, than the file was taken up with opens to other bytes.
+ * fox_file_read opens the next scan, with its length as the count, and moves the place on. Where no scan is left
+ * it looks at nothing else, answers FOX_SERVED with a count of 0, writes nothing, and the place stays; an empty
+ * scan has a count of 0 too, so ask fox_file_next_length which of them comes. The refusals are 1 to 4, 6 and 7;
+ * the place stays with them too, so that the scan can be read after all. 7 comes only at a place that these
+ * calls did not hand back for this file. Nothing is looked at but this scan and the header: that the file is
+ * right was seen when it was taken up, and it is not to be changed since. A scan read with another key than the
+ * file was taken up with, or with another number of rounds of as many digits, opens to other bytes; with rounds
+ * of more or fewer digits, or with the other cipher, the answer is 4.
  *
- * fox_file_skip moves the place over the next scan, and takes as long for a long one as for a short one. At the
- * end it does nothing.
+ * fox_file_skip moves the place over the next scan, and takes as long for a long one as for a short one. Where no
+ * scan is left it does nothing.
+ *
+ * To read all scans of a file, into a buffer `scan` of FOX_MOST_SCAN bytes:
+ *
+ *   uint64_t place[FOX_PLACE_WORDS], length, count;
+ *   uint32_t refusal = fox_file_take_up(cipher, rounds, key, key_len, file, file_len, place);
+ *   while (refusal == FOX_SERVED && (length = fox_file_next_length(file, file_len, place)) != FOX_NO_SCAN) {
+ *       refusal = fox_file_read(cipher, rounds, key, key_len, file, file_len, place, scan, (size_t)length, &count);
+ *       if (refusal == FOX_SERVED)
+ *           use(scan, count);
+ *   }
+ *
+ * Do not loop on fox_file_read's answer: it is 0 at the end too, again and again, and on a file that was refused.
  *
  * Each file is a run: under one key its counter block is that of no other (fox_counter). The key seals and tags
- * here, since the file has room for no other; so let no run have the number 0, whose first counter block, of
- * zeros, is the one that the tag's subkeys are made from. What the tag covers is the whole file, cipher, rounds
- * and counter block with it; that one whole file was put in the place of another under the same key goes unseen.
+ * here, since the file has room for no other. So
+ *
+ * - the block of zeros, which the tag's subkeys are made from, is to be sealed in no run under that key, in a
+ *   file or not: let none have the number 0, nor a counter block of your own that counts on through all ones to
+ *   zero.
+ * - every byte of a run file counts twice: with FOX64 keep to 512 MiB of run files under one key, where other
+ *   runs keep to 1 GiB.
+ * - each file is one message: with FOX64 write no more than 2 to the 21 under one key, as SP 800-38B advises.
+ *
+ * What the tag covers is the whole file, cipher, rounds and counter block with it; that one whole file was put in
+ * the place of another under the same key goes unseen.
  *
  * cipher, rounds, key, key_len  as for a block; where a file is read, those that it was taken up with
  * counter, counter_len          the counter block that the run begins with, as for a run
  * data, data_len                the plain scans, one after the other
  * lengths, scans                how long each scan is, 0 to 65,536 bytes, and how many there are, 0 to 65,535;
- *                               together they are as long as the data
+ *                               together they are as long as the data. With no scans any address will do that
+ *                               is aligned as a uint64_t is, but not NULL, which malloc(0) may answer
  * out, out_len                  for a file as many bytes as fox_file_size tells, or more; for a scan as many as
- *                               fox_file_next_length tells
+ *                               fox_file_next_length tells. For an empty scan any address will do, but not
+ *                               NULL, which malloc(0) may answer; a buffer of FOX_MOST_SCAN bytes, used with
+ *                               the told length, does for every scan
  * count                         gets the count; 0 where the call is refused
  * file, file_len                the whole file, with at most 1,073,741,824 bytes before the line `close`
  * place                         three numbers: where the next scan's first line is in the file, how many scans
  *                               were passed, and where the next scan's bytes stand in the run. Take-up sets
  *                               them, reading and skipping move them on, and a copy of them is a place to come
- *                               back to. Only a place that these calls have handed back for the same file is
- *                               good. Of any other one nothing is promised but that the calls end, and read and
- *                               write nothing outside what they were lent */
+ *                               back to. Only a place that these calls have handed back for the same file,
+ *                               key, cipher and rounds is good. Of any other one nothing is promised but that
+ *                               the calls end, and read and write nothing outside what they were lent */
 uint32_t fox_file_size(uint32_t cipher, uint32_t rounds, const uint64_t *lengths, size_t scans, uint64_t *count)
     FOX_NONNULL FOX_ANSWERS FOX_READS(3, 4) FOX_WRITES_ONE(5);
 uint32_t fox_file_write(uint32_t cipher, uint32_t rounds, const uint8_t *key, size_t key_len,

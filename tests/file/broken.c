@@ -293,7 +293,7 @@ static void read_on(const struct sample *s)
 {
     uint64_t place[FOX_PLACE_WORDS];
     struct file_call c = call_with(&text, s, place);
-    for (uint64_t len; (len = second_outcome(FILE_NEXT, &c).answer) != FOX_END;) {
+    for (uint64_t len; (len = second_outcome(FILE_NEXT, &c).answer) != FOX_NO_SCAN;) {
         c.out_len = (size_t)len;
         struct outcome o = try_call(FILE_READ, &c);
         memcpy(place, o.place, sizeof o.place);

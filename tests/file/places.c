@@ -18,7 +18,7 @@ static struct text text;
 /* Nothing but the end comes, however often and with whatever buffer. */
 static void only_end(struct file_call *c)
 {
-    const struct outcome next = {FOX_END, 0, {c->place[0], c->place[1], c->place[2]}};
+    const struct outcome next = {FOX_NO_SCAN, 0, {c->place[0], c->place[1], c->place[2]}};
     struct outcome other = next;
     other.answer = FOX_SERVED;
     for (size_t i = 0; i < 9; i++) {
@@ -169,7 +169,7 @@ void made_up_places(void)
         place[0] = odd_number(at), place[1] = odd_number(number - 1);
         place[2] = below(2) == 0 ? FOX_RUN_END - below(80) : odd_number(below(1000));
         right = try_call(FILE_NEXT, &c).answer;
-        c.out_len = right == FOX_END || below(4) == 0 ? below(50) : (size_t)right;
+        c.out_len = right == FOX_NO_SCAN || below(4) == 0 ? below(50) : (size_t)right;
         c.cipher = below(8) == 0 ? FOX64 + FOX128 - c.cipher : c.cipher;
         try_call(FILE_READ, &c);
         try_call(FILE_SKIP, &c);

@@ -68,7 +68,7 @@ static void at_end(struct file_call *c)
     static const size_t out_lens[PAST_END] = {0, 1, 50};
     for (size_t i = 0; i < PAST_END; i++) {
         c->out_len = out_lens[i];
-        held_at(FILE_NEXT, c, FOX_END, 0, c->place, NULL);
+        held_at(FILE_NEXT, c, FOX_NO_SCAN, 0, c->place, NULL);
         held_at(FILE_READ, c, FOX_SERVED, 0, c->place, NULL);
         held_at(FILE_SKIP, c, 0, 0, c->place, NULL);
     }

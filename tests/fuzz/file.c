@@ -113,11 +113,11 @@ static uint64_t about(uint64_t right, uint8_t choice)
 static int hold_next(struct file_call *c, uint8_t choice)
 {
     uint64_t next = hold(FILE_NEXT, c).answer;
-    c->out_len = next == FOX_END ? choice % 32 : (size_t)about(next, choice);
+    c->out_len = next == FOX_NO_SCAN ? choice % 32 : (size_t)about(next, choice);
     hold(FILE_READ, c);
     struct outcome after = hold(FILE_SKIP, c);
     memcpy(c->place, after.place, sizeof after.place);
-    return next != FOX_END;
+    return next != FOX_NO_SCAN;
 }
 
 /* The tag of what stands before the last line `close`, where there is one; now and then with one of its last digits

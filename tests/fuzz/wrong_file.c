@@ -108,7 +108,7 @@ uint32_t __wrap_fox_file_read(uint32_t cipher, uint32_t rounds, const uint8_t *k
     uint32_t answer = __real_fox_file_read(cipher, rounds, key, key_len, file, file_len, place, out, taken, count);
     if (FAULT == REFUSED_READ_MOVES && answer == FOX_REFUSED_OUTPUT)
         fox_file_skip(file, file_len, place);
-    if (FAULT == END_COUNTS && next == FOX_END)
+    if (FAULT == END_COUNTS && next == FOX_NO_SCAN)
         *count = before;
     return answer;
 }

@@ -23,8 +23,8 @@ joined() { # COMPILER COMPILE-WORDS FOLDER LINK-WORDS..: two files that include 
     same_text "$(printf '200E1F5847D8A2CE opened\n%s' "$(run_host "$room/texts" 2)")" "$(run_host "$room/joined")"
 }
 
-declared() { # EXPRESSION: the calls of the header that it matches
-    grep -o 'fox_[a-z_]*(' include/fox.h | tr -d '(' | grep -E "$1" | sort
+declared() { # EXPRESSION: the calls of the header, outside its comments, that it matches
+    grep -v '^ \*' include/fox.h | grep -o 'fox_[a-z_]*(' | tr -d '(' | grep -E "$1" | sort
 }
 
 # It defines those calls and nothing else, so that it cannot clash with a program's own names.

@@ -69,7 +69,7 @@ static int filed(const struct caller *c, uint8_t *file)
         if (fox_file_read(c->cipher, c->rounds, c->key, c->key_len, file, (size_t)size, place, at, (size_t)lengths[i],
                           &count) != FOX_SERVED)
             return 0;
-    return memcmp(out, c->data, LENGTH) == 0 && fox_file_next_length(file, (size_t)size, place) == FOX_END;
+    return memcmp(out, c->data, LENGTH) == 0 && fox_file_next_length(file, (size_t)size, place) == FOX_NO_SCAN;
 }
 
 static int again(const struct caller *c, const struct engine *engine)
