@@ -28,8 +28,8 @@ static void set_lengths(size_t scans, uint64_t each, uint64_t last)
         lengths[i] = i + 1 < scans ? each : last;
 }
 
-/* Text by text, with as many scans as are asked for, and with bytes that are not sealed by anybody. The tag is right where
- * it is to be looked at, since it takes a while. */
+/* Text by text, with as many scans as are asked for, and with bytes that are not sealed by anybody. The tag, which takes
+ * a while, is right where it is to be looked at. */
 static void spell(const struct sample *s, size_t scans, uint64_t bytes, size_t said, int tagged)
 {
     static const uint8_t zeros[FOX_MOST_SCAN + 1];
