@@ -71,17 +71,17 @@ pub record ReadsWith (cipher rounds keyLen : ℕ) (rks file : List ℕ) (place :
   pub output : after ≡ readOutput cipher rounds keyLen rks file place before
 
 -- 01's number, the count, and the place that follows, of how a reading ended at a place
-unfoldable pub numberOf : Read → ℕ
+abbrev pub numberOf : Read → ℕ
 numberOf (read.Opened n p) = 0
 numberOf (read.Refused n) = n
 numberOf read.End = 0
 
-unfoldable pub countOf : Read → ℕ
+abbrev pub countOf : Read → ℕ
 countOf (read.Opened n p) = n
 countOf (read.Refused n) = 0
 countOf read.End = 0
 
-unfoldable pub placeOf : Place → Read → Place
+abbrev pub placeOf : Place → Read → Place
 placeOf place (read.Opened n p) = p
 placeOf place (read.Refused n) = place
 placeOf place read.End = place

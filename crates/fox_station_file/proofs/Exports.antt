@@ -31,19 +31,16 @@ module _ (c r : ℕ) (key file : List ℕ) {words words-after before after : Lis
   handed-by x e = (call .refusal ∙ ap numberOf e, call .count ∙ ap countOf e, call .place ∙ ap (placeOf (placeIn words)) e)
 
   gave : {value : List ℕ} (next : Place) → (answer ≡ Opened (length value) next) × (after ≡ value) → Gave value next words-after after n m
-  unfolding numberOf countOf placeOf
   gave {value} next (e, output) =
       let (number, count, place) = handed-by (Opened (length value) next) e in
       record { refusal = number; count = count; place = place; output = output }
 
   kept-refused : (number : ℕ) → (answer ≡ Refused number) × (after ≡ before) → Kept number words words-after before after n m
-  unfolding numberOf countOf placeOf
   kept-refused k (e, output) =
       let (number, count, place) = handed-by (Refused k) e in
       record { refusal = number; count = count; place = place; output = output }
 
   kept-end : (answer ≡ End) × (after ≡ before) → Kept 0 words words-after before after n m
-  unfolding numberOf countOf placeOf
   kept-end (e, output) =
       let (number, count, place) = handed-by End e in
       record { refusal = number; count = count; place = place; output = output }
@@ -65,7 +62,6 @@ module _ (c r : ℕ) (key file start : List ℕ) {m : ℕ} (taken : TakeUpHanded
     skipped words-after call = call ∙ ap (passedOver file) there ∙ passed c r (length key) keys file taken served k
 
     pub next-told : {n : ℕ} → k < length scans → NextHanded file words n → n ≡ length (getD scans k [])
-    unfolding lengthOf
     next-told h call = call ∙ ap lengthOf (ap (nextAt file) there ∙ told c r (length key) keys file taken served k h)
 
     module _ {words-after before after : List ℕ} {n q : ℕ} (h : k < length scans) (call : ReadHanded c r key file words words-after before after n q) where
@@ -88,7 +84,6 @@ module _ (c r : ℕ) (key file start : List ℕ) {m : ℕ} (taken : TakeUpHanded
     at-end = there ∙ ended-again c r (length key) keys file taken served j
 
     pub end-told : {n : ℕ} → NextHanded file words n → n ≡ 2 ^ 64 - 1
-    unfolding lengthOf
     end-told call = call ∙ ap lengthOf (ap (nextAt file) at-end ∙ ended c r (length key) keys file taken served)
 
     pub nothing-read : {words-after before after : List ℕ} {n q : ℕ} → ReadHanded c r key file words words-after before after n q
@@ -100,7 +95,6 @@ module _ (c r : ℕ) (key file start : List ℕ) {m : ℕ} (taken : TakeUpHanded
 
 module _ (c r : ℕ) (key file start : List ℕ) {m : ℕ} (taken : TakeUpHanded c r key file start m) (refused : m ≡ 0 → ⊥) (long : length file < 2 ^ 64) where
   pub refused-told : {n : ℕ} → NextHanded file start n → n ≡ 2 ^ 64 - 1
-  unfolding lengthOf
   refused-told call = call ∙ ap lengthOf (refused-ended c r (length key) (roundKeys c r key) file taken refused long)
 
   pub refused-skipped : (words-after : List ℕ) → SkipHanded file start words-after → placeIn words-after ≡ placeIn start
@@ -124,7 +118,6 @@ module _ (c r : ℕ) (key counter input sizes : List ℕ) {before after : List �
 
     module _ (i : ℕ) (words : List ℕ) (there : placeIn words ≡ afterSteps F i (placeIn start)) where
       pub written-told : {n : ℕ} → i < length sizes → NextHanded F words n → n ≡ getD sizes i 0
-      unfolding lengthOf
       written-told h call =
           call
           ∙ ap lengthOf (ap (nextAt F) there ∙ told-back c r (length key) (roundKeys c r key) counter input sizes bytes write served take-up i h)
@@ -142,6 +135,5 @@ module _ (c r : ℕ) (key counter input sizes : List ℕ) {before after : List �
           gave c r key F call (afterSteps F (suc i) (placeIn start)) (opens ∙ ap (λ (l : ℕ). Opened l (afterSteps F (suc i) (placeIn start))) (sym e), output)
 
     pub written-ended : {n : ℕ} (words : List ℕ) → placeIn words ≡ afterSteps F (length sizes) (placeIn start) → NextHanded F words n → n ≡ 2 ^ 64 - 1
-    unfolding lengthOf
     written-ended words there call =
         call ∙ ap lengthOf (ap (nextAt F) there ∙ end-back c r (length key) (roundKeys c r key) counter input sizes bytes write served take-up)

@@ -31,7 +31,7 @@ TakeUpHanded cipher rounds key file words r =
     TakesUpWith cipher rounds (length key) (roundKeys cipher rounds key) file (record { refusal = r; place = placeIn words })
 
 -- the length of the scan that comes next, or at the end the largest number of 64 bits
-unfoldable pub lengthOf : Next → ℕ
+abbrev pub lengthOf : Next → ℕ
 lengthOf (Scan n) = n
 lengthOf End = 2 ^ 64 - 1
 
