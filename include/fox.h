@@ -1,6 +1,6 @@
 /* FOX64 and FOX128 for the station's C programs: one block sealed or opened, any stretch of a run in CTR
  * mode, the tag of a message made and tested, and run files written and read. Link with libfox.a or libfox.so.
- * libfox_card.a has all but the calls named fox_server_ and fox_file_, in about a ninth of the code. C99 and
+ * libfox_card.a has all but the calls named fox_server_ and fox_file_, in less than a tenth of the code. C99 and
  * C++.
  *
  * To seal safely:

@@ -25,7 +25,7 @@ stop() { # WHAT
 part() { # WHAT sheet|calls|file
     case $1-$2 in
         crates-sheet) echo fox_check_probe ;;
-        crates-calls) sed -n 's/^CALLS = //p' Makefile | sed -e 's|$(OUT)/||g' -e 's|\.o||g' ;;
+        crates-calls) sed -n 's/^CALLS = //p' Makefile | sed -e 's|$(OUT)/||g' -e 's|\.o||g' -e 's/fox_station_file//' ;;
         crates-file) echo "fox_station_file${FAULT:+ fox_station_server}" ;;
         sources-sheet) echo "$t/sheet.c $t/begin.c $t/exact.c $s/sheet.c $second $c/answers.c" ;;
         sources-calls)

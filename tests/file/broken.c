@@ -68,7 +68,7 @@ void cut_files(void)
 
 void changed_bytes(void)
 {
-    static const uint8_t others[] = {0, '\n', '\r', ' ', '0', '1', '9', 'A', 'F', 'a', 'g', '=', 0xFF};
+    static const uint8_t others[] = {0, '\n', '\r', '0', '9', 'F', 'a', '='};
     group_begin("every byte of a file changed to some others, with the old tag and with a new one");
     for (size_t i = 0; i < SMALL; i++)
         for (size_t at = 0; at < vectors[i].file_len; at++)

@@ -28,8 +28,9 @@ static void set_lengths(size_t scans, uint64_t each, uint64_t last)
         lengths[i] = i + 1 < scans ? each : last;
 }
 
-/* Text by text, with as many scans as are asked for, and with bytes that are not sealed by anybody. */
-static void spell(const struct sample *s, size_t scans, uint64_t bytes, size_t said)
+/* Text by text, with as many scans as are asked for, and with bytes that are not sealed by anybody. The tag, which takes
+ * a while, is right where it is to be looked at. */
+static void spell(const struct sample *s, size_t scans, uint64_t bytes, size_t said, int tagged)
 {
     static const uint8_t zeros[FOX_MOST_SCAN + 1];
     text_set(&text, s->file, header_len(s));
@@ -39,13 +40,16 @@ static void spell(const struct sample *s, size_t scans, uint64_t bytes, size_t s
         text_print(&text, "\n");
     }
     text_print(&text, "scans=%zu\n", said);
-    text_add_close(&text, s);
+    if (tagged)
+        text_add_close(&text, s);
+    else
+        text_print(&text, "close=%0*d\n", (int)(s->cipher / 4), 0);
 }
 
 static void spelled(const struct sample *s, size_t scans, uint64_t bytes, size_t said, uint32_t number)
 {
     uint64_t place[FOX_PLACE_WORDS];
-    spell(s, scans, bytes, said);
+    spell(s, scans, bytes, said, number == FOX_SERVED);
     struct file_call c = call_with(&text, s, place);
     struct outcome o = try_call(FILE_TAKE_UP, &c);
     if (case_wrong(o.answer == number))
