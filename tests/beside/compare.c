@@ -6,6 +6,7 @@
 #include "calls.h"
 #include "chance.h"
 #include "count.h"
+#include "every_answer.h"
 #include "faults.h"
 #include "fox.h"
 #include "groups.h"
@@ -217,11 +218,7 @@ static void every_answer(void)
         FOX_SERVED,       FOX_REFUSED_CIPHER, FOX_REFUSED_ROUNDS, FOX_REFUSED_KEY,        FOX_REFUSED_BLOCK,
         FOX_REFUSED_DATA, FOX_REFUSED_OUTPUT, FOX_REFUSED_END,    FOX_REFUSED_TAG_LENGTH, FOX_REFUSED_TAG,
     };
-    group_begin("every answer was tried");
-    for (size_t i = 0; i < COUNT(answers); i++)
-        if (case_wrong(times_answered(answers[i]) > 0))
-            printf("%" PRIu32 " was never the right one\n", answers[i]);
-    group_end();
+    each_answered(answers, COUNT(answers));
 }
 
 int main(int count, char **words)
