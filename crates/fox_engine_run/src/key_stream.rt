@@ -24,7 +24,7 @@ fn shorter(a: usize, b: usize) -> usize
 }
 
 // XORs up to the end of the shorter; returns the count of bytes written.
-fn xor_bytes(stream: &[u8], input: &[u8], out: &mut [u8]) -> usize
+pub fn xor_bytes(stream: &[u8], input: &[u8], out: &mut [u8]) -> usize
     requires { ⌜ length (now out) ≡ length (now input) ⌝ }
     ensures { λ r. ⌜ Xored (now (stream .entry)) (now (input .entry)) (now (out .entry)) (now (out .exit)) r ⌝ }
 {

@@ -68,7 +68,7 @@ fn words(cipher: u32, rounds: u8, key: &[u8]) -> [u64; 510]
 }
 
 // The prepared key of a refused call.
-fn zeros() -> Prepared
+pub fn no_key() -> Prepared
     ensures { λ r. ⌜ r ≡ noKey ⌝ }
 {
     Prepared {
@@ -85,7 +85,7 @@ pub fn prepare(cipher: u32, rounds: u32, key: &[u8]) -> Preparation
     let refusal = for_key(cipher, rounds, key.len());
     if refusal != 0 {
         let answer = Answer::refused(refusal);
-        let none = zeros();
+        let none = no_key();
         return Preparation { answer, key: none };
     }
     let keys = words(cipher, (rounds % 256) as u8, key);

@@ -17,7 +17,7 @@ returns c =
     let refused = c .before in
     let test = refused .before in
     let e = test .before .for-key .ensures in
-    refused-key _ _ _ _ (λ n. test .if1 .taken (e ∙ n)) (refused .refused .ensures .0 ∙ e) (refused .refused .ensures .1) (c .zeros .ensures)
+    refused-key _ _ _ _ (λ n. test .if1 .taken (e ∙ n)) (refused .refused .ensures .0 ∙ e) (refused .refused .ensures .1) (c .no-key .ensures)
 
 words-requires : tie.Need-words-requires
 words-requires c κs =

@@ -1,0 +1,2 @@
+-- The theorems on sessions.
+pub mod Lists

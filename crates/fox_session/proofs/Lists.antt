@@ -1,0 +1,31 @@
+-- Any list of calls on a session gives the answers, bytes and positions of the plain machine; and each advance is answered as a call on that stretch of the
+-- run is, so that every theorem on runs holds of it.
+-- Assumes nothing.
+use mathlib.Core.Path.{_≡_, refl, sym, ap, ap₂, _∙_}
+use Prim.Native.Nat.{ℕ}
+use mathlib.Core.List.{List, [], _∷_}
+use Rattle.fox_refusals.specs.declared.answer.Answer.{Answer}
+use Rattle.fox_run.specs.Promise.{RunsWith}
+use Rattle.fox_session.specs.Machine.{Machine, Call, Told, Advance, tells, after, tellsAll, afterAll}
+use Rattle.fox_session.specs.Promise.{Follows, Plays, none, next}
+
+module _ {S : Type 0} (machine : S → Machine) (True : S → Type 0) where
+  -- one call
+  told : {s s' : S} {call : Call} {output : List ℕ} {r : Answer} → True s → Follows machine True s call output r s'
+      → record { refusal = r .refusal; count = r .count; output = output } ≡ tells (machine s) call
+  told t f = λ i. record { refusal = f .refusal i; count = f .count i; output = f .bytes t i }
+
+  pub as-plain : {s s' : S} {calls : List Call} {tolds : List Told} → True s → Plays machine True s calls tolds s'
+      → (tolds ≡ tellsAll (machine s) calls) × (machine s' ≡ afterAll (machine s) calls) × True s'
+  unfolding tellsAll afterAll
+  as-plain t none = (refl, refl, t)
+  as-plain {s} t (next {call = call} {calls = calls} f rest) =
+      let later = as-plain (f .true t) rest in (
+        ap₂ (λ (x : Told) (xs : List Told). x ∷ xs) (told t f) (later .0 ∙ ap (λ (m : Machine). tellsAll m calls) (f .goes)),
+        later .1 ∙ ap (λ (m : Machine). afterAll m calls) (f .goes),
+        later .2,
+      )
+
+  pub advance-runs : {s s' : S} {input before output : List ℕ} {r : Answer} → True s → Follows machine True s (Advance input before) output r s'
+      → RunsWith (machine s .cipher) (machine s .rounds) (machine s .keyLen) (machine s .rks) (machine s .counter) (machine s .position) input before output r
+  advance-runs t f = record { refusal = f .refusal; count = f .count; output = f .bytes t }

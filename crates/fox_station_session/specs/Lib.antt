@@ -1,0 +1,2 @@
+-- What the station's exports on sessions promise.
+pub mod Sessions

@@ -1,0 +1,44 @@
+-- What the station's exports on sessions promise, for all inputs: the refusal number and the count that follows from it, every byte of the output, and the
+-- session that the words hold. They are the promises of a session, over words.
+-- Assumes nothing.
+use Prim.Native.Nat.{ℕ, _%_, _^_}
+use mathlib.Core.List.{List}
+use lib.ListN.{length, getD, take, replicate}
+use Rattle.fox_refusals.specs.declared.answer.Answer.{Answer}
+use Rattle.fox_key_schedule.specs.Schedule.{roundKeys}
+use Rattle.fox_session.specs.Machine.{Machine, Call}
+use Rattle.fox_session.specs.Promise.{Starts, Follows}
+use Rattle.fox_server_session.specs.declared.session.Session.{Session}
+use Rattle.fox_server_session.specs.Session.{machineOf, TrueOf}
+
+-- the session that 518 words hold
+unfoldable pub sessionIn : List ℕ → Session
+sessionIn words =
+    record {
+      key = record {
+        cipher = getD words 510 0 % 2 ^ 32;
+        rounds = getD words 511 0 % 2 ^ 32;
+        «key_len» = getD words 512 0;
+        keys = take 510 words;
+      };
+      counter = record { left = getD words 513 0; right = getD words 514 0 };
+      here = record { position = getD words 515 0; block = record { left = getD words 516 0; right = getD words 517 0 } };
+    }
+
+abbrev pub machineIn : List ℕ → Machine
+machineIn words = machineOf (sessionIn words)
+
+abbrev pub TrueIn : List ℕ → Type 0
+TrueIn words = TrueOf (sessionIn words)
+
+-- the words of a refused start
+abbrev pub noWords : List ℕ
+noWords = replicate 518 0
+
+-- a start, from cipher, rounds, key bytes and counter block, with the words afterwards
+abbrev pub StartHanded : ℕ → ℕ → List ℕ → List ℕ → Answer → List ℕ → Type 0
+StartHanded cipher rounds key counter = Starts machineIn TrueIn noWords cipher rounds (length key) (roundKeys cipher rounds key) counter
+
+-- a call, with the words before, the output and the words afterwards
+abbrev pub CallHanded : List ℕ → Call → List ℕ → Answer → List ℕ → Type 0
+CallHanded = Follows machineIn TrueIn
