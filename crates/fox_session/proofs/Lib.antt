@@ -1,2 +1,4 @@
 -- The theorems on sessions.
 pub mod Lists
+pub mod Stretches
+pub mod Computed

@@ -1,13 +1,13 @@
 -- Any list of calls on a session gives the answers, bytes and positions of the plain machine; and each advance is answered as a call on that stretch of the
 -- run is, so that every theorem on runs holds of it.
 -- Assumes nothing.
-use mathlib.Core.Path.{_≡_, refl, sym, ap, ap₂, _∙_}
+use mathlib.Core.Path.{_≡_, refl, ap, ap₂, _∙_}
 use Prim.Native.Nat.{ℕ}
 use mathlib.Core.List.{List, [], _∷_}
 use Rattle.fox_refusals.specs.declared.answer.Answer.{Answer}
 use Rattle.fox_run.specs.Promise.{RunsWith}
-use Rattle.fox_session.specs.Machine.{Machine, Call, Told, Advance, tells, after, tellsAll, afterAll}
-use Rattle.fox_session.specs.Promise.{Follows, Plays, none, next}
+use Rattle.fox_session.specs.Machine.{Machine, atStart, Call, Told, Advance, tells, tellsAll, afterAll}
+use Rattle.fox_session.specs.Promise.{Starts, Follows, Plays, none, next}
 
 module _ {S : Type 0} (machine : S → Machine) (True : S → Type 0) where
   -- one call
@@ -25,6 +25,14 @@ module _ {S : Type 0} (machine : S → Machine) (True : S → Type 0) where
         later .1 ∙ ap (λ (m : Machine). afterAll m calls) (f .goes),
         later .2,
       )
+
+  -- from a start on, the plain machine is that of cipher, rounds, key and counter
+  pub started-plain : {z s s' : S} {c rounds k : ℕ} {rks counter : List ℕ} {r : Answer} {calls : List Call} {tolds : List Told}
+      → Starts machine True z c rounds k rks counter r s → r .refusal ≡ 0 → Plays machine True s calls tolds s'
+      → (tolds ≡ tellsAll (atStart c rounds k rks counter) calls) × (machine s' ≡ afterAll (atStart c rounds k rks counter) calls) × True s'
+  started-plain {calls = calls} begun e played =
+      let later = as-plain (begun .true) played in
+      (later .0 ∙ ap (λ (m : Machine). tellsAll m calls) (begun .served e), later .1 ∙ ap (λ (m : Machine). afterAll m calls) (begun .served e), later .2)
 
   pub advance-runs : {s s' : S} {input before output : List ℕ} {r : Answer} → True s → Follows machine True s (Advance input before) output r s'
       → RunsWith (machine s .cipher) (machine s .rounds) (machine s .keyLen) (machine s .rks) (machine s .counter) (machine s .position) input before output r

@@ -17,6 +17,11 @@ pub record Machine : Type 0 where
   pub counter : List ℕ
   pub position : ℕ
 
+-- the machine of a session that was just started
+abbrev pub atStart : ℕ → ℕ → ℕ → List ℕ → List ℕ → Machine
+atStart cipher rounds keyLen rks counter =
+    record { cipher = cipher; rounds = rounds; keyLen = keyLen; rks = rks; counter = counter; position = 0 }
+
 -- a call: the next bytes sealed or opened, with the output as it is lent; a move to a position
 pub data Call : Type 0 where
   Advance : (input out : List ℕ) → Call

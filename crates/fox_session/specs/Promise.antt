@@ -3,11 +3,11 @@
 -- Assumes nothing.
 use mathlib.Core.Path.{_≡_}
 use Prim.Native.Nat.{ℕ}
-use mathlib.Core.List.{List, [], _∷_}
+use mathlib.Core.List.{List, [], _∷_, _++_}
 use lib.ListN.{length}
 use Rattle.fox_refusals.specs.Refusals.{refusalOf, forRun}
 use Rattle.fox_refusals.specs.declared.answer.Answer.{Answer}
-use Rattle.fox_session.specs.Machine.{Machine, Call, Told, lent, tells, after}
+use Rattle.fox_session.specs.Machine.{Machine, atStart, Call, Advance, Told, lent, tells, after}
 
 -- a start, from cipher, rounds, key length, a list of round keys and the counter block: refused as a stretch of no bytes at the run's start is; count 0; a
 -- session at position 0 with its block, or `none` where it is refused
@@ -15,8 +15,7 @@ pub record Starts {S : Type 0} (machine : S → Machine) (True : S → Type 0) (
     (s : S) : Type 0 where
   pub refusal : r .refusal ≡ refusalOf (forRun cipher rounds keyLen (length counter) 0 0 0)
   pub count : r .count ≡ 0
-  pub served : r .refusal ≡ 0
-      → machine s ≡ record { cipher = cipher; rounds = rounds; keyLen = keyLen; rks = rks; counter = counter; position = 0 }
+  pub served : r .refusal ≡ 0 → machine s ≡ atStart cipher rounds keyLen rks counter
   pub refused : (r .refusal ≡ 0 → ⊥) → s ≡ none
   pub true : True s
 
@@ -36,3 +35,10 @@ pub data Plays {S : Type 0} (machine : S → Machine) (True : S → Type 0) : S 
   next : {s s' s'' : S} {call : Call} {calls : List Call} {output : List ℕ} {r : Answer} {tolds : List Told}
       → Follows machine True s call output r s' → Plays machine True s' calls tolds s''
       → Plays machine True s (call ∷ calls) (record { refusal = r .refusal; count = r .count; output = output } ∷ tolds) s''
+
+-- advances that were served, one after the other: the inputs joined, and the outputs joined
+pub data Advances {S : Type 0} (machine : S → Machine) (True : S → Type 0) : S → List ℕ → List ℕ → S → Type 0 where
+  none : {s : S} → Advances machine True s [] [] s
+  next : {s s' s'' : S} (ds : List ℕ) {before after inputs outputs : List ℕ} {r : Answer}
+      → Follows machine True s (Advance ds before) after r s' → r .refusal ≡ 0 → Advances machine True s' inputs outputs s''
+      → Advances machine True s (ds ++ inputs) (after ++ outputs) s''

@@ -1,0 +1,52 @@
+-- What the plain machine tells, computed by its definition: each refusal, counts and positions, and both sides of each limit. The bytes are those of a run.
+-- Assumes nothing.
+use mathlib.Core.Path.{_≡_, refl}
+use Prim.Native.Nat.{ℕ}
+use mathlib.Core.List.{List, [], _∷_, _++_}
+use lib.ListN.{length, replicate}
+use Rattle.fox_refusals.specs.Refusals.{refusalOf, blockSize, wrongCipher, wrongRounds, longKey, wrongBlockLength, longData, wrongOutputLength, pastEnd}
+use Rattle.fox_refusals.specs.Refusals.{forKey, forStretch, forRun}
+use Rattle.fox_session.specs.Machine.{Machine, Call, Advance, Move, tells, after}
+
+-- a machine of FOX64 at a position
+abbrev at : ℕ → Machine
+at position = record { cipher = 64; rounds = 16; keyLen = 16; rks = []; counter = replicate 8 0; position = position }
+
+-- refusal, count and the next position of a call
+abbrev says : Machine → Call → List ℕ
+says m call = tells m call .refusal ∷ tells m call .count ∷ after m call .position ∷ []
+
+-- an advance of n bytes
+abbrev bytes : ℕ → Call
+bytes n = Advance (replicate n 0) (replicate n 0)
+
+pub known :
+    -- advances: the position moves on by the count; the run's end is reached, and served with no bytes
+    says (at 0) (bytes 0) ++ says (at 0) (bytes 3) ++ says (at 7) (bytes 2) ++ says (at 1073741820) (bytes 4) ++ says (at 1073741824) (bytes 0)
+    -- refused advances: past the end, and an output of another length, which is told first; the position stays
+    ++ says (at 1073741821) (bytes 4) ++ says (at 1073741824) (bytes 1) ++ says (at 1073741825) (bytes 0)
+    ++ says (at 1073741824) (Advance (0 ∷ []) []) ++ says (at 5) (Advance [] (0 ∷ []))
+    -- moves: count 0; either way; to the end, and past it, where the position stays
+    ++ says (at 9) (Move 2) ++ says (at 2) (Move 9) ++ says (at 9) (Move 1073741824) ++ says (at 9) (Move 1073741825)
+    ++ says (at 9) (Move 18446744073709551615) ++ says (at 1073741824) (Move 0)
+    -- the machine of a refused start
+    ++ says (record { cipher = 0; rounds = 0; keyLen = 0; rks = []; counter = []; position = 0 }) (Move 0)
+    ≡ (0 ∷ 0 ∷ 0 ∷ []) ++ (0 ∷ 3 ∷ 3 ∷ []) ++ (0 ∷ 2 ∷ 9 ∷ []) ++ (0 ∷ 4 ∷ 1073741824 ∷ []) ++ (0 ∷ 0 ∷ 1073741824 ∷ [])
+    ++ (7 ∷ 0 ∷ 1073741821 ∷ []) ++ (7 ∷ 0 ∷ 1073741824 ∷ []) ++ (7 ∷ 0 ∷ 1073741825 ∷ [])
+    ++ (6 ∷ 0 ∷ 1073741824 ∷ []) ++ (6 ∷ 0 ∷ 5 ∷ [])
+    ++ (0 ∷ 0 ∷ 2 ∷ []) ++ (0 ∷ 0 ∷ 9 ∷ []) ++ (0 ∷ 0 ∷ 1073741824 ∷ []) ++ (7 ∷ 0 ∷ 9 ∷ [])
+    ++ (7 ∷ 0 ∷ 9 ∷ []) ++ (0 ∷ 0 ∷ 0 ∷ [])
+    ++ (1 ∷ 0 ∷ 0 ∷ [])
+unfolding refusalOf blockSize wrongCipher wrongRounds longKey wrongBlockLength longData wrongOutputLength pastEnd forKey forStretch forRun
+known = refl
+
+-- the other refusals, in their order
+pub known-first :
+    tells (record { cipher = 65; rounds = 11; keyLen = 33; rks = []; counter = []; position = 0 }) (bytes 1) .refusal
+    ∷ tells (record { cipher = 64; rounds = 11; keyLen = 33; rks = []; counter = []; position = 0 }) (bytes 1) .refusal
+    ∷ tells (record { cipher = 64; rounds = 12; keyLen = 33; rks = []; counter = []; position = 0 }) (bytes 1) .refusal
+    ∷ tells (record { cipher = 64; rounds = 12; keyLen = 32; rks = []; counter = []; position = 1073741825 }) (bytes 1) .refusal
+    ∷ tells (record { cipher = 128; rounds = 12; keyLen = 32; rks = []; counter = replicate 16 0; position = 1073741825 }) (bytes 1) .refusal ∷ []
+    ≡ 1 ∷ 2 ∷ 3 ∷ 4 ∷ 7 ∷ []
+unfolding refusalOf blockSize wrongCipher wrongRounds longKey wrongBlockLength longData wrongOutputLength pastEnd forKey forStretch forRun
+known-first = refl
