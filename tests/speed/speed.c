@@ -8,6 +8,7 @@
 #include "fox.h"
 #include "pairs.h"
 #include "plain.h"
+#include "sessions.h"
 
 #include <stdio.h>
 #include <string.h>
@@ -274,5 +275,5 @@ int main(void)
         show_runs(settings[i].asked);
         show_tags();
     }
-    return show_files() ? 0 : 1;
+    return show_files() && show_sessions() ? 0 : 1;
 }

@@ -1,0 +1,123 @@
+// Plays the calls on sessions that its input lists, and prints what each told. A session begins with four lines, `cipher`, `rounds`, `key` and `counter`; a line
+// `advance` has the next bytes, and a line `move` a position. What is printed for the file `stdin` is compared with the file `stdout`, which was written by the
+// plain machine of the second implementation.
+ghost use Prim.Native.Nat.{_-_, _≤_};
+ghost use lib.ListN.{length};
+use fox_server_key::prepared::prepare;
+use fox_server_session::session::Session;
+use fox_server_session::session::advanced;
+use fox_server_session::session::moved;
+use fox_server_session::session::start;
+use fox_server_session::step::Step;
+use fox_text_lines::lines::after_line;
+use fox_text_lines::lines::rest;
+use fox_text_lines::lines::starts_with;
+use fox_text_read::fields::decimal_line;
+use fox_text_read::fields::pairs_line;
+
+mod lines;
+
+fn main() {
+    let mut text = io::large_buffer();
+    let n = io::read_full(0, &mut text);
+    let none = [0; 0];
+    let refused = prepare(0, 0, &none);
+    let s = start(refused.key, &none);
+    play(s.session, &text[..n]);
+}
+
+// Plays from the text's first line to its last.
+fn play(s: Session, text: &[u8]) {
+    let mut now = s;
+    let mut left = text.len();
+    while left > 0 {
+        let t = rest(text, text.len() - left);
+        now = play_line(now, t);
+        left = left_after(t);
+    }
+}
+
+// How many bytes follow the text's first call.
+fn left_after(t: &[u8]) -> usize
+    ensures { λ r. ⌜ r ≤ length (now (t .entry)) - 1 ⌝ }
+{
+    let second = after_line(t);
+    if starts_with(b"cipher=", t) {
+        return after_line(after_line(after_line(second))).len();
+    }
+    second.len()
+}
+
+// The session after the text's first call.
+fn play_line(s: Session, t: &[u8]) -> Session {
+    if starts_with(b"cipher=", t) {
+        return play_start(t);
+    }
+    if starts_with(b"move=", t) {
+        return play_move(s, t);
+    }
+    play_advance(s, t)
+}
+
+fn play_start(t: &[u8]) -> Session {
+    let second = after_line(t);
+    let third = after_line(second);
+    let fourth = after_line(third);
+    let mut key = [0; 64];
+    let mut counter = [0; 64];
+    let c = decimal_line(t, b"cipher=", 65535);
+    let r = decimal_line(second, b"rounds=", 65535);
+    let k = pairs_line(third, b"key=", 64, &mut key);
+    let b = pairs_line(fourth, b"counter=", 64, &mut counter);
+    if !(c.right & r.right & k.right & b.right) {
+        lines::print_malformed();
+    }
+    let size = k.count;
+    let width = b.count;
+    let made = prepare(c.value, r.value, &key[..size]);
+    let p = made.key;
+    let started = start(p, &counter[..width]);
+    let answer = started.answer;
+    let session = started.session;
+    let here = session.here;
+    lines::print_start(c.value, r.value, size);
+    lines::print_told(answer.refusal, answer.count, here.position);
+    io::write_all(1, b"\n");
+    session
+}
+
+fn play_move(s: Session, t: &[u8]) -> Session {
+    let to = decimal_line(t, b"move=", 4294967295);
+    if !to.right {
+        lines::print_malformed();
+        return s;
+    }
+    io::write_all(1, b"  move");
+    let step = moved(s, to.value as u64);
+    lines::print_step(step);
+    io::write_all(1, b"\n");
+    after(s, step)
+}
+
+fn play_advance(s: Session, t: &[u8]) -> Session {
+    let mut input = [0; 128];
+    let a = pairs_line(t, b"advance=", 128, &mut input);
+    if !a.right {
+        lines::print_malformed();
+        return s;
+    }
+    io::write_all(1, b"  advance");
+    let mut out = [0; 128];
+    let n = a.count;
+    let step = advanced(s, &input[..n], &mut out[..n]);
+    lines::print_step(step);
+    lines::print_bytes(&out[..n]);
+    after(s, step)
+}
+
+fn after(s: Session, step: Step) -> Session {
+    let key = s.key;
+    let counter = s.counter;
+    let here = step.here;
+    Session { key, counter, here }
+}
