@@ -5,9 +5,11 @@ ghost use Prim.Native.Nat.{_-_, _≤_};
 ghost use lib.ListN.{length};
 use fox_server_key::prepared::prepare;
 use fox_server_session::session::Session;
+use fox_server_session::session::Started;
 use fox_server_session::session::advanced;
 use fox_server_session::session::moved;
 use fox_server_session::session::start;
+use fox_server_session::session::start_from_key;
 use fox_server_session::step::Step;
 use fox_text_lines::lines::after_line;
 use fox_text_lines::lines::rest;
@@ -20,10 +22,8 @@ mod lines;
 fn main() {
     let mut text = io::large_buffer();
     let n = io::read_full(0, &mut text);
-    let none = [0; 0];
-    let refused = prepare(0, 0, &none);
-    let s = start(refused.key, &none);
-    play(s.session, &text[..n]);
+    let none = start_from_key(0, 0, b"", b"");
+    play(none.session, &text[..n]);
 }
 
 // Plays from the text's first line to its last.
@@ -59,6 +59,16 @@ fn play_line(s: Session, t: &[u8]) -> Session {
     play_advance(s, t)
 }
 
+// From a prepared key, or where that is refused, from key bytes.
+fn begin(cipher: u32, rounds: u32, key: &[u8], counter: &[u8]) -> Started {
+    let made = prepare(cipher, rounds, key);
+    let answer = made.answer;
+    if answer.refusal != 0 {
+        return start_from_key(cipher, rounds, key, counter);
+    }
+    start(made.key, counter)
+}
+
 fn play_start(t: &[u8]) -> Session {
     let second = after_line(t);
     let third = after_line(second);
@@ -74,9 +84,7 @@ fn play_start(t: &[u8]) -> Session {
     }
     let size = k.count;
     let width = b.count;
-    let made = prepare(c.value, r.value, &key[..size]);
-    let p = made.key;
-    let started = start(p, &counter[..width]);
+    let started = begin(c.value, r.value, &key[..size], &counter[..width]);
     let answer = started.answer;
     let session = started.session;
     let here = session.here;
