@@ -1,20 +1,19 @@
--- `fox_session_in_place::advance` meets its contract: a walk of its MIR. The borrow of the session is opened and the session is read whole, `advanced` is called
--- on it, the input and the output, which is passed on for good, and the place that it returned is stored in the session; the borrow is shut at the session
--- there, and what `advanced` ensures is what is ensured.
+-- `fox_session_in_place::advance` meets its contract: a walk of its MIR. The borrow of the session is opened and the session is read whole, `advanced` is
+-- called on it, the input and the output, which is passed on for good, and the place that it returned is stored in the session; the borrow is shut at the
+-- session there, and what `advanced` ensures is what is ensured.
 -- Assumes nothing.
 use mathlib.Core.Path.{refl}
 use Prim.Native.Nat.{ℕ}
 use mathlib.Core.List.{List, [], _∷_}
 use mir.Syntax.{named}
 use base.Logic.{id⊢}
-use base.Fml.{Lft, Share, Fml, flft, fres}
-use types.Kit.{‵, _⊛_, _$_, _∵_, !, move, use1, use2, split, join, fsplit, fjoin}
+use base.Fml.{Lft, Share, flft}
+use types.Kit.{‵, _⊛_, _$_, _∵_, !, move, use1, split, join, fsplit, fjoin}
 use types.Part.{agg, whole, sub, look-in, store-in}
 use types.Run.{look, init, stop, hop, fld, from, load, addr, of-opd, and-then, no-more, assigns, land, returns, alloc1, alloc0, params1, pass1, pass0, free0}
 use borrow.Fn.World.{World}
 use denote.Ref.{RefT, now, ptr-vals}
 use denote.Slice.{slice-vals}
-use Rattle.fox_session.specs.declared.Here.{Here}
 use Rattle.fox_server_session.specs.declared.session.Session.{Session}
 use Rattle.fox_server_session.specs.Session.{sessionAt}
 use Rattle.fox_server_session.proofs.session.Session as S
@@ -24,8 +23,8 @@ use Rattle.fox_server_session.proofs.session.advanced.Symbol as advanced-def
 use Rattle.fox_server_session.proofs.session.advanced.Met as advanced-thm
 use Rattle.fox_walks.proofs.Spelling.{W, Typed, shared, lent, behind}
 use Rattle.fox_walks.proofs.Walk.{Said, Callee, Promised, tokens, ensures, Goes, walks, closes, asks, so-first, ends, local, part, freed}
-use Rattle.fox_walks.proofs.Behind.{opened, shut}
-use Rattle.fox_session_in_place.proofs.Parts.{session, step, Own, Stands, Answers, apart, twice, elsewhere}
+use Rattle.fox_walks.proofs.Behind.{opened}
+use Rattle.fox_session_in_place.proofs.Parts.{session, step, Own, twice, Last, settles}
 use Rattle.fox_session_in_place.proofs.advance as advance
 use Rattle.fox_session_in_place.proofs.advance.Key as key
 use Rattle.fox_session_in_place.proofs.advance.Statement as stated
@@ -51,10 +50,6 @@ module _ (w : World) (κ κ′ κ″ : Lft) (q q′ q″ : Share) (x : RefT Sess
   abbrev to : Promised w (G .says) .Ghost
   to = (((κ′, (κ″, tt)), (q′, (q″, tt)), tt, (now x, (i, (o, tt))), (session .val (now x) ∷ [], (slice-vals i, (slice-vals o, tt)))), tt)
 
-  -- that the session stands at h at last
-  abbrev Last : Here → Fml
-  Last h = fres (x .name) (S.the-row .coded .code (sessionAt (now x) h))
-
   walk : Typed (shared (named 1) κ′) i → Typed (lent (named 2) κ″) o → Goes w F at code.env code.function
   walk it ot =
       walks w F at code.env code.function ∵ alloc1 ! (λ l₀. alloc1 ! (λ l₁. alloc1 ! (λ l₂. alloc1 ! (λ l₃. alloc1 ! (λ l₄. alloc1 ! (λ l₅. alloc1 ! (λ l₆.
@@ -71,17 +66,16 @@ module _ (w : World) (κ κ′ κ″ : Lft) (q q′ q″ : Share) (x : RefT Sess
       (and-then ! (local ! 8 refl) (and-then ! (local ! 14 refl) (and-then ! (local ! 4 refl) (no-more !)))) (λ r rt.
       -- [the step; the other tokens; what is ensured; what the session owns; its cell; the open borrow; _7; …; _6; …; _5; …; room for _4; …; the rest as above]
       land ! (from ! (stop !)) (init ! 12 refl (rt .0)) $
-      assigns ! (of-opd ! (part ! 12 refl refl refl)) (from ! (hop ! (look ! 18 refl) (fld ! refl (stop !)))) (store-in ! 4 (sub ! 2 refl (whole !)) (tt, rt .0 .1 .1 .0)) $
+      assigns ! (of-opd ! (part ! 12 refl refl refl)) (from ! (hop ! (look ! 18 refl) (fld ! refl (stop !))))
+      (store-in ! 4 (sub ! 2 refl (whole !)) (tt, rt .0 .1 .1 .0)) $
       assigns ! (of-opd ! (part ! 12 refl refl refl)) (from ! (stop !)) (init ! 20 refl (tt, rt .0 .1 .0)) $
-      use1 (W w) (‵ (Answers (r .answer)) ⊛ ‵ (Stands (r .here))) (apart r w) $ split ! $ move ! (4 ∷ 1 ∷ []) $
-      use2 (W w) (‵ (Own (sessionAt (now x) (r .here)))) (elsewhere (now x) (r .here) w) $ move ! (4 ∷ 0 ∷ 5 ∷ []) $
-      shut S.the-type S′.the-laws κ q x w ! tt (sessionAt (now x) (r .here)) $
+      settles κ q x r w ! tt $
       -- [the session's last value; its token; the answer; the other tokens; what is ensured; the locals, as above]
       returns ! (look ! 19 refl) $ move ! (19 ∷ 20 ∷ 17 ∷ 18 ∷ 15 ∷ 16 ∷ 13 ∷ 14 ∷ 11 ∷ 12 ∷ 9 ∷ 10 ∷ 7 ∷ 8 ∷ 5 ∷ 6 ∷ []) $
       freed ! $ freed ! $ freed ! $ freed ! $ freed ! $ freed ! $ freed ! $ freed ! $ free0 ! $
       move ! (1 ∷ 3 ∷ []) $ join ! $ use1 (W w) (tokens w F at) (id⊢ (w .𝓤) _) $ move ! (1 ∷ 3 ∷ []) $ join ! $ move ! (0 ∷ 2 ∷ []) $
-      ends w F at (r .answer) _ (‵ (Last (r .here)) ⊛ ensures w (G .says) to r)
-      (so-first w F (G .says) at to (r .answer) r (Last (r .here)) (λ ws. (sessionAt (now x) (r .here), ws .1)) (λ _. refl) (λ _. refl)
+      ends w F at (r .answer) _ (‵ (Last x (r .here)) ⊛ ensures w (G .says) to r)
+      (so-first w F (G .says) at to (r .answer) r (Last x (r .here)) (λ ws. (sessionAt (now x) (r .here), ws .1)) (λ _. refl) (λ _. refl)
       (λ _. id⊢ (w .𝓤) _))))))))))))
 
 pub advance-spec : {M : Type 1} → stated.statement M

@@ -6,13 +6,12 @@ use Prim.Native.Nat.{ℕ}
 use mathlib.Core.List.{[], _∷_}
 use mir.Syntax.{named}
 use base.Logic.{id⊢}
-use base.Fml.{Lft, Share, Fml, flft, fres}
-use types.Kit.{‵, _⊛_, _$_, _∵_, !, move, use1, use2, split, join, fsplit, fjoin}
+use base.Fml.{Lft, Share, flft}
+use types.Kit.{‵, _⊛_, _$_, _∵_, !, move, use1, split, join, fsplit, fjoin}
 use types.Part.{whole, sub, store-in}
 use types.Run.{look, init, stop, hop, fld, from, load, of-opd, and-then, no-more, assigns, land, returns, alloc1, alloc0, params1, pass1, pass0, free0}
 use borrow.Fn.World.{World}
 use denote.Ref.{RefT, now, ptr-vals}
-use Rattle.fox_session.specs.declared.Here.{Here}
 use Rattle.fox_server_session.specs.declared.session.Session.{Session}
 use Rattle.fox_server_session.specs.Session.{sessionAt}
 use Rattle.fox_server_session.proofs.session.Session as S
@@ -22,8 +21,8 @@ use Rattle.fox_server_session.proofs.session.moved.Symbol as moved-def
 use Rattle.fox_server_session.proofs.session.moved.Met as moved-thm
 use Rattle.fox_walks.proofs.Spelling.{W, Typed, number, behind}
 use Rattle.fox_walks.proofs.Walk.{Said, Callee, Promised, tokens, ensures, Goes, walks, closes, asks, so-first, ends, local, part, freed}
-use Rattle.fox_walks.proofs.Behind.{opened, shut}
-use Rattle.fox_session_in_place.proofs.Parts.{session, step, Own, Stands, Answers, apart, twice, elsewhere}
+use Rattle.fox_walks.proofs.Behind.{opened}
+use Rattle.fox_session_in_place.proofs.Parts.{session, step, Own, twice, Last, settles}
 use Rattle.fox_session_in_place.proofs.move_to as move-to
 use Rattle.fox_session_in_place.proofs.move_to.Key as key
 use Rattle.fox_session_in_place.proofs.move_to.Statement as stated
@@ -49,10 +48,6 @@ module _ (w : World) (κ : Lft) (q : Share) (x : RefT Session) (n : ℕ) where
   abbrev to : Promised w (G .says) .Ghost
   to = ((tt, tt, tt, (now x, (n, tt)), (session .val (now x) ∷ [], (number .val n ∷ [], tt))), tt)
 
-  -- that the session stands at h at last
-  abbrev Last : Here → Fml
-  Last h = fres (x .name) (S.the-row .coded .code (sessionAt (now x) h))
-
   walk : Typed number n → Goes w F at code.env code.function
   walk nt =
       walks w F at code.env code.function ∵ alloc1 ! (λ l₀. alloc1 ! (λ l₁. alloc1 ! (λ l₂. alloc1 ! (λ l₃. alloc1 ! (λ l₄. alloc0 ! $
@@ -66,16 +61,15 @@ module _ (w : World) (κ : Lft) (q : Share) (x : RefT Session) (n : ℕ) where
       asks w G to code.env code.calls-fox-server-session·session·moved ! (and-then ! (local ! 4 refl) (and-then ! (local ! 8 refl) (no-more !))) (λ r rt.
       -- [the step; no tokens; what is ensured; what the session owns; its cell; the open borrow; _4; …; room for _3; …; _2; …; _1; …; room for _0; …]
       land ! (from ! (stop !)) (init ! 8 refl (rt .0)) $
-      assigns ! (of-opd ! (part ! 8 refl refl refl)) (from ! (hop ! (look ! 12 refl) (fld ! refl (stop !)))) (store-in ! 4 (sub ! 2 refl (whole !)) (tt, rt .0 .1 .1 .0)) $
+      assigns ! (of-opd ! (part ! 8 refl refl refl)) (from ! (hop ! (look ! 12 refl) (fld ! refl (stop !))))
+      (store-in ! 4 (sub ! 2 refl (whole !)) (tt, rt .0 .1 .1 .0)) $
       assigns ! (of-opd ! (part ! 8 refl refl refl)) (from ! (stop !)) (init ! 14 refl (tt, rt .0 .1 .0)) $
-      use1 (W w) (‵ (Answers (r .answer)) ⊛ ‵ (Stands (r .here))) (apart r w) $ split ! $ move ! (4 ∷ 1 ∷ []) $
-      use2 (W w) (‵ (Own (sessionAt (now x) (r .here)))) (elsewhere (now x) (r .here) w) $ move ! (4 ∷ 0 ∷ 5 ∷ []) $
-      shut S.the-type S′.the-laws κ q x w ! tt (sessionAt (now x) (r .here)) $
+      settles κ q x r w ! tt $
       -- [the session's last value; the token; the answer; no tokens; what is ensured; _4; …; _3; …; _2; …; _1; …; _0; …]
       returns ! (look ! 13 refl) $ move ! (13 ∷ 14 ∷ 11 ∷ 12 ∷ 9 ∷ 10 ∷ 7 ∷ 8 ∷ 5 ∷ 6 ∷ []) $ freed ! $ freed ! $ freed ! $ freed ! $ freed ! $ free0 ! $
       move ! (1 ∷ 3 ∷ []) $ join ! $ use1 (W w) (tokens w F at) (id⊢ (w .𝓤) _) $ move ! (1 ∷ 3 ∷ []) $ join ! $ move ! (0 ∷ 2 ∷ []) $
-      ends w F at (r .answer) _ (‵ (Last (r .here)) ⊛ ensures w (G .says) to r)
-      (so-first w F (G .says) at to (r .answer) r (Last (r .here)) (λ ws. (sessionAt (now x) (r .here), ws .1)) (λ _. refl) (λ _. refl)
+      ends w F at (r .answer) _ (‵ (Last x (r .here)) ⊛ ensures w (G .says) to r)
+      (so-first w F (G .says) at to (r .answer) r (Last x (r .here)) (λ ws. (sessionAt (now x) (r .here), ws .1)) (λ _. refl) (λ _. refl)
       (λ _. id⊢ (w .𝓤) _)))))))))
 
 pub move-to-spec : {M : Type 1} → stated.statement M
