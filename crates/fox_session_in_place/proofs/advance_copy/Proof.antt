@@ -88,7 +88,8 @@ module _ (w : World) (κ κ′ : Lft) (q q′ : Share) (s : Session) (i o : RefT
       move ! (22 ∷ 23 ∷ 20 ∷ 21 ∷ 18 ∷ 19 ∷ 16 ∷ 17 ∷ 1 ∷ 15 ∷ 13 ∷ 14 ∷ 11 ∷ 12 ∷ 9 ∷ 10 ∷ 7 ∷ 8 ∷ 5 ∷ 6 ∷ []) $
       freed ! $ freed ! $ freed ! $ freed ! $ freed ! $ freed ! $ freed ! $ freed ! $ freed ! $ freed ! $ free0 ! $
       -- [the result; what is said of out; what is said of the result; the tokens]
-      nothing ! $ move ! (0 ∷ 2 ∷ []) $ fjoin ! $ move ! (0 ∷ 2 ∷ []) $ join ! $
+      move ! (2 ∷ []) $ use1 (W w) (raw (says w F at (both r (ws .0)) (tt, ws .1))) (id⊢ (w .𝓤) _) $
+      nothing ! $ move ! (0 ∷ 3 ∷ []) $ fjoin ! $ move ! (0 ∷ 1 ∷ []) $ join ! $
       ends w F at (both r (ws .0)) _ (lastly w F at (tt, ws .1) ⊛ raw (says w F at (both r (ws .0)) (tt, ws .1)))
       (at-last w F at (both r (ws .0)) (tt, ws .1)))))))))))))))))
 
