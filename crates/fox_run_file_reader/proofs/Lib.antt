@@ -1,4 +1,2 @@
 -- What the walks of this crate have in common.
 pub mod Parts
-pub mod Spelling
-pub mod Walk

@@ -23,6 +23,8 @@ use denote.Struct.Rest.{all-own, own-open, own-shut, own-put}
 use denote.Struct.Values.{Values}
 use Rattle.fox_server_key.proofs.prepared.Prepared as K
 use Rattle.fox_server_key.proofs.prepared.Prepared.Laws as K′
+use Rattle.fox_walks.proofs.Spelling.{W, Spelling, struct, enum}
+use Rattle.fox_walks.proofs.Walk.{meaning}
 use Rattle.fox_run_file.specs.declared.place.Place.{Place}
 use Rattle.fox_run_file.specs.declared.place.Taken.{Taken}
 use Rattle.fox_run_file.proofs.place.Place as P
@@ -35,8 +37,6 @@ use Rattle.fox_run_file.proofs.reading.Read as D
 use Rattle.fox_run_file.proofs.reading.Read.Laws as D′
 use Rattle.fox_run_file_reader.specs.declared.Reader.{Reader}
 use Rattle.fox_run_file_reader.specs.Reader.{readerAt}
-use Rattle.fox_run_file_reader.proofs.Spelling.{W, Spelling, struct, enum}
-use Rattle.fox_run_file_reader.proofs.Walk.{meaning}
 use Rattle.fox_run_file_reader.proofs.Reader as R
 use Rattle.fox_run_file_reader.proofs.Reader.Laws as R′
 

@@ -17,13 +17,13 @@ use denote.Slice.{slice-vals}
 use denote.Steps.{nothing}
 use Rattle.fox_server_key.specs.declared.prepared.Prepared.{Prepared}
 use Rattle.fox_server_key.specs.Prepared.{roundKeysIn}
+use Rattle.fox_walks.proofs.Spelling.{Typed, shared}
+use Rattle.fox_walks.proofs.Walk.{Said, Callee, Promised, ensures, Goes, walks, closes, asks, hears, so, ends, local, freed}
 use Rattle.fox_run_file.specs.declared.reading.Next.{Next}
 use Rattle.fox_run_file.specs.Promise.{TakesUpWith, nextAt}
 use Rattle.fox_run_file_reader.specs.declared.Reader.{Reader}
 use Rattle.fox_run_file_reader.specs.Reader.{takenOf, TellsFirst}
-use Rattle.fox_run_file_reader.proofs.Spelling.{Typed, shared}
 use Rattle.fox_run_file_reader.proofs.Parts.{reader, prepared, next}
-use Rattle.fox_run_file_reader.proofs.Walk.{Said, Callee, Promised, ensures, Goes, walks, closes, asks, hears, so, ends, local, freed}
 use Rattle.fox_run_file_reader.proofs.take_up as take-up
 use Rattle.fox_run_file_reader.proofs.take_up.Symbol as take-up-def
 use Rattle.fox_run_file_reader.proofs.take_up.Met as take-up-thm

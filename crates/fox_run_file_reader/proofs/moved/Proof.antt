@@ -11,12 +11,12 @@ use types.Run.{look, init, stop, from, of-opd, and-then, no-more, assigns, retur
 use borrow.Fn.World.{World}
 use denote.Ref.{NamedLft}
 use denote.Signature.{namedLft}
+use Rattle.fox_walks.proofs.Spelling.{W, Typed}
+use Rattle.fox_walks.proofs.Walk.{Said, Promised, result, Goes, walks, closes, outright, ends, local, part, freed}
 use Rattle.fox_run_file.specs.declared.place.Place.{Place}
 use Rattle.fox_run_file_reader.specs.declared.Reader.{Reader}
 use Rattle.fox_run_file_reader.specs.Reader.{readerAt}
-use Rattle.fox_run_file_reader.proofs.Spelling.{W, Typed}
 use Rattle.fox_run_file_reader.proofs.Parts.{reader, place, placed}
-use Rattle.fox_run_file_reader.proofs.Walk.{Said, Promised, result, Goes, walks, closes, outright, ends, local, part, freed}
 use Rattle.fox_run_file_reader.proofs.moved as moved
 use Rattle.fox_run_file_reader.proofs.moved.Key as key
 use Rattle.fox_run_file_reader.proofs.moved.Statement as stated

@@ -10,13 +10,13 @@ use types.Run.{look, init, stop, from, of-opd, and-then, no-more, assigns, land,
 use borrow.Fn.World.{World}
 use denote.Ref.{NamedLft}
 use denote.Signature.{namedLft}
+use Rattle.fox_walks.proofs.Spelling.{W, Typed}
+use Rattle.fox_walks.proofs.Walk.{Said, Callee, Promised, ensures, Goes, walks, closes, asks, so, ends, local, part, freed}
 use Rattle.fox_run_file_read.proofs.places.next_at as next-at
 use Rattle.fox_run_file_read.proofs.places.next_at.Symbol as next-at-def
 use Rattle.fox_run_file_read.proofs.places.next_at.Met as next-at-thm
 use Rattle.fox_run_file_reader.specs.declared.Reader.{Reader}
-use Rattle.fox_run_file_reader.proofs.Spelling.{W, Typed}
 use Rattle.fox_run_file_reader.proofs.Parts.{reader, next, spelled, Parts, apart}
-use Rattle.fox_run_file_reader.proofs.Walk.{Said, Callee, Promised, ensures, Goes, walks, closes, asks, so, ends, local, part, freed}
 use Rattle.fox_run_file_reader.proofs.next_length as next-length
 use Rattle.fox_run_file_reader.proofs.next_length.Key as key
 use Rattle.fox_run_file_reader.proofs.next_length.Statement as stated

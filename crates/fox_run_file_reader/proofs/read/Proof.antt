@@ -15,13 +15,13 @@ use denote.Ref.{RefT, NamedLft}
 use denote.Signature.{namedLft}
 use denote.Slice.{slice-vals}
 use Rattle.fox_server_key.specs.declared.prepared.Prepared.{Prepared}
+use Rattle.fox_walks.proofs.Spelling.{W, Typed, lent}
+use Rattle.fox_walks.proofs.Walk.{Said, Callee, Promised, ensures, Goes, walks, closes, asks, so, ends, local, part, freed}
 use Rattle.fox_run_file_read.proofs.read.read_at as read-at
 use Rattle.fox_run_file_read.proofs.read.read_at.Symbol as read-at-def
 use Rattle.fox_run_file_read.proofs.read.read_at.Met as read-at-thm
 use Rattle.fox_run_file_reader.specs.declared.Reader.{Reader}
-use Rattle.fox_run_file_reader.proofs.Spelling.{W, Typed, lent}
 use Rattle.fox_run_file_reader.proofs.Parts.{reader, prepared, reading, spelled, Parts, apart}
-use Rattle.fox_run_file_reader.proofs.Walk.{Said, Callee, Promised, ensures, Goes, walks, closes, asks, so, ends, local, part, freed}
 use Rattle.fox_run_file_reader.proofs.read as read
 use Rattle.fox_run_file_reader.proofs.read.Key as key
 use Rattle.fox_run_file_reader.proofs.read.Statement as stated

@@ -12,6 +12,8 @@ use borrow.Fn.World.{World}
 use denote.Ref.{NamedLft, now}
 use denote.Signature.{namedLft}
 use denote.Steps.{nothing}
+use Rattle.fox_walks.proofs.Spelling.{W, Typed}
+use Rattle.fox_walks.proofs.Walk.{Said, Callee, Promised, ensures, Goes, walks, closes, asks, hears, so, ends, local, part, freed}
 use Rattle.fox_run_file.specs.declared.place.Place.{Place}
 use Rattle.fox_run_file.specs.Places.{passedOver}
 use Rattle.fox_run_file_read.proofs.places.pass_over as pass-over
@@ -19,9 +21,7 @@ use Rattle.fox_run_file_read.proofs.places.pass_over.Symbol as pass-over-def
 use Rattle.fox_run_file_read.proofs.places.pass_over.Met as pass-over-thm
 use Rattle.fox_run_file_reader.specs.declared.Reader.{Reader}
 use Rattle.fox_run_file_reader.specs.Reader.{readerAt}
-use Rattle.fox_run_file_reader.proofs.Spelling.{W, Typed}
 use Rattle.fox_run_file_reader.proofs.Parts.{reader, place, spelled, Own, Parts, kept-apart}
-use Rattle.fox_run_file_reader.proofs.Walk.{Said, Callee, Promised, ensures, Goes, walks, closes, asks, hears, so, ends, local, part, freed}
 use Rattle.fox_run_file_reader.proofs.moved as moved
 use Rattle.fox_run_file_reader.proofs.moved.Symbol as moved-def
 use Rattle.fox_run_file_reader.proofs.moved.Met as moved-thm

@@ -17,12 +17,12 @@ use denote.Ref.{RefT, NamedLft}
 use denote.Signature.{namedLft}
 use denote.Slice.{slice-vals, ShrSlice, shr-slice-copy}
 use Rattle.fox_server_key.specs.declared.prepared.Prepared.{Prepared}
+use Rattle.fox_walks.proofs.Spelling.{W, Typed, shared}
+use Rattle.fox_walks.proofs.Walk.{Said, Callee, Promised, result, ensures, Goes, walks, closes, asks, so, ends, local, part, freed}
 use Rattle.fox_run_file_take_up.proofs.take.take_up as taking
 use Rattle.fox_run_file_take_up.proofs.take.take_up.Symbol as taking-def
 use Rattle.fox_run_file_take_up.proofs.take.take_up.Met as taking-thm
-use Rattle.fox_run_file_reader.proofs.Spelling.{W, Typed, shared}
 use Rattle.fox_run_file_reader.proofs.Parts.{reader, prepared, taken, readerOf, made}
-use Rattle.fox_run_file_reader.proofs.Walk.{Said, Callee, Promised, result, ensures, Goes, walks, closes, asks, so, ends, local, part, freed}
 use Rattle.fox_run_file_reader.proofs.take_up as take-up
 use Rattle.fox_run_file_reader.proofs.take_up.Key as key
 use Rattle.fox_run_file_reader.proofs.take_up.Statement as stated

@@ -3,15 +3,16 @@
 --     W                the rules of a model
 --     Spelling         of a type.        Typed     what is known of a value's machine value
 --     Spellings        of a list of types, with `Denote/Laws.antt`'s `Spells` and `Tellss` from them (`spells`, `tellss`).        AllTyped     of their values
---     struct, enum, shared, lent     the spelling of a declared struct and of an enum, of a `&[u8]` and of a `&mut [u8]`
+--     struct, enum     the spelling of a declared struct and of an enum
+--     number, shared, lent, behind     of a `u64`, of a `&[u8]` and a `&mut [u8]`, and of a `&mut` to one value
 -- It holds since the logic has these laws of each kind of type.
 -- Assumes nothing.
 use mathlib.Core.Path.{subst}
 use Prim.Native.Nat.{ℕ}
 use mathlib.Core.List.{List, [], _∷_}
 use lib.ListN.{length}
-use mir.Syntax.{Lifetime}
-use mir.Val.{Val}
+use mir.Syntax.{Lifetime, w64}
+use mir.Val.{Val, vint, vptr}
 use base.Fml.{Lft}
 use contract.Running.{givenOf}
 use types.Kit.{Given}
@@ -19,8 +20,9 @@ use borrow.Fn.World.{World}
 use denote.RattleType.{RattleType, Denots}
 use denote.Laws as laws
 use denote.Laws.{Is, Ises, Are, Spells, valss, Tells, Tellss, Lawful}
-use denote.Builtin.{u8}
-use denote.Ref.{RefT}
+use denote.Builtin.{u8, u64}
+use denote.Plain.{uint-tells, uint-lawful}
+use denote.Ref.{RefT, MutRef, mut-tells, mut-lawful}
 use denote.Slice.{ShrSlice, MutSlice, sliceVal, shr-slice-tells, shr-slice-lawful, mut-slice-tells, mut-slice-lawful}
 use denote.Enum.Declared as Enum
 use denote.Enum.Enum.{Few}
@@ -69,6 +71,9 @@ struct T L = record { val = LL.val T L; tells = LL.tells T L; lawful = λ w. LL.
 abbrev pub enum : (T : Enum.Declared) → EL.Laws T → Few (Enum.shape T) → Spelling (Enum.row T)
 enum T L few = record { val = EL.val T L; tells = EL.tells T L; lawful = λ w. EL.lawful T L (w .𝓤) (w .H) (w .𝓖 .A) (W w) few }
 
+abbrev pub number : Spelling u64
+number = record { val = vint w64; tells = uint-tells w64; lawful = λ w. uint-lawful (w .𝓤) (w .H) (w .𝓖 .A) (W w) w64 }
+
 abbrev slice : RefT (List ℕ) → Val
 slice x = sliceVal (x .ptr) (length (x .now))
 
@@ -77,3 +82,10 @@ shared ℓ κ = record { val = slice; tells = shr-slice-tells ℓ κ u8; lawful 
 
 abbrev pub lent : (ℓ : Lifetime) (κ : Lft) → Spelling (MutSlice ℓ κ u8)
 lent ℓ κ = record { val = slice; tells = mut-slice-tells ℓ κ u8; lawful = λ w. mut-slice-lawful (w .𝓤) (w .H) (w .𝓖 .A) (W w) ℓ κ u8 }
+
+abbrev pub behind : (ℓ : Lifetime) (κ : Lft) (R : RattleType) → Spelling (MutRef ℓ κ R)
+behind ℓ κ R = record {
+  val = λ x. vptr (x .ptr .0) (x .ptr .1);
+  tells = mut-tells ℓ κ R;
+  lawful = λ w. mut-lawful (w .𝓤) (w .H) (w .𝓖 .A) (W w) ℓ κ R;
+}

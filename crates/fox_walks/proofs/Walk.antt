@@ -5,8 +5,10 @@
 --     Callee, asks     a function that is proved, and a call of one. The tokens and what the arguments own go to it. Once it has returned there is a result,
 --                      spelled out, the tokens are back, and what it ensures holds
 --     local, part      a local is read; a field of one is read.        freed     a local is freed, whatever it holds
---     hears            a fact that a callee ensures is learned
---     so, outright     what one function ensures gives what another ensures; a function ensures what is shown
+--     hears            a fact that a callee ensures is learned.        told     there are last values, with what is said of them and of the result
+--     so, so-first     what one function ensures gives what another ensures; the same where the walk says the last value of the first parameter itself, and the
+--                      callee says nothing of its own first parameter
+--     at-last, outright    a function ensures what is had at some last values; a function ensures what is shown
 --     ends             a walk ends at a result, the tokens and what gives all that is ensured
 -- A promise says nothing of a parameter but the last value of a `&mut`, and a callee that a `&mut` goes to says that in its own promise. So what is owned of
 -- the parameters is let go, and none has to be had at exit.
@@ -21,7 +23,7 @@ use mir.Syntax.{Sym, Ty, Tys, tyStruct, Place, place, field, Opd as Operand, cop
 use mir.Val.{Val, Vals, vstruct}
 use mir.Fields.{getV, setV}
 use base.Logic.{SProp, ent, sep, emp, id⊢, via, fst∗, snd∗, mono∗, emp∗, exI, exE}
-use base.Fml.{Share, fat, fdies}
+use base.Fml.{Share, Fml, ftrue, fsep, fat, fdies}
 use prog.Memory.{Memory, fieldAt}
 use prog.Model.{Model}
 use prog.Routine.{Name, Routine}
@@ -33,7 +35,7 @@ use contract.Lifetimes.{Lfts}
 use contract.Monad.{Fun, fact}
 use contract.Running.{Running, GhostRules, tables, tablesOf}
 use types.Kit.{Given, Item, ‵, raw, _⊛_, some, later, mean, nth, Post, atRet, Goal, prop, runs, lands, allocs, params′, frees, Go, Seq, Step, step}
-use types.Kit.{_$_, _∵_, !, qed, move, use0, use1, split, join, pick, await, updating, now as at-once, show, done}
+use types.Kit.{_$_, _∵_, !, qed, by, move, drop, use0, use1, split, join, pick, rewrite, fsplit, fjoin, await, updating, now as at-once, show, done}
 use types.Part.{Part, whole, sub, look-in}
 use types.Run.{Walks, Opd, Opds, look, forget, stop, fld, from, load, enter, free1}
 use borrow.Fn.World.{World, Pr}
@@ -47,7 +49,7 @@ use denote.Triple.Clauses.{Ended, Clauses, Lasts, lasts, atExit, ensured, closin
 use denote.Triple.Entry.{Res, alive}
 use denote.Triple.Spec.{tripleOf}
 use denote.Triple.Table.{entered, cited}
-use Rattle.fox_run_file_reader.proofs.Spelling.{W, Spelling, Typed, typed, Spellings, spells, tellss, AllTyped, all-typed}
+use Rattle.fox_walks.proofs.Spelling.{W, Spelling, Typed, typed, Spellings, spells, tellss, AllTyped, all-typed}
 
 pub record Said : Type 2 where
   pub ended : Ended
@@ -89,13 +91,13 @@ module _ (w : World) where
       result r u = ‵ (typeAt (S .result) (y .0 .0) .own r (u ∷ []))
 
       -- that ws are the last values, what is said of them and the result, and that there are such
-      abbrev Last : Type 0
+      abbrev pub Last : Type 0
       Last = Lasts (F .ended) (y .0 .0) (y .0 .3)
 
-      abbrev lastly : Last → Item (w .𝓤)
+      abbrev pub lastly : Last → Item (w .𝓤)
       lastly ws = ‵ (lasts (F .ended) (y .0 .0) (y .0 .3) ws)
 
-      abbrev says : Res S (y .0 .0) → Last → Pr w
+      abbrev pub says : Res S (y .0 .0) → Last → Pr w
       says r ws = clausesAt (y .0 .0) (y .0 .3) .ensures (y .1) r (atExit (F .ended) (y .0 .0) (y .0 .3) ws)
 
       abbrev pub ensures : Res S (y .0 .0) → Item (w .𝓤)
@@ -184,7 +186,11 @@ module _ (w : World) (F : Said) (y : Promised w F .Ghost) (r : Res (F .ended .si
     hears φ h t k =
         use1 (W w) (raw (fact (w .𝓤) φ)) (exE (w .𝓤) _ (λ ws. via (w .𝓤) (says w F y r ws) (snd∗ (w .𝓤) (meaning w (lastly w F y ws)) _) (h ws))) $ heard t φ k
 
-  at-last : (ws : Last w F y) → ent (w .𝓤) (sep (w .𝓤) (meaning w (lastly w F y ws)) (says w F y r ws)) (meaning w (ensures w F y r))
+    pub told : K → {Γ : List (Item (w .𝓤))} {G : Goal (w .𝓤) (w .H)} → ((ws : Last w F y) → Seq K (W w) (lastly w F y ws ∷ raw (says w F y r ws) ∷ Γ) G)
+        → Seq K (W w) (ensures w F y r ∷ Γ) G
+    told t k = use1 (W w) (some (λ (ws : Last w F y). lastly w F y ws ⊛ raw (says w F y r ws))) (id⊢ (w .𝓤) _) $ pick t (λ ws. split t $ k ws)
+
+  pub at-last : (ws : Last w F y) → ent (w .𝓤) (sep (w .𝓤) (meaning w (lastly w F y ws)) (says w F y r ws)) (meaning w (ensures w F y r))
   at-last ws = exI (w .𝓤) (λ (vs : Last w F y). sep (w .𝓤) (meaning w (lastly w F y vs)) (says w F y r vs)) ws
 
   pub outright : (ws : Last w F y) → ent (w .𝓤) (emp (w .𝓤)) (meaning w (lastly w F y ws)) → ent (w .𝓤) (emp (w .𝓤)) (says w F y r ws)
@@ -197,6 +203,16 @@ module _ (w : World) (F G : Said) (y : Promised w F .Ghost) (z : Promised w G .G
       → ((ws : Last w G z) → ent (w .𝓤) (meaning w (lastly w G z ws)) (meaning w (lastly w F y (last ws))))
       → ((ws : Last w G z) → ent (w .𝓤) (says w G z s ws) (says w F y r (last ws))) → ent (w .𝓤) (meaning w (ensures w G z s)) (meaning w (ensures w F y r))
   so last l e = exE (w .𝓤) _ (λ ws. via (w .𝓤) _ (mono∗ (w .𝓤) (l ws) (e ws)) (at-last w F y r (last ws)))
+
+  pub so-first : (P : Fml) {Q : Last w G z → Fml} (last : Last w G z → Last w F y)
+      → ((ws : Last w G z) → lasts (G .ended) (z .0 .0) (z .0 .3) ws ≡ fsep ftrue (Q ws))
+      → ((ws : Last w G z) → lasts (F .ended) (y .0 .0) (y .0 .3) (last ws) ≡ fsep P (Q ws))
+      → ((ws : Last w G z) → ent (w .𝓤) (says w G z s ws) (says w F y r (last ws)))
+      → ent (w .𝓤) (meaning w (‵ P ⊛ ensures w G z s)) (meaning w (ensures w F y r))
+  so-first P last g f e =
+      qed (W w) ((‵ P ⊛ ensures w G z s) ∷ []) ∵ split ! $ move ! (1 ∷ []) $ told w G z s ! (λ ws.
+      rewrite ! 0 ‵ (g ws) refl $ fsplit ! $ drop ! $ move ! (2 ∷ 0 ∷ []) $ fjoin ! $ rewrite ! 0 ‵ (sym (f ws)) refl $ move ! (1 ∷ []) $
+      use1 (W w) (raw (says w F y r (last ws))) (e ws) $ move ! (1 ∷ 0 ∷ []) $ by ! (at-last w F y r (last ws)))
 
 module _ {M : Type 1} {𝓤 : URA M} {H : Heap 𝓤} {A : Atoms 𝓤} {K : Type 0} {W : Given 𝓤 H A} {Γ : List (Item 𝓤)} {E : Env 𝓤 H} where
   pub local : K → {i : ℕ} (n : ℕ) {q : Share} {v : Val} → nth 𝓤 H A n Γ ≡ ‵ (fat q (spotOf 𝓤 H E i .0) (spotOf 𝓤 H E i .1) (spotOf 𝓤 H E i .2) v)
