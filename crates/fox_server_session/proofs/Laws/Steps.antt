@@ -3,7 +3,7 @@
 -- Assumes nothing.
 use mathlib.Core.Path.{_≡_, refl, sym, ap, ap₂, _∙_}
 use mathlib.Core.Bool.{true}
-use mathlib.Core.List.{List, [], _++_}
+use mathlib.Core.List.{List, _++_}
 use Prim.Native.Nat.{ℕ, _+_, _-_, _/_, _%_, _≤_, _<_, min}
 use native.Mathlib.Omega.{arith}
 use borrow.Rule.Slice.PartMut.{midOf, putMid}
@@ -48,7 +48,7 @@ below-end : (c m n : ℕ) → m / blockSize c ≡ n / blockSize c → n < 107374
 below-end c m n e h = by-size c (λ (B : ℕ). m / B ≡ n / B → m < 1073741824) (λ f. omega arith) (λ f. omega arith) e
 
 -- within a block the number stays
-pub number-stays : (c n k : ℕ) → n % blockSize c + k < blockSize c → n / blockSize c ≡ (n + k) / blockSize c
+number-stays : (c n k : ℕ) → n % blockSize c + k < blockSize c → n / blockSize c ≡ (n + k) / blockSize c
 number-stays c n k = by-size c (λ (B : ℕ). n % B + k < B → n / B ≡ (n + k) / B) (λ h. omega arith) (λ h. omega arith)
 
 -- of d bytes, m are whole blocks, and fewer than a block come after them
@@ -66,7 +66,7 @@ xored-within {bs} {ds} x = omega (arith, x .count, length-xorEach-min bs ds)
 -- the XOR with what is left of a block, from byte n of a run on
 
 module _ (c n : ℕ) (w : Pair) (ds os : List ℕ) {after : List ℕ} {B r : ℕ} (e : B ≡ blockSize c) (x : Xored (drop (n % B) (blockIn c w)) ds os after r) where
-  pub count-xored : r ≡ min (B - n % B) (length ds)
+  count-xored : r ≡ min (B - n % B) (length ds)
   count-xored =
       x .count ∙ length-xorEach-min (drop (n % B) (blockIn c w)) ds
       ∙ ap (λ (k : ℕ). min k (length ds)) (length-drop (n % B) (blockIn c w) ∙ ap (λ (k : ℕ). k - n % B) (length-blockIn c w ∙ sym e))
@@ -78,7 +78,7 @@ module _ (c n : ℕ) (w : Pair) (ds os : List ℕ) {after : List ℕ} {B r : ℕ
       ap₂ (λ (k A : ℕ). (n + k) % A) rest (sym e) ∙ rw e (by-size c (λ (A : ℕ). (n + (A - n % A)) % A ≡ 0) (omega arith) (omega arith))
 
   -- it is the run's stretch, where the block is that of the position; at the run's end there are no bytes
-  pub xored-run : (rks counter : List ℕ) → n + length ds ≤ 1073741824 → BlockAt c rks counter n w → XoredTo (keyStream c rks counter) n ds os r after
+  xored-run : (rks counter : List ℕ) → n + length ds ≤ 1073741824 → BlockAt c rks counter n w → XoredTo (keyStream c rks counter) n ds os r after
   unfolding keyStream
   xored-run rks counter within at =
       by-test (ltb n 1073741824)
@@ -93,18 +93,18 @@ module _ (c n : ℕ) (w : Pair) (ds os : List ℕ) {after : List ℕ} {B r : ℕ
 
 module _ (c : ℕ) (rks counter : List ℕ) where
   -- a block is that of every position with its number
-  pub same-block : (m n : ℕ) (w : Pair) → m / blockSize c ≡ n / blockSize c → BlockAt c rks counter m w → BlockAt c rks counter n w
+  same-block : (m n : ℕ) (w : Pair) → m / blockSize c ≡ n / blockSize c → BlockAt c rks counter m w → BlockAt c rks counter n w
   same-block m n w e at h = at (below-end c m n e h) ∙ ap (λ (i : ℕ). sealWith c rks (counterBlock counter i)) e
 
-  -- bytes that all lie in one block, before its last byte
-  pub in-block : (n : ℕ) (w : Pair) (ds os : List ℕ) {after : List ℕ} {B r : ℕ} → B ≡ blockSize c → n % B + length ds < B → n + length ds ≤ 1073741824
+  -- bytes that end before their block does
+  in-block : (n : ℕ) (w : Pair) (ds os : List ℕ) {after : List ℕ} {B r : ℕ} → B ≡ blockSize c → n % B + length ds < B → n + length ds ≤ 1073741824
       → length os ≡ length ds → BlockAt c rks counter n w → Xored (drop (n % B) (blockIn c w)) ds os after r → after ≡ runWith c rks counter n ds
   unfolding runWith
   in-block n w ds os {r = r} e short within room at x =
       xoredTo-last (keyStream c rks counter) n ds os r room (omega (arith, count-xored c n w ds os e x)) (xored-run c n w ds os e x rks counter within at)
 
   -- a stretch in two parts, one written after the other
-  pub run-joined : (n at : ℕ) (ds l : List ℕ) {part : List ℕ} → at ≤ length ds → take at l ≡ runWith c rks counter n (take at ds)
+  run-joined : (n at : ℕ) (ds l : List ℕ) {part : List ℕ} → at ≤ length ds → take at l ≡ runWith c rks counter n (take at ds)
       → part ≡ runWith c rks counter (n + at) (midOf at (length ds - at) ds) → putMid at (length l - at) l part ≡ runWith c rks counter n ds
   run-joined n at ds l {part} h front rest =
       put-end at l part
@@ -133,7 +133,7 @@ module _ (c : ℕ) (rks counter : List ℕ) where
       (in-block (n + m) w mid (midOf m (length l - m) l) {after = part} {r = r} refl short (omega arith)
       (length-end m l ∙ omega (arith, length-end m ds)) here (rw place x))
 
--- the calls
+-- what the parts of the calls promise
 
 module _ (b : Basis) (keys : List ℕ) (here : Here) (ds os : List ℕ) (keyed : Keyed (b .cipher) (b .rounds) (b .«key_len»))
     (within : here .position + length ds ≤ 1073741824) (room : length os ≡ length ds) {after : List ℕ} {B r : ℕ} (e : B ≡ blockSize (b .cipher))
@@ -151,13 +151,14 @@ module _ (b : Basis) (keys : List ℕ) (here : Here) (ds os : List ℕ) (keyed :
       }
 
   -- the block's rest is done, and the bytes go on
-  pub passes-on : (w : Pair) {held part : List ℕ} → held ≡ keys → B ≤ here .position % B + length ds
-      → (part ≡ runWith (b .cipher) (heldKeys (b .cipher) held (b .rounds)) (blockIn (b .cipher) (b .counter)) (here .position + r) (midOf r (length ds - r) ds))
+  pub passes-on : (w : Pair) {held part : List ℕ} → held ≡ keys
+      → (part ≡ runWith (b .cipher) (heldKeys (b .cipher) held (b .rounds)) (blockIn (b .cipher) (b .counter)) (here .position + r)
+      (midOf r (length ds - r) ds))
       × BlockAt (b .cipher) (heldKeys (b .cipher) held (b .rounds)) (blockIn (b .cipher) (b .counter))
       (here .position + r + length (midOf r (length ds - r) ds)) w
       → Passes b keys here ds (putMid r (length after - r) after part) w
   unfolding machineAt runWith
-  passes-on w {held} {part} same past further =
+  passes-on w {held} {part} same further =
       let c = b .cipher in
       let rks = heldKeys c keys (b .rounds) in
       let counter = blockIn c (b .counter) in
@@ -179,7 +180,7 @@ module _ (b : Basis) (keys : List ℕ) (here : Here) (to : ℕ) where
   unfolding machineAt
   renews-same e same t k = same-block (b .cipher) _ _ (here .position) to (here .block) (sym (rw e at same)) (t k)
 
-  pub renews-new : (w : Pair) {held : List ℕ} → held ≡ keys → BlockAt (b .cipher) (heldKeys (b .cipher) held (b .rounds)) (blockIn (b .cipher) (b .counter)) to w
-      → Renews b keys here to w
+  pub renews-new : (w : Pair) {held : List ℕ} → held ≡ keys
+      → BlockAt (b .cipher) (heldKeys (b .cipher) held (b .rounds)) (blockIn (b .cipher) (b .counter)) to w → Renews b keys here to w
   unfolding machineAt
   renews-new w same made t k = rw same at made

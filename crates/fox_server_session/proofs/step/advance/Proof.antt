@@ -19,8 +19,9 @@ returns c =
     let asked = test .before in
     let size = asked .before in
     let a = size .before .before .before .before .args in
-    refused-call (machineAt (a .b) (take 510 (a .keys .now))) (TrueAt (a .b) (take 510 (a .keys .now))) (a .here) (Advance (a .input .now) (a .out .now))
-    (asked .for-run .ensures ∙ refusal-with (a .b) (take 510 (a .keys .now)) (a .here) _ _ _ (size .block-size .ensures)) (test .if1 .taken) (c .refused .ensures)
+    let keys = take 510 (a .keys .now) in
+    refused-call (machineAt (a .b) keys) (TrueAt (a .b) keys) (a .here) (Advance (a .input .now) (a .out .now))
+    (asked .for-run .ensures ∙ refusal-with (a .b) keys (a .here) _ _ _ (size .block-size .ensures)) (test .if1 .taken) (c .refused .ensures)
 
 pass-requires : tie.Need-pass-requires
 pass-requires c κs =
@@ -41,11 +42,12 @@ returns-2 c =
     let asked = test .before in
     let size = asked .before in
     let a = size .before .before .before .before .args in
+    let keys = take 510 (a .keys .now) in
     let none = sym (asked .for-run .ensures) ∙ test .if1 .left in
-    served-advance (machineAt (a .b) (take 510 (a .keys .now))) (TrueAt (a .b) (take 510 (a .keys .now))) (a .here) (a .input .now) (a .out .now)
-    (sym (refusal-with (a .b) (take 510 (a .keys .now)) (a .here) _ _ _ (size .block-size .ensures)) ∙ none)
-    (c .served .ensures .0, c .served .ensures .1 ∙ passed .pass .kept .1 .1 .1 .1 .0) (stretched _ _ _ _ _ _ _ none .output) refl (passed .pass .ensures .bytes)
-    (passed .pass .ensures .block)
+    served-advance (machineAt (a .b) keys) (TrueAt (a .b) keys) (a .here) (a .input .now) (a .out .now)
+    (sym (refusal-with (a .b) keys (a .here) _ _ _ (size .block-size .ensures)) ∙ none)
+    (c .served .ensures .0, c .served .ensures .1 ∙ passed .pass .kept .1 .1 .1 .1 .0) (stretched _ _ _ _ _ _ _ none .output) refl
+    (passed .pass .ensures .bytes) (passed .pass .ensures .block)
 
 pub advance-spec : {M : Type 1} → statement M
 advance-spec =

@@ -1,5 +1,5 @@
--- `step::further` meets its contract: whole blocks are a stretch of the run, and the rest lies in the block that the next position is in, since the stretch begins
--- a block.
+-- `step::further` meets its contract: whole blocks are a stretch of the run, and the rest lies in the block that the next position is in, since the stretch
+-- begins a block.
 -- Assumes nothing.
 use mathlib.Core.Path.{refl}
 use native.Mathlib.Nat.{mod-le}

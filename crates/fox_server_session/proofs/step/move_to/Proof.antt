@@ -1,4 +1,5 @@
--- `step::move_to` meets its contract: the refusals are those of a stretch of no bytes at the position that it goes to; past them the block there is the one in use.
+-- `step::move_to` meets its contract: the refusals are those of a stretch of no bytes at the position that it goes to; past them the block of that position is
+-- the one in use.
 -- Assumes nothing.
 use mathlib.Core.Path.{refl, sym, _∙_}
 use native.Mathlib.Omega.{arith}
@@ -18,9 +19,9 @@ returns c =
     let asked = test .before in
     let size = asked .before in
     let a = size .before .before .args in
-    refused-call (machineAt (a .b) (take 510 (a .keys .now))) (TrueAt (a .b) (take 510 (a .keys .now))) (a .here) (Move (a .to))
-    (asked .for-run .ensures ∙ refusal-with (a .b) (take 510 (a .keys .now)) (a .here) _ _ _ (size .block-size .ensures)) (test .if1 .taken)
-    (c .refused .ensures)
+    let keys = take 510 (a .keys .now) in
+    refused-call (machineAt (a .b) keys) (TrueAt (a .b) keys) (a .here) (Move (a .to))
+    (asked .for-run .ensures ∙ refusal-with (a .b) keys (a .here) _ _ _ (size .block-size .ensures)) (test .if1 .taken) (c .refused .ensures)
 
 renew-requires : tie.Need-renew-requires
 renew-requires c κs =
@@ -34,8 +35,9 @@ returns-2 c =
     let asked = test .before in
     let size = asked .before in
     let a = size .before .before .args in
-    served-move (machineAt (a .b) (take 510 (a .keys .now))) (TrueAt (a .b) (take 510 (a .keys .now))) (a .here) (a .to)
-    (sym (refusal-with (a .b) (take 510 (a .keys .now)) (a .here) _ _ _ (size .block-size .ensures)) ∙ sym (asked .for-run .ensures) ∙ test .if1 .left)
+    let keys = take 510 (a .keys .now) in
+    served-move (machineAt (a .b) keys) (TrueAt (a .b) keys) (a .here) (a .to)
+    (sym (refusal-with (a .b) keys (a .here) _ _ _ (size .block-size .ensures)) ∙ sym (asked .for-run .ensures) ∙ test .if1 .left)
     (c .served .ensures) refl (c .before .renew .ensures)
 
 pub move-to-spec : {M : Type 1} → statement M

@@ -1,5 +1,5 @@
--- `step::pass` meets its contract: the bytes up to the block's end are XORed with the block in use. Where the input ends before the block does, the block stays;
--- or else the rest goes on at a block's first byte.
+-- `step::pass` meets its contract: the bytes up to the block's end are XORed with the block in use. Where the input ends before the block does, the block
+-- stays; or else the rest goes on at a block's first byte.
 -- Assumes nothing.
 use native.Mathlib.Nat.{mod-le, mod-lt}
 use native.Mathlib.Omega.{arith}
@@ -17,7 +17,8 @@ xor-block-requires : tie.Need-xor-block-requires
 xor-block-requires c κs =
     let size = c .before in
     let start = size .before .before .before .before in
-    (omega (arith, size .block-size .ensures, mod-lt (start .args .here .position) (size-some (start .args .b .cipher) (size .block-size .ensures))), start .pre .1)
+    let some = size-some (start .args .b .cipher) (size .block-size .ensures) in
+    (omega (arith, size .block-size .ensures, mod-lt (start .args .here .position) some), start .pre .1)
 
 add-if1 : tie.Need-add-if1
 add-if1 c =
@@ -66,20 +67,20 @@ further-requires c κs =
         simp (length-take, length-drop) (omega (arith, start .pre .0 .within)),
         simp (length-take, length-drop) (omega arith),
       ),
-      xored-end (a .b .cipher) (a .here .position) (a .here .block) (a .input .now) (a .out .now) (size .block-size .ensures) (call .xor-block .ensures) (test .if1 .left),
+      xored-end (a .b .cipher) (a .here .position) (a .here .block) (a .input .now) (a .out .now) (size .block-size .ensures) (call .xor-block .ensures)
+          (test .if1 .left),
     )
 
 returns-2 : tie.Need-returns-2
 returns-2 c =
     let on = c .before .before in
     let held = on .before .before .before .before .before in
-    let test = held .before in
-    let call = test .before .before .before in
+    let call = held .before .before .before .before in
     let size = call .before .before in
     let start = size .before .before .before .before in
     let a = start .args in
     passes-on (a .b) _ (a .here) (a .input .now) (a .out .now) (start .pre .0 .keyed) (start .pre .0 .within) (start .pre .1) (size .block-size .ensures)
-    (call .xor-block .ensures) (on .further .result) (held .round-keys .ensures) (test .if1 .left) (on .further .ensures)
+    (call .xor-block .ensures) (on .further .result) (held .round-keys .ensures) (on .further .ensures)
 
 pub pass-spec : {M : Type 1} → statement M
 pass-spec =
