@@ -1,8 +1,6 @@
 // The lines that are printed: one for each call, with its refusal, its count, the position after it, and the output of an advance.
-ghost use Prim.Native.Nat.{_≤_};
-ghost use lib.ListN.{length};
-use fox_server_session::step::Step;
-use fox_text_write::writing::put_pairs_line;
+use fox_refusals::answer::Answer;
+use fox_session::Here;
 
 pub(crate) fn print_malformed() {
     io::write_all(1, b"malformed\n");
@@ -18,26 +16,24 @@ pub(crate) fn print_start(cipher: u32, rounds: u32, key_len: usize) {
     io::write_all(1, b":");
 }
 
-pub(crate) fn print_told(refusal: u32, count: usize, position: u64) {
+pub(crate) fn print_told(answer: Answer, here: Here) {
     io::write_all(1, b" refusal=");
-    io::print_decimal(1, refusal as u64);
+    io::print_decimal(1, answer.refusal as u64);
     io::write_all(1, b" count=");
-    io::print_decimal(1, count as u64);
+    io::print_decimal(1, answer.count as u64);
     io::write_all(1, b" position=");
-    io::print_decimal(1, position);
+    io::print_decimal(1, here.position);
 }
 
-pub(crate) fn print_step(step: Step) {
-    let answer = step.answer;
-    let here = step.here;
-    print_told(answer.refusal, answer.count, here.position);
+fn print_byte(b: u8) {
+    io::print_hex(1, b as u64, 2);
 }
 
 // The output, and the end of the line.
-pub(crate) fn print_bytes(bytes: &[u8])
-    requires { ⌜ length (now bytes) ≤ 128 ⌝ }
-{
-    let mut text = [0; 272];
-    let n = put_pairs_line(&mut text, 0, b" output=", bytes);
-    io::write_all(1, &text[..n]);
+pub(crate) fn print_bytes(bytes: &[u8]) {
+    io::write_all(1, b" output=");
+    for i in 0..bytes.len() {
+        print_byte(bytes[i]);
+    }
+    io::write_all(1, b"\n");
 }

@@ -6,11 +6,11 @@ ghost use lib.ListN.{length};
 use fox_server_key::prepared::prepare;
 use fox_server_session::session::Session;
 use fox_server_session::session::Started;
-use fox_server_session::session::advanced;
 use fox_server_session::session::moved;
 use fox_server_session::session::start;
 use fox_server_session::session::start_from_key;
 use fox_server_session::step::Step;
+use fox_session_in_place::advance_copy;
 use fox_text_lines::lines::after_line;
 use fox_text_lines::lines::rest;
 use fox_text_lines::lines::starts_with;
@@ -85,11 +85,9 @@ fn play_start(t: &[u8]) -> Session {
     let size = k.count;
     let width = b.count;
     let started = begin(c.value, r.value, &key[..size], &counter[..width]);
-    let answer = started.answer;
     let session = started.session;
-    let here = session.here;
     lines::print_start(c.value, r.value, size);
-    lines::print_told(answer.refusal, answer.count, here.position);
+    lines::print_told(started.answer, session.here);
     io::write_all(1, b"\n");
     session
 }
@@ -102,7 +100,7 @@ fn play_move(s: Session, t: &[u8]) -> Session {
     }
     io::write_all(1, b"  move");
     let step = moved(s, to.value as u64);
-    lines::print_step(step);
+    lines::print_told(step.answer, step.here);
     io::write_all(1, b"\n");
     after(s, step)
 }
@@ -114,13 +112,19 @@ fn play_advance(s: Session, t: &[u8]) -> Session {
         lines::print_malformed();
         return s;
     }
-    io::write_all(1, b"  advance");
     let mut out = [0; 128];
     let n = a.count;
-    let step = advanced(s, &input[..n], &mut out[..n]);
-    lines::print_step(step);
-    lines::print_bytes(&out[..n]);
-    after(s, step)
+    advance_into(s, &input[..n], &mut out[..n])
+}
+
+fn advance_into(s: Session, input: &[u8], out: &mut [u8]) -> Session {
+    io::write_all(1, b"  advance");
+    let done = advance_copy(s, input, out);
+    let answer = done.answer;
+    let session = done.session;
+    lines::print_told(answer, session.here);
+    lines::print_bytes(out);
+    session
 }
 
 fn after(s: Session, step: Step) -> Session {
