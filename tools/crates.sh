@@ -130,9 +130,18 @@ check() {
         at[$1] == "promises" && at[$2] !~ /^(cipher|promises)$/ || at[$1] == "engines" && at[$2] == "products"' \
         "$room/listed" "$room/said" >"$room/wrong"
     hold "no crate stands on a higher floor" "$room/wrong"
+    # An export that is named after no engine, as that of sessions, is of the first engine that it stands on.
     awk 'function engine(name) { split(name, part, "_"); return part[2] == "station" ? part[3] : part[2] }
-        FNR == NR { if ($1 == "floor") floor = $2; else at[$2] = floor; next }
-        at[$2] == "engines" && engine($2) != "engine" && engine($1) != engine($2) && (at[$1] == "engines" || $1 ~ /^fox_station_/)' \
+        function own(name) {
+            if (!(engine(name) in engines) && !(name in first)) first[name] = engine($2)
+            return name in first ? first[name] : engine(name)
+        }
+        FNR == NR {
+            if ($1 == "floor") floor = $2; else at[$2] = floor
+            if ($1 != "floor" && floor == "engines") engines[engine($2)]
+            next
+        }
+        at[$2] == "engines" && engine($2) != "engine" && (at[$1] == "engines" || $1 ~ /^fox_station_/) && own($1) != engine($2)' \
         "$room/listed" "$room/said" >"$room/wrong"
     hold "no engine, and no export of one, stands on another" "$room/wrong"
     named >"$room/wrong"
