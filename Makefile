@@ -43,9 +43,9 @@ help:
 	@echo "make uninstall  takes these files away again"
 	@echo "make clean      takes away all that was made"
 
-# What is proved: the calls of either engine, those that need none, and those on run files. The exports that the tests measure are no part of the
-# library.
-CALLS = $(OUT)/fox_station_card.o $(OUT)/fox_station_server.o $(OUT)/fox_station_counter.o $(OUT)/fox_station_file.o
+# What is proved: the calls of either engine, those that need none, and those on sessions and run files. The exports that the tests measure are no
+# part of the library.
+CALLS = $(OUT)/fox_station_card.o $(OUT)/fox_station_server.o $(OUT)/fox_station_counter.o $(OUT)/fox_station_session.o $(OUT)/fox_station_file.o
 # What is not: the refusals' texts, and the wiping of the stack, as deep as the deepest call that the library has.
 TEXTS = $(OUT)/fox_refusal_text.o
 WIPE = $(OUT)/fox_wipe.o
@@ -63,7 +63,7 @@ $(WIPE) $(WIPE_CARD): c/fox_wipe.c include/fox.h tools/build.sh
 	$(BUILD) object $@ $< -DDEEPEST=$(deepest) -fstack-clash-protection
 
 $(OUT)/libfox.a: $(CALLS) $(TEXTS) $(WIPE)
-$(OUT)/libfox_card.a: $(filter-out %_server.o %_file.o,$(CALLS)) $(TEXTS) $(WIPE_CARD)
+$(OUT)/libfox_card.a: $(filter-out %_server.o %_session.o %_file.o,$(CALLS)) $(TEXTS) $(WIPE_CARD)
 $(OUT)/libfox_probe.a: $(OUT)/fox_check_probe.o
 
 $(OUT)/%.a:

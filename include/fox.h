@@ -1,7 +1,7 @@
 /* FOX64 and FOX128 for the station's C programs: one block sealed or opened, any stretch of a run in CTR
- * mode, the tag of a message made and tested, and run files written and read. Link with libfox.a or libfox.so.
- * libfox_card.a has all but the calls named fox_server_ and fox_file_, in less than a tenth of the code. C99 and
- * C++.
+ * mode, a session on a run that is sealed or opened a few bytes at a time, the tag of a message made and tested,
+ * and run files written and read. Link with libfox.a or libfox.so. libfox_card.a has all but the calls named
+ * fox_server_, fox_session_ and fox_file_, in less than a tenth of the code. C99 and C++.
  *
  * To seal safely:
  *
@@ -21,7 +21,7 @@
  *   them it cannot be opened.
  * - Tag what was sealed, and test the tag before opening it (fox_card_make_tag and the calls after it), or put
  *   it into a run file, which has its tag in it (fox_file_write and the calls after it).
- * - Wipe keys when they are done with (fox_wipe, fox_wipe_stack).
+ * - Wipe keys, and sessions, which have round keys in them, when they are done with (fox_wipe, fox_wipe_stack).
  *
  * The users' words, and what the field says:
  *
@@ -31,6 +31,11 @@
  *   stretch        consecutive bytes of a run, from any offset on
  *   counter block  CTR's initial counter block; the run's later blocks take the counter blocks after it
  *   key stream     the encrypted counter blocks, one after the other, with which the run is XORed
+ *   session        an open run: key, counter block, position and block in use, kept from call to call in words
+ *                  that the caller lends
+ *   position       where a session stands: the offset of the byte that comes next
+ *   block in use   the sealed counter block that a session's position is in; bytes inside it are XORed with it,
+ *                  and nothing is sealed for them
  *   message        the bytes that a tag is made over, such as the sealed bytes of a run
  *   tag            the CMAC of a message (NIST SP 800-38B), as long as the block: whoever has the key sees by
  *                  it whether the message was changed
@@ -38,42 +43,50 @@
  *   run file       a run as a file, scan after scan, with its cipher, rounds, counter block and tag
  *   place          where the next scan of a run file stands, once it was taken up
  *   engine         an implementation: card, with little memory, and server, with much
- *   prepared key   the expanded key, which is all round keys; the server engine makes it in each call
+ *   prepared key   the expanded key, which is all round keys; the server engine makes it in each call, and a
+ *                  session keeps it
  *   refusal        an error number from 1 on; 0 is success
  *   count          the number of bytes written, which the answer tells: the output's length for a call that
- *                  answers 0, and 0 for any other; a test of a tag has no output, and count 0 always. Calls on
- *                  run files put it where they are told to: the length of the file that was written, or of the
- *                  scan that was read, and 0 where no scan was left; fox_file_size writes no file, and puts
- *                  there how long it would be
+ *                  answers 0, and 0 for any other; a test of a tag, and a start or a move of a session, has no
+ *                  output, and count 0 always. Calls on run files put it where they are told to: the length of
+ *                  the file that was written, or of the scan that was read, and 0 where no scan was left;
+ *                  fox_file_size writes no file, and puts there how long it would be
  *
  * The card engine (fox_card_...) and the server engine (fox_server_...) do the same work: they give the
  * same answer and the same bytes for the same parameters, so what one seals the other opens, and a tag that
  * one makes the other tests. The card engine keeps no list of round keys and no large table, and is slow.
  * The server engine expands the key and makes its tables once in a call, and is fast on many blocks; for one
- * block these preparations are most of the work.
+ * block these preparations are most of the work. A session (fox_session_...) works by the server engine, and
+ * gives the same bytes too: it expands the key once, when it is started, and after that makes tables only in a
+ * call that leaves the block in use.
  *
- * Every call of an engine, fox_counter, and every call on a run file that gives a count or takes a file up,
- * answers FOX_SERVED, which is 0, or the number of the first refusal below that applies. Order for run files:
+ * Every call of an engine or on a session, fox_counter, and every call on a run file that gives a count or takes
+ * a file up, answers FOX_SERVED, which is 0, or the number of the first refusal below that applies. Order for
+ * sessions: fox_session_start 1, 2, 3, 4; fox_session_advance 1, 2, 3, 5, 6, 7; fox_session_move 1, 2, 3, 7,
+ * where 1, 2 and 3 are for words that no served start has filled, and are 1 after a refused one. For run files:
  * fox_file_size 1, 2, 12; fox_file_write 1, 2, 3, 4, 12, 6; fox_file_take_up 1, 2, 3, 11, 12, 10; fox_file_read
  * 1, 2, 3, 4, 6, 7, but where no scan is left it answers 0 and looks at nothing else, so that even a wrong
  * cipher is not refused there. A served call has written all of `out`, or of the `tag` or `counter` that it
  * makes; but fox_file_write only as much of `out` as it counts, and fox_file_read nothing where no scan is left.
- * A refused call has written nothing, but for a count of 0, or a place where no scan is left. fox_refusal_text
- * has a sentence for each number.
+ * A refused call has written nothing, but for a count of 0, a place where no scan is left, or the zeros of a
+ * session that was not started. fox_refusal_text has a sentence for each number.
  *
- *    1  FOX_REFUSED_CIPHER      cipher is neither 64 nor 128
+ *    1  FOX_REFUSED_CIPHER      cipher is neither 64 nor 128; or the start of this session was refused
  *    2  FOX_REFUSED_ROUNDS      rounds is below 12 or above 255 (not fox_counter)
  *    3  FOX_REFUSED_KEY         key_len is above 32 (not fox_counter and fox_file_size, which have no key)
  *    4  FOX_REFUSED_BLOCK       block_len, or counter_len, is not the cipher's block: 8 for FOX64, 16 for
- *                               FOX128 (blocks, runs, fox_counter and fox_file_write); or no counter block
- *                               stands where a header of this cipher and these rounds would have it
- *                               (fox_file_read with other settings than at take-up)
- *    5  FOX_REFUSED_DATA        a run's data_len is above 65,536, or message_len is above 1,073,741,824
- *    6  FOX_REFUSED_OUTPUT      out_len is not block_len, or not data_len; for a tag that is made, tag_len is
- *                               not the cipher's block; out_len is below the length of the file that is to be
+ *                               FOX128 (blocks, runs, fox_counter, fox_session_start and fox_file_write); or
+ *                               no counter block stands where a header of this cipher and these rounds would
+ *                               have it (fox_file_read with other settings than at take-up)
+ *    5  FOX_REFUSED_DATA        a run's data_len, or an advance's input_len, is above 65,536, or message_len is
+ *                               above 1,073,741,824
+ *    6  FOX_REFUSED_OUTPUT      out_len is not block_len, data_len or input_len; for a tag that is made, tag_len
+ *                               is not the cipher's block; out_len is below the length of the file that is to be
  *                               written, or is not that of the scan that is to be read
- *    7  FOX_REFUSED_END         offset + data_len, as a sum that does not wrap, is above 1,073,741,824 (runs;
- *                               fox_file_read at a place that take-up, reading and skipping did not give)
+ *    7  FOX_REFUSED_END         offset + data_len, or the session's position + input_len, as a sum that does not
+ *                               wrap, is above 1,073,741,824, or the position that a session is to move to is
+ *                               (runs and sessions; fox_file_read at a place that take-up, reading and skipping
+ *                               did not give)
  *    8  FOX_REFUSED_SHEET       the bench program's sheet is malformed; no call here answers it
  *    9  FOX_REFUSED_TAG_LENGTH  for a tag that is tested, tag_len is not the cipher's block
  *   10  FOX_REFUSED_TAG         the tag that is tested is not that of the message; the tag in the file that is
@@ -88,43 +101,46 @@
  * What a caller has to see to, since nothing checks it:
  *
  * - Each pointer has as many bytes behind it as its length says, with any alignment; `lengths` has as many
- *   numbers behind it as there are scans, `place` three and `count` one, all aligned as a uint64_t is. This
- *   holds for refused calls too.
+ *   numbers behind it as there are scans, `place` three, `session` FOX_SESSION_WORDS and `count` one, all
+ *   aligned as a uint64_t is. This holds for refused calls too.
  * - No pointer is NULL, not even with a length of 0: the proofs are about references, and those are never
  *   NULL. With a length of 0 nothing is read or written there, so any other address will do, such as that
  *   of any variable; malloc(0) will not, since it may answer NULL.
- * - `out` overlaps none of key, block, counter, data, lengths and file, so nothing is sealed in place; a `tag`
- *   that is made overlaps neither key nor message. `count`, and a `place` that is set or moved on, overlap
- *   nothing else that the call is lent. All others, a tag that is tested among them, are only read, and may
- *   overlap one another.
+ * - `out` overlaps none of key, block, counter, data, input, lengths and file, so nothing is sealed in place; a
+ *   `tag` that is made overlaps neither key nor message. `count`, `session`, and a `place` that is set or moved
+ *   on, overlap nothing else that the call is lent. All others, a tag that is tested among them, are only read,
+ *   and may overlap one another.
  * - While a call runs, no other thread writes to what it reads, and none reads or writes its `out`, its
- *   `count`, the `place` that it sets or moves on, or the `tag` that it makes.
+ *   `count`, its `session`, the `place` that it sets or moves on, or the `tag` that it makes. So let each
+ *   session be one thread's, or hold a lock around every call on it.
  *
- * The calls keep no state, allocate nothing and make no system calls, so several threads may call at once.
- * Of the C library they use memcpy and memset alone. A call by the card engine takes less than FOX_CARD_STACK
- * bytes of stack, which is 1 KiB. A call by the server engine has its tables and round keys there, and takes
- * less than FOX_SERVER_STACK, which is 40 KiB. So does a call on a run file, which does its work by that
- * engine.
+ * The calls keep no state but in a `place` or `session` that they are lent, allocate nothing and make no system
+ * calls, so several threads may call at once. Of the C library they use memcpy and memset alone. A call by the
+ * card engine takes less than FOX_CARD_STACK bytes of stack, which is 1 KiB. A call by the server engine has its
+ * tables and round keys there, and takes less than FOX_SERVER_STACK, which is 40 KiB. So does a call on a session
+ * or on a run file, which does its work by that engine.
  *
  * Left out: protection against timing measurement; nothing of it is promised. What is measured, of the code
  * that the tests run on: calls by the card engine with the same cipher, rounds, lengths, offset and counter
  * block take the same instructions, and read and write at the same addresses, for all keys, blocks, data and
  * messages that are tried; a test of a tag does so for all right tags, and for all wrong ones. Addresses are
  * seen only for the machine's own processor, and where valgrind is. How long an instruction takes is not
- * looked at. The server engine reads its tables at places that depend on key and data bytes.
+ * looked at. The server engine, and so sessions and run files, reads its tables at places that depend on key and
+ * data bytes.
  *
  * Opening does not detect a wrong key, counter block or round count, or sealed bytes that were changed: it
  * then gives other bytes. That sealed bytes were changed, a tag over them tells, where one was made and is
  * tested before opening, as is done when a run file is taken up. And no call wipes what it leaves behind: the
  * server engine's round keys, and the card engine's key and mixed key, stay in the stack below the caller until
- * something else is written there; fox_wipe_stack wipes them. What stays even then is named there. */
+ * something else is written there; fox_wipe_stack wipes them. A session's words have round keys in them as long
+ * as it lasts; fox_wipe wipes those. What stays even then is named there. */
 #ifndef FOX_H
 #define FOX_H
 
 #include <stddef.h>
 #include <stdint.h>
 
-#define FOX_VERSION "0.3.0"
+#define FOX_VERSION "0.4.0"
 
 /* What the compiler is told of the calls, where it knows the words: that no pointer is NULL, that the answer is to
  * be looked at, and which parameter is the length of what is read or written. */
@@ -175,6 +191,7 @@ enum {
     FOX_MOST_SCAN = 65536,
     FOX_MOST_FILE = 1073741824, /* before the line `close` */
     FOX_PLACE_WORDS = 3,
+    FOX_SESSION_WORDS = 518,
     FOX_CARD_STACK = 1024,
     FOX_SERVER_STACK = 40960
 };
@@ -243,6 +260,62 @@ uint32_t fox_server_run(uint32_t cipher, uint32_t rounds, const uint8_t *key, si
                         const uint8_t *counter, size_t counter_len, uint64_t offset,
                         const uint8_t *data, size_t data_len, uint8_t *out, size_t out_len)
     FOX_ON_RUN;
+
+/* A session: a run that is kept open, and sealed or opened a few bytes at a time, as a live display does it. It
+ * keeps the prepared key, the counter block that the run begins with, the position and the block in use, in
+ * FOX_SESSION_WORDS words that the caller lends. Bytes inside the block in use are XORed with it, and nothing is
+ * sealed for them; for those beyond it the server engine works as in fox_server_run, the key being prepared.
+ * Answers and bytes depend on key, counter block and position alone: they are those of fox_server_run with the
+ * position as the offset.
+ *
+ * fox_session_start sets the words to a session at position 0, whatever they were. The refusals are 1 to 4, and
+ * with any of them all words are set to zero, so that every other call on them is refused with 1.
+ *
+ * fox_session_advance seals or opens the next bytes, as many as the input has, and moves the position on by their
+ * number. The refusals are 5, 6 and 7.
+ *
+ * fox_session_move sets the position, forwards or back. The refusal is 7, for a position above 1,073,741,824. That
+ * one itself, the end of the longest run, can be moved to; only advances of 0 bytes are served there.
+ *
+ * A refused advance or move changes nothing, neither the words nor the output, and the session can go on. For
+ * another key or counter block start another session, over the same words if you like.
+ *
+ *   uint64_t session[FOX_SESSION_WORDS];
+ *   uint32_t refusal = fox_session_start(cipher, rounds, key, key_len, counter, counter_len, session);
+ *   while (refusal == FOX_SERVED && (length = next_bytes(input)) > 0) {
+ *       refusal = fox_session_advance(session, input, length, out, length);
+ *       if (refusal == FOX_SERVED)
+ *           show(out, length);
+ *   }
+ *   fox_wipe(session, sizeof session);
+ *   fox_wipe_stack();
+ *
+ * A session that seals is not to move back and seal other data there: whoever has both sealed stretches can XOR
+ * them, and gets the XOR of the two plain texts.
+ *
+ * The words are as secret as the key: they have all round keys in them, and some of the key stream. Wipe them, and
+ * every copy of them, when the session is done with: fox_wipe(session, sizeof session) where `session` is the array
+ * itself, and FOX_SESSION_WORDS * sizeof *session as the length where it is a pointer. What the calls leave in the
+ * stack fox_wipe_stack wipes.
+ *
+ * cipher, rounds, key, key_len  as for a block; the key is not needed after the start
+ * counter, counter_len          the counter block that the run begins with, as for a run
+ * session                       FOX_SESSION_WORDS words, which are 4,144 bytes. What each of them is for is not
+ *                               told, and may change with the library's version. A copy of them is a session of
+ *                               its own, at the same position. Only words that a start has filled and these calls
+ *                               alone have changed are good. Of any others nothing is promised but that the calls
+ *                               end, and read and write nothing outside what they were lent
+ * input, input_len              0 to 65,536 bytes; position + input_len is at most 1,073,741,824
+ * out, out_len                  as long as the input
+ * position                      0 to 1,073,741,824: the offset of the byte that is to come next */
+uint32_t fox_session_start(uint32_t cipher, uint32_t rounds, const uint8_t *key, size_t key_len,
+                           const uint8_t *counter, size_t counter_len, uint64_t session[FOX_SESSION_WORDS])
+    FOX_NONNULL FOX_ANSWERS FOX_READS(3, 4) FOX_READS(5, 6);
+uint32_t fox_session_advance(uint64_t session[FOX_SESSION_WORDS], const uint8_t *input, size_t input_len,
+                             uint8_t *out, size_t out_len)
+    FOX_NONNULL FOX_ANSWERS FOX_READS(2, 3) FOX_WRITES(4, 5);
+uint32_t fox_session_move(uint64_t session[FOX_SESSION_WORDS], uint64_t position)
+    FOX_NONNULL FOX_ANSWERS;
 
 /* The counter block that a run begins with, from a number that the run has: the number, big-endian, stands in
  * the four bytes before the last four, and zeros in all others. Runs of up to 1,073,741,824 bytes whose
@@ -388,14 +461,14 @@ void fox_file_skip(const uint8_t *file, size_t file_len, uint64_t place[FOX_PLAC
 /* Wiping, which is C code and not proved; the tests look for keys in the stack after each call, and find none
  * once it was wiped.
  *
- * fox_wipe sets bytes to zero, and is not left out by a compiler that sees no use in it: for keys, and for
- * opened data that is done with. fox_wipe_stack sets to zero what is below its caller's own part of the stack,
- * as deep as a call of the library may go: FOX_SERVER_STACK bytes, also after calls by the card engine alone,
- * and from libfox_card.a FOX_CARD_STACK. It takes so much stack itself, and less than 64 bytes more. Call it in
- * the very function that made the calls, after the last of them and in the same thread.
+ * fox_wipe sets bytes to zero, and is not left out by a compiler that sees no use in it: for keys, for the words
+ * of a session, and for opened data that is done with. fox_wipe_stack sets to zero what is below its caller's own
+ * part of the stack, as deep as a call of the library may go: FOX_SERVER_STACK bytes, also after calls by the card
+ * engine alone, and from libfox_card.a FOX_CARD_STACK. It takes so much stack itself, and less than 64 bytes more.
+ * Call it in the very function that made the calls, after the last of them and in the same thread.
  *
- * What stays: the caller's own copies of a key, which fox_wipe is for; processor registers, until other work
- * overwrites them; and what the system has copied, as memory that was swapped out, a core dump, or the
+ * What stays: the caller's own copies of a key or of a session, which fox_wipe is for; processor registers, until
+ * other work overwrites them; and what the system has copied, as memory that was swapped out, a core dump, or the
  * registers that it saved when it switched to another thread. */
 void fox_wipe(void *bytes, size_t length) FOX_NONNULL FOX_WRITES(1, 2);
 void fox_wipe_stack(void);

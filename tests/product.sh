@@ -1,7 +1,7 @@
 #!/bin/sh
 # Tests what a C programmer gets: the header, the libraries, the texts, the examples in README.md, the installed files, the
-# programs stretch and runfile and, on the machine's own processor, what make shows and says. Each check counts one; what a missing
-# optional tool makes impossible is said and left out.
+# programs stretch, runfile and display and, on the machine's own processor, what make shows and says. Each check counts one;
+# what a missing optional tool makes impossible is said and left out.
 # Last line: 'N passed, M failed'.
 set -u
 cd "$(dirname "$0")/.." || exit 2
@@ -24,5 +24,6 @@ strict='-Wall -Wextra -Wpedantic -Wshadow -Wconversion -Werror'
 . tests/product/trouble.sh
 . tests/product/progress.sh
 . tests/product/runfile.sh
+. tests/product/display.sh
 [ "$PROCESSOR" != "$MACHINE" ] || . tests/product/commands.sh
 close_sum

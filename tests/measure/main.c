@@ -7,6 +7,7 @@ int main(void)
     tally_begin("measure");
     instructions();
     stacks();
+    session_stacks();
     file_stacks();
     return tally_end();
 }

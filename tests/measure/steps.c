@@ -1,5 +1,6 @@
-/* Counts the instructions that one more block takes by the server, alone, in a run and in a tag, and those of a run from
- * two counters, by running a child one instruction at a time, where the system lets it be stepped through. */
+/* Counts the instructions that one more block takes by the server, alone, in a run, in a session and in a tag, those of
+ * a run from two counters, and those of a session inside its block in use, by running a child one instruction at a
+ * time, where the system lets it be stepped through. */
 #define _GNU_SOURCE
 #include "count.h"
 #include "fox.h"
@@ -16,7 +17,7 @@
 uint32_t fox_probe_again64(const uint64_t *keys, uint32_t blocks, uint32_t l, uint32_t r);
 uint32_t fox_probe_again128(const uint64_t *keys, uint32_t blocks, uint32_t a, uint32_t b, uint32_t c, uint32_t d);
 
-enum { INSTRUCTIONS_64 = 1500, INSTRUCTIONS_128 = 3000 };
+enum { INSTRUCTIONS_64 = 1500, INSTRUCTIONS_128 = 3000, INSTRUCTIONS_INSIDE = 500 };
 #ifdef __aarch64__
 enum { RUN_INSTRUCTIONS_64 = 740, RUN_INSTRUCTIONS_128 = 1600 };
 enum { TAG_INSTRUCTIONS_64 = 750, TAG_INSTRUCTIONS_128 = 1520 };
@@ -53,6 +54,25 @@ static uint32_t server_run(uint32_t bits, uint32_t bytes)
 static uint32_t server_tag(uint32_t bits, uint32_t bytes)
 {
     return fox_server_make_tag(bits, 16, key, 16, input, bytes, out, bits / 8);
+}
+
+static uint64_t session[FOX_SESSION_WORDS];
+
+static uint32_t start(uint32_t bits, uint32_t rounds)
+{
+    return fox_session_start(bits, rounds, key, 16, counter, bits / 8, session);
+}
+
+static uint32_t advance(uint32_t bits, uint32_t bytes)
+{
+    (void)bits;
+    return fox_session_advance(session, input, bytes, out, bytes);
+}
+
+static uint32_t move(uint32_t bits, uint32_t position)
+{
+    (void)bits;
+    return fox_session_move(session, position);
 }
 
 /* The instructions of a child that does the job; -1 where a child cannot be stepped through. */
@@ -120,6 +140,29 @@ static void of_carries(uint32_t bits)
            (unsigned)bits, none, all);
 }
 
+/* Inside the block in use nothing is sealed: the rounds make no difference, and the instructions are few. */
+static void of_inside(work *job, const char *what, uint32_t bits)
+{
+    int served = start(bits, FOX_LEAST_ROUNDS) == FOX_SERVED && job(bits, 2) == FOX_SERVED;
+    long none = steps(nothing, bits, 2), few = steps(job, bits, 2) - none;
+    served = served && start(bits, FOX_MOST_ROUNDS) == FOX_SERVED && job(bits, 2) == FOX_SERVED;
+    long many = steps(job, bits, 2) - none;
+    figure(served && few > 0 && few == many && few < INSTRUCTIONS_INSIDE,
+           "instructions of %s inside the block in use of a FOX%u session: %ld with %d rounds, %ld with %d, to stay below %d",
+           what, (unsigned)bits, few, FOX_LEAST_ROUNDS, many, FOX_MOST_ROUNDS, INSTRUCTIONS_INSIDE);
+}
+
+/* Beyond it a block costs what it does in a run. */
+static void of_session(uint32_t bits, long limit)
+{
+    of_inside(advance, "an advance of 2 bytes", bits);
+    of_inside(move, "a move", bits);
+    if (start(bits, 16) == FOX_SERVED)
+        of_bytes(advance, "in a session", bits, limit);
+    else
+        figure(0, "a FOX%u session was not started", (unsigned)bits);
+}
+
 void instructions(void)
 {
     for (size_t i = 0; i < COUNT(keys); i++)
@@ -137,6 +180,8 @@ void instructions(void)
     of_bytes(server_run, "in the server's run", FOX128, RUN_INSTRUCTIONS_128);
     of_carries(FOX64);
     of_carries(FOX128);
+    of_session(FOX64, RUN_INSTRUCTIONS_64);
+    of_session(FOX128, RUN_INSTRUCTIONS_128);
     of_bytes(server_tag, "in the server's tag", FOX64, TAG_INSTRUCTIONS_64);
     of_bytes(server_tag, "in the server's tag", FOX128, TAG_INSTRUCTIONS_128);
 }

@@ -38,18 +38,20 @@ symbols() { # LIBRARY EXPRESSION WORDS..: those of nm
     same_text '' "$(grep -v -x -e memcpy -e memset "$room/wanted")"
 }
 
-# The tests' table of engines, its verbs, and those of run files leave out no call of the header but the few that are named
-# here, each of which has a test of its own.
+# The tests' table of engines, its verbs, and those of sessions and run files leave out no call of the header but the few that
+# are named here, each of which has a test of its own.
 every_call() {
     same_text "$(declared . | grep -v -x -e fox_refusal_text -e fox_counter -e fox_wipe -e fox_wipe_stack)" \
-        "$({ run_host "$room/calls" names && sed -n 's/^    \[FILE_.* = {"\([a-z_]*\)",.*/fox_\1/p' $c/file_call.c; } | sort)"
+        "$({ run_host "$room/calls" names && sed -n 's/^    \[SESSION_.* = "\([a-z_]*\)",$/fox_\1/p' $c/session_call.c &&
+            sed -n 's/^    \[FILE_.* = {"\([a-z_]*\)",.*/fox_\1/p' $c/file_call.c; } | sort)"
 }
 
 # A program that keeps to the header is compiled without a word; the compiler tells of an answer that is not looked at, of
 # NULL, and of a buffer that is shorter than its length, where it knows how to.
 told_by_compiler() { # WORD LINE: the warning, and the line of the program that it is for
     printf '%s\n' '#include "fox.h"' 'uint32_t f(void);' 'uint32_t f(void)' '{' '    uint8_t b[8] = {0}, o[8], s[4] = {0};' \
-        '    uint64_t n[2] = {0}, p[3] = {0}, c;' '    (void)s, (void)o, (void)n, (void)p, (void)c;' "    $2" '}' >"$room/warned.c"
+        '    uint64_t n[2] = {0}, p[3] = {0}, w[FOX_SESSION_WORDS] = {0}, c;' \
+        '    (void)s, (void)o, (void)n, (void)p, (void)w, (void)c;' "    $2" '}' >"$room/warned.c"
     $CC_HOST -std=c99 -O2 -Wall -Wextra -Iinclude -c -o "$room/warned.o" "$room/warned.c" 2>"$room/error" || return 1
     cat "$room/error"
     if [ -z "$1" ]; then
@@ -63,15 +65,21 @@ warned_of() {
     told_by_compiler '' 'return fox_card_seal_block(FOX64, 16, b, 8, b, 8, o, 8);' &&
         told_by_compiler unused-result 'fox_card_seal_block(FOX64, 16, b, 8, b, 8, o, 8); return 0;' &&
         told_by_compiler '' 'return fox_file_read(FOX64, 16, b, 8, b, 8, p, o, 8, &c);' &&
+        told_by_compiler '' 'return fox_session_start(FOX64, 16, b, 8, b, 8, w) | fox_session_advance(w, b, 8, o, 8);' &&
         told_by_compiler unused-result 'fox_counter(FOX64, 1, o, 8); return 0;' &&
+        told_by_compiler unused-result 'fox_session_move(w, 1); return 0;' &&
         told_by_compiler unused-result 'fox_file_take_up(FOX64, 16, b, 8, b, 8, p); return 0;' &&
         told_by_compiler nonnull 'return fox_file_size(FOX64, 16, n, 2, NULL);' &&
         told_by_compiler nonnull 'return fox_server_run(FOX64, 16, NULL, 0, b, 8, 0, b, 8, o, 8);' &&
+        told_by_compiler nonnull 'return fox_session_advance(w, NULL, 0, o, 0);' &&
         told_by_compiler nonnull 'return fox_card_test_tag(FOX64, 16, b, 8, b, 8, NULL, 8);' || return 1
     case $($CC_HOST --version) in *clang*) return 0 ;; esac
     told_by_compiler stringop-overflow 'return fox_card_make_tag(FOX64, 16, b, 8, b, 8, s, 8);' &&
         told_by_compiler stringop-overflow 'return fox_server_run(FOX64, 16, b, 8, b, 8, 0, b, 8, s, 8);' &&
         told_by_compiler stringop-overflow 'return fox_counter(FOX64, 1, s, 8);' &&
+        told_by_compiler stringop-overflow 'return fox_session_start(FOX64, 16, b, 8, b, 8, p);' &&
+        told_by_compiler stringop-overflow 'return fox_session_move(p, 1);' &&
+        told_by_compiler stringop-overflow 'return fox_session_advance(w, b, 8, s, 8);' &&
         told_by_compiler stringop-overflow 'return fox_file_take_up(FOX64, 16, b, 8, b, 8, n);' &&
         told_by_compiler stringop-overflow 'return fox_file_read(FOX64, 16, b, 8, b, 8, p, s, 8, &c);' &&
         told_by_compiler stringop-overread 'return fox_file_size(FOX64, 16, n, 3, &c);' &&
@@ -84,7 +92,7 @@ card_alone() {
     for library in libfox_card.a "libfox.a -Wl,--gc-sections"; do
         $CC_HOST -std=c99 -O1 $strict -Iinclude -o "$room/card" tests/product/card.c "$OUT/"$library || return 1
         same_text "B85D6B766DCE952E sealed and opened" "$(run_host "$room/card")" || return 1
-        ! $(tool nm) "$room/card" | grep fox_server || return 1
+        ! $(tool nm) "$room/card" | grep -E 'fox_(server|session)' || return 1
     done
     text=$(text_of "$OUT/libfox_card.a")
     echo "the card's library has $text bytes of code and constants"

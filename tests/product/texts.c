@@ -9,14 +9,14 @@
 #include <string.h>
 
 static const char *const named[][6] = {
-    [FOX_SERVED] = {"Served", "output", "written", "tag", "no scan left"},
-    [FOX_REFUSED_CIPHER] = {"cipher", "64", "128"},
+    [FOX_SERVED] = {"Served", "output", "written", "tag", "no scan left", "session"},
+    [FOX_REFUSED_CIPHER] = {"cipher", "64", "128", "session", "start"},
     [FOX_REFUSED_ROUNDS] = {"rounds", "12", "255"},
     [FOX_REFUSED_KEY] = {"key", "32 bytes"},
     [FOX_REFUSED_BLOCK] = {"block", "counter", "8 bytes", "16 bytes", "rounds", "taken up"},
     [FOX_REFUSED_DATA] = {"data", "65,536", "message", "1,073,741,824"},
     [FOX_REFUSED_OUTPUT] = {"output", "input", "tag 8", "16", "scan", "file"},
-    [FOX_REFUSED_END] = {"run", "offset", "length", "1,073,741,824"},
+    [FOX_REFUSED_END] = {"run", "offset", "length", "1,073,741,824", "session's position"},
     [FOX_REFUSED_SHEET] = {"sheet", "line"},
     [FOX_REFUSED_TAG_LENGTH] = {"stored tag", "8 bytes", "16 bytes"},
     [FOX_REFUSED_TAG] = {"tag", "differs", "message", "key", "file"},

@@ -1,5 +1,5 @@
-/* Four threads make every engine's calls and those on run files at once, each with another cipher, key and offset, and
- * are to get the bytes that the same calls gave alone. */
+/* Four threads make every engine's calls and those on sessions and run files at once, each with another cipher, key and
+ * offset, and are to get the bytes that the same calls gave alone. */
 #define _GNU_SOURCE
 #include "call.h"
 #include "fox.h"
@@ -54,6 +54,23 @@ static int called(const struct caller *c, const struct engine *engine, uint8_t o
     return right;
 }
 
+/* The run again, by a session in words of the thread's own, in pieces of 1 to 29 bytes. */
+static int in_session(const struct caller *c)
+{
+    uint64_t session[FOX_SESSION_WORDS];
+    uint8_t out[LENGTH];
+    if (fox_session_start(c->cipher, c->rounds, c->key, c->key_len, c->first, block_of(c->cipher), session) !=
+            FOX_SERVED ||
+        fox_session_move(session, c->offset) != FOX_SERVED)
+        return 0;
+    for (size_t at = 0, piece = 1; at < LENGTH; at += piece, piece = piece % 29 + 1) {
+        piece = piece < LENGTH - at ? piece : LENGTH - at;
+        if (fox_session_advance(session, c->data + at, piece, out + at, piece) != FOX_SERVED)
+            return 0;
+    }
+    return memcmp(out, c->alone[RUN], LENGTH) == 0;
+}
+
 /* The data as a run file of two scans, written, taken up, and read. */
 static int filed(const struct caller *c, uint8_t *file)
 {
@@ -75,7 +92,7 @@ static int filed(const struct caller *c, uint8_t *file)
 static int again(const struct caller *c, const struct engine *engine)
 {
     uint8_t out[VERBS][LENGTH] = {{0}}, file[FILE_ROOM] = {0};
-    return called(c, engine, out) && memcmp(out, c->alone, sizeof out) == 0 && filed(c, file) &&
+    return called(c, engine, out) && memcmp(out, c->alone, sizeof out) == 0 && in_session(c) && filed(c, file) &&
            memcmp(file, c->file_alone, sizeof file) == 0;
 }
 
@@ -91,7 +108,7 @@ static void *call_often(void *caller)
 /* What the first engine gives alone, and every other one as well. */
 static int prepared(struct caller *c)
 {
-    int right = called(c, &engines[0], c->alone) && filed(c, c->file_alone);
+    int right = called(c, &engines[0], c->alone) && in_session(c) && filed(c, c->file_alone);
     for (size_t i = 1; i < ENGINES; i++)
         right = right && again(c, &engines[i]);
     return right;

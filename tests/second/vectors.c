@@ -1,6 +1,6 @@
-/* The second implementation by itself: 001's vectors, 01's known values and sheet, tags, run files, and the rows of
- * three files. Usage: vectors BLOCKS RUNS TAGS FILES. Last line: 'N passed, M failed', where each group of cases counts
- * as one. */
+/* The second implementation by itself: 001's vectors, 01's known values and sheet, sessions, tags, run files, and the
+ * rows of three files. Usage: vectors BLOCKS RUNS TAGS FILES. Last line: 'N passed, M failed', where each group of cases
+ * counts as one. */
 #include "check.h"
 #include "count.h"
 #include "hex.h"
@@ -258,6 +258,7 @@ int main(int count, char **words)
     sheets();
     rows(words[1], 5, 252, block_row);
     rows(words[2], 7, 112, run_row);
+    check_sessions(words[2]);
     check_tags(words[3]);
     check_files(words[4]);
     return tally_end();

@@ -1,12 +1,13 @@
 /* Looks for keys in the stack that a call has left behind: without fox_wipe_stack they are there, and after it none is.
- * Usage: left [ENGINE], for the calls of that engine alone; without it those on run files are made too. Last line: 'N
- * passed, M failed'. */
+ * Usage: left [ENGINE], for the calls of that engine alone; without it those on sessions and on run files are made too.
+ * Last line: 'N passed, M failed'. */
 #include "call.h"
 #include "count.h"
 #include "file_call.h"
 #include "fox.h"
 #include "painted.h"
 #include "parts.h"
+#include "session_call.h"
 #include "tally.h"
 
 #include <stdio.h>
@@ -20,7 +21,9 @@ static enum verb verb;
 static struct call call;
 static enum file_verb file_verb;
 static struct file_call file_call;
-static uint64_t place[FOX_PLACE_WORDS], count;
+static enum session_verb session_verb;
+static struct session_call session_call;
+static uint64_t place[FOX_PLACE_WORDS], count, words_of_session[FOX_SESSION_WORDS];
 static uint32_t answer;
 static int wiping;
 
@@ -35,6 +38,13 @@ static void caller(void)
 static void file_caller(void)
 {
     answer = (uint32_t)make_file_call(file_verb, &file_call);
+    if (wiping)
+        fox_wipe_stack();
+}
+
+static void session_caller(void)
+{
+    answer = make_session_call(session_verb, &session_call);
     if (wiping)
         fox_wipe_stack();
 }
@@ -59,11 +69,20 @@ static void prepare_file(uint32_t cipher, size_t key_len)
         c->out = out, c->out_len = (size_t)lengths[0];
 }
 
-/* How a call is prepared and made, by what name it goes, and what it answers. */
+/* The session is started before it is called; the call leads out of its first block. */
+static void prepare_session(uint32_t cipher, size_t key_len)
+{
+    session_call = (struct session_call){cipher, ROUNDS, key, key_len, first, block_of(cipher), words_of_session, data,
+                                         sizeof data, out, sizeof data, 1000};
+    answer = make_session_call(SESSION_START, &session_call);
+}
+
+/* How a call is prepared and made, by what name it goes, what it answers, and whether it may leave nothing behind. */
 struct made {
     void (*prepare)(uint32_t cipher, size_t key_len), (*make)(void);
     char name[40];
     uint32_t right;
+    int none;
 };
 
 /* Words that are left, of key and mixed key, and of round keys. */
@@ -93,7 +112,7 @@ static void one_call(const struct made *made)
     for (size_t i = 0; i < 2 * COUNT(key_lens); i++) {
         uint32_t cipher = i % 2 == 0 ? FOX64 : FOX128;
         struct left l = left_by(made, cipher, key_lens[i / 2], 0), w = left_by(made, cipher, key_lens[i / 2], 1);
-        some &= l.keys + l.round_keys > 0 && answer == made->right;
+        some &= (made->none || l.keys + l.round_keys > 0) && answer == made->right;
         without.keys += l.keys, without.round_keys += l.round_keys;
         after.keys += w.keys, after.round_keys += w.round_keys;
     }
@@ -105,15 +124,25 @@ static void one_call(const struct made *made)
 /* No tag that is tested here is right. */
 static void engine_call(void)
 {
-    struct made made = {prepare, caller, "", verb == TEST_TAG ? FOX_REFUSED_TAG : FOX_SERVED};
+    struct made made = {prepare, caller, "", verb == TEST_TAG ? FOX_REFUSED_TAG : FOX_SERVED, 0};
     snprintf(made.name, sizeof made.name, "%s_%s", engine->name, verbs[verb].name);
     one_call(&made);
+}
+
+/* A move seals one block, and may do so by the round keys where they are. */
+static void calls_on_sessions(void)
+{
+    for (session_verb = 0; session_verb < SESSION_VERBS; session_verb++) {
+        struct made made = {prepare_session, session_caller, "", FOX_SERVED, session_verb == SESSION_MOVE};
+        snprintf(made.name, sizeof made.name, "%s", session_verbs[session_verb]);
+        one_call(&made);
+    }
 }
 
 static void calls_on_files(void)
 {
     for (file_verb = 0; file_verb < FILE_VERBS; file_verb++) {
-        struct made made = {prepare_file, file_caller, "", FOX_SERVED};
+        struct made made = {prepare_file, file_caller, "", FOX_SERVED, 0};
         snprintf(made.name, sizeof made.name, "%s", file_verbs[file_verb].name);
         if (file_verbs[file_verb].has & HAS_KEY)
             one_call(&made);
@@ -139,6 +168,35 @@ static void one_array(void)
     }
     figure(left[0] == sizeof key / WORD && left[1] == 0,
            "of a key in an array of its caller's %zu words are left, and after fox_wipe %zu", left[0], left[1]);
+}
+
+/* A session in an array of its caller's, done with as fox.h says: of wiping the first bit is that of the stack, the
+ * second that of the words. */
+static void with_session(void)
+{
+    uint64_t session[FOX_SESSION_WORDS];
+    answer = fox_session_start(FOX128, ROUNDS, key, sizeof key, first, FOX128_BLOCK, session);
+    answer += fox_session_advance(session, data, sizeof data, out, sizeof data);
+    if (wiping & 1)
+        fox_wipe_stack();
+    if (wiping & 2)
+        fox_wipe(session, sizeof session);
+}
+
+static void one_session(void)
+{
+    uint8_t round_keys[ROUNDS * FOX128_BLOCK];
+    size_t left[4];
+    int right = 1;
+    second_round_keys(round_keys, FOX128_BLOCK, ROUNDS, key, sizeof key);
+    for (wiping = 0; wiping < 4; wiping++) {
+        on_painted_stack(with_session);
+        left[wiping] = words_left(round_keys, sizeof round_keys, WORD);
+        right &= answer == FOX_SERVED;
+    }
+    right &= left[0] == sizeof round_keys / WORD && left[1] == sizeof round_keys / WORD && left[3] == 0;
+    figure(right, "of a session's round keys %zu words are left, after fox_wipe_stack alone %zu, after fox_wipe alone %zu, "
+           "after both %zu", left[0], left[1], left[2], left[3]);
 }
 
 static void exactly(void)
@@ -181,8 +239,11 @@ int main(int word_count, char **words)
         for (verb = 0; verb < VERBS; verb++)
             engine_call();
     }
-    if (word_count == 1)
+    if (word_count == 1) {
+        calls_on_sessions();
         calls_on_files();
+        one_session();
+    }
     one_array();
     exactly();
     as_deep_as_said(deepest);
