@@ -15,12 +15,29 @@ alone() {
     "./$OUT/vectors" tests/vectors/block.csv tests/vectors/run.csv tests/vectors/tag.csv tests/vectors/files
 }
 
+# What fox_check_session is to print is what the plain machine tells of the same calls.
+played() {
+    listed=crates/fox_check_session
+    $CC_HOST -std=c11 -O1 -Wall -Wextra -Werror -I$c -o "$OUT/play" $s/play.c $s/session.c $second $helpers ||
+        failed_to second "tests/second/play.c was not built"
+    if "./$OUT/play" <$listed/stdin | cmp - $listed/stdout; then
+        echo "second: $listed/stdout is what the plain machine tells of its calls"
+        echo "1 passed, 0 failed"
+    else
+        echo "second: $listed/stdout is not what the plain machine tells of its calls: FAILED"
+        echo "0 passed, 1 failed"
+    fi
+}
+
 beside() { # [SEED]
     made second libfox.a
     built second compare tests/beside/*.c $second $guarded "$OUT/libfox.a"
     run_host "./$OUT/compare" "$@"
 }
 
-[ "$PROCESSOR" != "$MACHINE" ] || add "$log" alone
+if [ "$PROCESSOR" = "$MACHINE" ]; then
+    add "$log" alone
+    add "$log" played
+fi
 add "$log" beside "$@"
 close_sum

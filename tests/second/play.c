@@ -1,6 +1,7 @@
 /* Plays the calls on sessions that its input lists, by the plain machine, and prints what each told: what the program
  * fox_check_session is to print for the same lines. A session begins with four lines, `cipher`, `rounds`, `key` and
  * `counter`; a line `advance` has the next bytes, and a line `move` a position. */
+#include "hex.h"
 #include "session.h"
 
 #include <inttypes.h>
@@ -23,18 +24,6 @@ static char *value(const char *name, int next)
     return strncmp(line, name, len) == 0 && line[len] == '=' ? line + len + 1 : NULL;
 }
 
-static size_t bytes(const char *digits, uint8_t *out)
-{
-    size_t n = strlen(digits) / 2;
-    for (size_t i = 0; i < n && i < MOST_BYTES; i++) {
-        unsigned byte = 0;
-        if (sscanf(digits + 2 * i, "%2x", &byte) != 1)
-            return 0;
-        out[i] = (uint8_t)byte;
-    }
-    return n;
-}
-
 static void print_told(uint32_t refusal, size_t count, const struct second_session *s)
 {
     printf(" refusal=%u count=%zu position=%" PRIu64, (unsigned)refusal, refusal == 0 ? count : 0, s->position);
@@ -47,11 +36,11 @@ static int start(struct second_session *s, const char *cipher_text)
     char *text = value("rounds", 1);
     uint32_t rounds = text == NULL ? 0 : (uint32_t)strtoul(text, NULL, 10);
     char *digits = text == NULL ? NULL : value("key", 1);
-    size_t key_len = digits == NULL ? 0 : bytes(digits, key);
+    size_t key_len = digits == NULL ? 0 : hex_read(digits, key, sizeof key);
     char *block = digits == NULL ? NULL : value("counter", 1);
     if (block == NULL)
         return 0;
-    size_t counter_len = bytes(block, counter);
+    size_t counter_len = hex_read(block, counter, sizeof counter);
     uint32_t refusal = second_session_start(s, cipher, rounds, key, key_len, counter, counter_len);
     printf("start %u %u %zu:", (unsigned)cipher, (unsigned)rounds, key_len);
     print_told(refusal, 0, s);
@@ -70,7 +59,7 @@ static void move(struct second_session *s, const char *position)
 static void advance(struct second_session *s, const char *digits)
 {
     uint8_t input[MOST_BYTES], out[MOST_BYTES] = {0};
-    size_t n = bytes(digits, input);
+    size_t n = hex_read(digits, input, sizeof input);
     uint32_t refusal = second_session_advance(s, input, n, out, n);
     printf("  advance");
     print_told(refusal, n, s);

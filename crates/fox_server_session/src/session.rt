@@ -51,6 +51,15 @@ fn zeros() -> Session
     }
 }
 
+// A refused start.
+fn refused(refusal: u32) -> Started
+    ensures { λ r. ⌜ (r .answer .refusal ≡ refusal) × (r .answer .count ≡ 0) × (r .session ≡ noSession) ⌝ }
+{
+    let answer = Answer::refused(refusal);
+    let session = zeros();
+    Started { answer, session }
+}
+
 // From a prepared key: the session is that of the round keys it holds, also where the caller filled it.
 pub fn start(p: Prepared, counter: &[u8]) -> Started
     ensures { λ r. ⌜ Starts machineOf TrueOf noSession (p .cipher) (p .rounds) (p .«key_len») (roundKeysIn p) (now (counter .entry)) (r .answer)
@@ -58,9 +67,7 @@ pub fn start(p: Prepared, counter: &[u8]) -> Started
 {
     let refusal = for_run(p.cipher, p.rounds, p.key_len, counter.len(), 0, 0, 0);
     if refusal != 0 {
-        let answer = Answer::refused(refusal);
-        let session = zeros();
-        return Started { answer, session };
+        return refused(refusal);
     }
     let first = read_block(p.cipher, counter);
     let keys = p.keys;
@@ -82,9 +89,7 @@ pub fn start_from_key(cipher: u32, rounds: u32, key: &[u8], counter: &[u8]) -> S
 {
     let refusal = for_run(cipher, rounds, key.len(), counter.len(), 0, 0, 0);
     if refusal != 0 {
-        let answer = Answer::refused(refusal);
-        let session = zeros();
-        return Started { answer, session };
+        return refused(refusal);
     }
     let made = prepare(cipher, rounds, key);
     let p = made.key;

@@ -2,9 +2,9 @@
 // block is sealed.
 ghost use mathlib.Core.Path.{_≡_};
 ghost use mathlib.Core.List.{[]};
-ghost use Prim.Native.Nat.{_+_, _%_, _≤_, _<_};
+ghost use Prim.Native.Nat.{_+_, _%_, _≤_};
 ghost use lib.ListN.{length, take};
-ghost use Rattle.fox_refusals.specs.Refusals.{blockSize, Keyed};
+ghost use Rattle.fox_refusals.specs.Refusals.{blockSize};
 ghost use Rattle.fox_run.specs.Run.{runWith};
 ghost use Rattle.fox_session.specs.InUse.{blockIn, BlockAt};
 ghost use Rattle.fox_session.specs.Machine.{Advance, Move};
@@ -33,6 +33,14 @@ pub struct Basis {
 pub struct Step {
     pub answer: Answer,
     pub here: Here,
+}
+
+// A refused call: the session stays where it stands.
+fn refused(refusal: u32, here: Here) -> Step
+    ensures { λ r. ⌜ (r .answer .refusal ≡ refusal) × (r .answer .count ≡ 0) × (r .here ≡ here) ⌝ }
+{
+    let answer = Answer::refused(refusal);
+    Step { answer, here }
 }
 
 // The first 510 words.
@@ -158,8 +166,7 @@ pub fn advance(b: Basis, keys: &[u64], here: Here, input: &[u8], out: &mut [u8])
         out.len(),
     );
     if refusal != 0 {
-        let answer = Answer::refused(refusal);
-        return Step { answer, here };
+        return refused(refusal, here);
     }
     let block = pass(b, keys, here, input, out);
     let position = here.position + input.len() as u64;
@@ -179,8 +186,7 @@ pub fn move_to(b: Basis, keys: &[u64], here: Here, to: u64) -> Step
     let size = block_size(b.cipher);
     let refusal = for_run(b.cipher, b.rounds, b.key_len, size, to, 0, 0);
     if refusal != 0 {
-        let answer = Answer::refused(refusal);
-        return Step { answer, here };
+        return refused(refusal, here);
     }
     let block = renew(b, keys, here, to);
     let answer = Answer::served(0);

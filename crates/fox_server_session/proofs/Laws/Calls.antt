@@ -1,7 +1,7 @@
 -- What a call on a session promises, from what it did: a refused call returns the first refusal and leaves all as it was; a served one moves the position
 -- on, or sets it. And what a start promises: its session is at position 0 with the first block, or it is the session with no key.
 -- Assumes nothing.
-use mathlib.Core.Path.{_≡_, refl, sym, ap, _∙_}
+use mathlib.Core.Path.{_≡_, refl, sym, ap, subst, _∙_}
 use mathlib.Core.Logic.{⊎-elim}
 use mathlib.Core.List.{List, []}
 use Prim.Native.Nat.{ℕ, _+_}
@@ -26,8 +26,8 @@ use Rattle.fox_server_session.proofs.Laws.Blocks.{length-blockIn}
 
 module _ {S : Type 0} (machine : S → Machine) (True : S → Type 0) (s : S) where
   -- a call that code refuses with the number n, which it found to be other than 0
-  pub refused-call : (call : Call) {r : Answer} {n : ℕ} → n ≡ tells (machine s) call .refusal → (n ≡ 0 → ⊥) → (r .refusal ≡ n) × (r .count ≡ 0)
-      → Follows machine True s call (lent call) r s
+  pub refused-call : (call : Call) {r : Answer} {s' : S} {n : ℕ} → n ≡ tells (machine s) call .refusal → (n ≡ 0 → ⊥)
+      → (r .refusal ≡ n) × (r .count ≡ 0) × (s' ≡ s) → Follows machine True s call (lent call) r s'
   refused-call (Advance input out) e isnt refused =
       let m = machine s in
       let number = refusalOn m (m .position) (length input) (length out) in
@@ -36,20 +36,20 @@ module _ {S : Type 0} (machine : S → Machine) (True : S → Type 0) (s : S) wh
       record {
         refusal = refused .0 ∙ e;
         count = refused .1 ∙ none;
-        goes = ap (standing m) (sym (add-zero (m .position)) ∙ ap (λ (k : ℕ). m .position + k) none);
-        refused = λ z. (refl, refl);
+        goes = ap machine (refused .2) ∙ ap (standing m) (sym (add-zero (m .position)) ∙ ap (λ (k : ℕ). m .position + k) none);
+        refused = λ z. (refused .2, refl);
         bytes = λ t. passed-over number (runWith (m .cipher) (m .rks) (m .counter) (m .position) input) out refusal;
-        true = λ t. t;
+        true = λ t. subst True (sym (refused .2)) t;
       }
   refused-call (Move to) e isnt refused =
       let m = machine s in
       record {
         refusal = refused .0 ∙ e;
         count = refused .1;
-        goes = ap (standing m) (passed-over (refusalOn m to 0 0) to (m .position) (λ z. isnt (e ∙ z)));
-        refused = λ z. (refl, refl);
+        goes = ap machine (refused .2) ∙ ap (standing m) (passed-over (refusalOn m to 0 0) to (m .position) (λ z. isnt (e ∙ z)));
+        refused = λ z. (refused .2, refl);
         bytes = λ t. refl;
-        true = λ t. t;
+        true = λ t. subst True (sym (refused .2)) t;
       }
 
   pub served-advance : (input out : List ℕ) {after : List ℕ} {r : Answer} {s' : S}
@@ -108,16 +108,16 @@ in-session s call {output} {r} {next} basis words parts =
 module _ (cipher rounds keyLen : ℕ) (rks counter : List ℕ) where
   -- a start that code refuses with the number n, which it found to be other than 0. Its session's key is refused, as no cipher is 0
   pub refused-start : {r : Answer} {s : Session} {n : ℕ} → n ≡ refusalOf (forRun cipher rounds keyLen (length counter) 0 0 0) → (n ≡ 0 → ⊥)
-      → (r .refusal ≡ n) × (r .count ≡ 0) → s ≡ noSession → Starts machineOf TrueOf noSession cipher rounds keyLen rks counter r s
+      → (r .refusal ≡ n) × (r .count ≡ 0) × (s ≡ noSession) → Starts machineOf TrueOf noSession cipher rounds keyLen rks counter r s
   unfolding machineAt noSession noKey
-  refused-start e isnt refused none =
+  refused-start e isnt refused =
       record {
         refusal = refused .0 ∙ e;
         count = refused .1;
         served = λ z. absurd (isnt (sym (refused .0) ∙ z));
-        refused = λ z. none;
+        refused = λ z. refused .2;
         true = λ keyed.
-            let cipher = ap (λ (x : Session). x .key .cipher) none in
+            let cipher = ap (λ (x : Session). x .key .cipher) (refused .2) in
             absurd (⊎-elim (λ h. omega arith) (λ h. omega arith) (keyed .cipher));
       }
 

@@ -11,8 +11,8 @@ use Rattle.fox_server_session.proofs.session.start.Tie as tie
 
 returns : tie.Need-returns
 returns c =
-    let test = c .before .before in
-    refused-start _ _ _ _ _ (test .before .for-run .ensures) (test .if1 .taken) (c .before .refused .ensures) (c .zeros .ensures)
+    let test = c .before in
+    refused-start _ _ _ _ _ (test .before .for-run .ensures) (test .if1 .taken) (c .refused .ensures)
 
 read-block-requires : tie.Need-read-block-requires
 read-block-requires c κs = stretched _ _ _ _ _ _ _ (sym (c .before .for-run .ensures) ∙ c .if1 .left) .counter
@@ -34,5 +34,5 @@ returns-2 c =
 pub start-spec : {M : Type 1} → statement M
 start-spec =
     tie.close
-    (tie.spec (λ c κs. search needs) (λ c κs. search needs) (λ c κs. search needs) returns read-block-requires (λ c. search needs) block-at-requires
+    (tie.spec (λ c κs. search needs) (λ c κs. search needs) returns read-block-requires (λ c. search needs) block-at-requires
     (λ c κs. search needs) returns-2)

@@ -15,8 +15,8 @@ use Rattle.fox_server_session.proofs.session.start_from_key.Tie as tie
 
 returns : tie.Need-returns
 returns c =
-    let test = c .before .before in
-    refused-start _ _ _ _ _ (test .before .for-run .ensures) (test .if1 .taken) (c .before .refused .ensures) (c .zeros .ensures)
+    let test = c .before in
+    refused-start _ _ _ _ _ (test .before .for-run .ensures) (test .if1 .taken) (c .refused .ensures)
 
 returns-2 : tie.Need-returns-2
 returns-2 c =
@@ -30,4 +30,4 @@ returns-2 c =
 pub start-from-key-spec : {M : Type 1} → statement M
 start-from-key-spec =
     tie.close
-    (tie.spec (λ c κs. search needs) (λ c κs. search needs) (λ c κs. search needs) returns (λ c κs. search needs) (λ c κs. search needs) returns-2)
+    (tie.spec (λ c κs. search needs) (λ c κs. search needs) returns (λ c κs. search needs) (λ c κs. search needs) returns-2)
