@@ -9,7 +9,7 @@ use fox_server_session::session::Started;
 use fox_server_session::session::moved;
 use fox_server_session::session::start;
 use fox_server_session::session::start_from_key;
-use fox_server_session::step::Step;
+use fox_server_session_step::step::Step;
 use fox_session_in_place::advance_copy;
 use fox_text_lines::lines::after_line;
 use fox_text_lines::lines::rest;

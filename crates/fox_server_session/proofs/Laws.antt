@@ -1,4 +1,2 @@
--- Laws on the definitions of a session.
-pub mod Blocks
-pub mod Steps
-pub mod Calls
+-- Laws on a session as one value.
+pub mod Sessions

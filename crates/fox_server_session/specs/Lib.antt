@@ -1,2 +1,2 @@
--- A session of the server engine: the plain machine that it stands for, and what the parts of its calls promise each other.
+-- A session as one value.
 pub mod Session

@@ -1,5 +1,2 @@
-// A session on a run by the server engine: the sealed counter block in use is kept, so that bytes inside it are XORed and nothing is sealed. Further bytes go by
-// the stretch of a run. A call takes the session by value, or in its parts with the round keys lent, and returns where the session then stands.
-pub mod block;
+// A session of the server engine as one value: it is started, and a call takes it by value and returns where it then stands.
 pub mod session;
-pub mod step;

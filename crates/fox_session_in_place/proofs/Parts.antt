@@ -23,11 +23,11 @@ use Rattle.fox_refusals.proofs.answer.Answer.Laws as A′
 use Rattle.fox_session.specs.declared.Here.{Here}
 use Rattle.fox_session.proofs.Here as H
 use Rattle.fox_session.proofs.Here.Laws as H′
-use Rattle.fox_server_session.specs.declared.step.Step.{Step}
+use Rattle.fox_server_session_step.specs.declared.step.Step.{Step}
 use Rattle.fox_server_session.specs.declared.session.Session.{Session}
 use Rattle.fox_server_session.specs.Session.{sessionAt}
-use Rattle.fox_server_session.proofs.step.Step as P
-use Rattle.fox_server_session.proofs.step.Step.Laws as P′
+use Rattle.fox_server_session_step.proofs.step.Step as P
+use Rattle.fox_server_session_step.proofs.step.Step.Laws as P′
 use Rattle.fox_server_session.proofs.session.Session as S
 use Rattle.fox_server_session.proofs.session.Session.Laws as S′
 use Rattle.fox_walks.proofs.Spelling.{W, Spelling, struct}

@@ -3,7 +3,7 @@
 use native.Mathlib.Omega.{arith}
 use lib.Seq.{take-all}
 use Rattle.fox_session.specs.Machine.{Move}
-use Rattle.fox_server_session.proofs.Laws.Calls.{in-session}
+use Rattle.fox_server_session.proofs.Laws.Sessions.{in-session}
 use borrow.Author.Needs.{needs}
 use Rattle.fox_server_session.proofs.session.moved.Statement.{statement}
 use Rattle.fox_server_session.proofs.session.moved.Tie as tie

@@ -4,7 +4,7 @@
 use mathlib.Core.Path.{sym, _∙_}
 use native.Mathlib.Omega.{arith}
 use Rattle.fox_refusals.proofs.Laws.Refusals.{stretched}
-use Rattle.fox_server_session.proofs.Laws.Calls.{refused-start, served-start}
+use Rattle.fox_server_session.proofs.Laws.Sessions.{refused-start, served-start}
 use borrow.Author.Needs.{needs}
 use Rattle.fox_server_session.proofs.session.start.Statement.{statement}
 use Rattle.fox_server_session.proofs.session.start.Tie as tie

@@ -8,7 +8,7 @@ use Rattle.fox_refusals.proofs.Laws.Refusals.{stretched}
 use Rattle.fox_session.specs.Promise.{Starts}
 use Rattle.fox_server_key.proofs.Laws.Prepares.{from-prepared}
 use Rattle.fox_server_session.specs.Session.{machineOf, TrueOf, noSession}
-use Rattle.fox_server_session.proofs.Laws.Calls.{refused-start}
+use Rattle.fox_server_session.proofs.Laws.Sessions.{refused-start}
 use borrow.Author.Needs.{needs}
 use Rattle.fox_server_session.proofs.session.start_from_key.Statement.{statement}
 use Rattle.fox_server_session.proofs.session.start_from_key.Tie as tie

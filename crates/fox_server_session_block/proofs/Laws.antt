@@ -1,0 +1,2 @@
+-- Laws on blocks in two words.
+pub mod Blocks

@@ -1,0 +1,2 @@
+// Blocks in two words, as a session keeps them, by the server engine.
+pub mod block;

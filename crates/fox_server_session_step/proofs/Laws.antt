@@ -1,0 +1,2 @@
+-- Laws on a step of a session.
+pub mod Steps

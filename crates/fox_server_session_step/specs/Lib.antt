@@ -1,0 +1,2 @@
+-- A session in its parts.
+pub mod Step

@@ -1,0 +1,2 @@
+-- Laws on the promises of sessions.
+pub mod Calls
