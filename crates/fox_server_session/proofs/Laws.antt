@@ -1,0 +1,2 @@
+-- Laws on the definitions of a session.
+pub mod Blocks
