@@ -1,0 +1,33 @@
+-- `session::start_from_key` meets its contract: the refusals are those of the key bytes; past them the prepared key is that of the key, and holds the round
+-- keys of the definition.
+-- Assumes nothing.
+use mathlib.Core.Path.{sym, _∙_}
+use mathlib.Core.List.{List}
+use Prim.Native.Nat.{ℕ}
+use Rattle.fox_refusals.proofs.Laws.Refusals.{stretched}
+use Rattle.fox_session.specs.Promise.{Starts}
+use Rattle.fox_server_key.proofs.Laws.Prepares.{from-prepared}
+use Rattle.fox_server_session.specs.Session.{machineOf, TrueOf, noSession}
+use Rattle.fox_server_session.proofs.Laws.Calls.{refused-start}
+use borrow.Author.Needs.{needs}
+use Rattle.fox_server_session.proofs.session.start_from_key.Statement.{statement}
+use Rattle.fox_server_session.proofs.session.start_from_key.Tie as tie
+
+returns : tie.Need-returns
+returns c =
+    let test = c .before .before in
+    refused-start _ _ _ _ _ (test .before .for-run .ensures) (test .if1 .taken) (c .before .refused .ensures) (c .zeros .ensures)
+
+returns-2 : tie.Need-returns-2
+returns-2 c =
+    let made = c .before .before in
+    let test = made .before in
+    let a = test .before .before .before .before .args in
+    from-prepared (λ (cipher n keyLen : ℕ) (rks : List ℕ). Starts machineOf TrueOf noSession cipher n keyLen rks (a .counter .now) (c .start .result .answer)
+    (c .start .result .session)) (a .cipher) (a .rounds) (a .key .now) (made .prepare .result)
+    (stretched _ _ _ _ _ _ _ (sym (test .before .for-run .ensures) ∙ test .if1 .left) .keyed) (made .prepare .ensures) (c .start .ensures)
+
+pub start-from-key-spec : {M : Type 1} → statement M
+start-from-key-spec =
+    tie.close
+    (tie.spec (λ c κs. search needs) (λ c κs. search needs) (λ c κs. search needs) returns (λ c κs. search needs) (λ c κs. search needs) returns-2)
