@@ -155,6 +155,15 @@ module _ (c r : ℕ) (key counter : List ℕ) where
         let done = run-export-served c r key counter p input h advance-handed in
         (done, rw (done .count) at advance-stands)
 
+  -- so after a start that answered 0 and any calls, an advance answers as a run's call with the last position as offset
+  pub session-as-run : {words words' words'' : List ℕ} {n : ℕ} {calls : List Call} {tolds : List Told} (input before : List ℕ) {after before₂ after₂ : List ℕ}
+      (m : ℕ) {k : ℕ} → StartHanded c r key counter (answer n 0) words → n ≡ 0 → Plays machineIn TrueIn words calls tolds words'
+      → CallHanded words' (Advance input before) after (answer m (length before)) words'' → length before ≡ length before₂
+      → RunHanded c r key counter (afterAll (plain 0) calls .position) input before₂ after₂ k
+      → Same before before₂ after after₂ (answer m (length before)) (answer k (length before₂))
+  session-as-run {calls = calls} input before m start served plays call l other =
+      advance-as-run (afterAll (plain 0) calls .position) input before m (session-as-plain start served plays .1) call l other
+
   -- what a served advance wrote, advanced over at the same position by any session of that key and counter, gives the bytes again
   pub advance-back : (p : ℕ) (ds before before₂ : List ℕ) {words words' words₂ words₂' mid after : List ℕ} (n : ℕ) → Stands c r key counter words p
       → CallHanded words (Advance ds before) mid (answer 0 (length before)) words' → Stands c r key counter words₂ p

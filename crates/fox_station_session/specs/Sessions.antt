@@ -10,7 +10,8 @@ use Rattle.fox_key_schedule.specs.Schedule.{roundKeys}
 use Rattle.fox_session.specs.Machine.{Machine, Call, Told, lent}
 use Rattle.fox_session.specs.Promise.{Starts, Follows}
 use Rattle.fox_server_session.specs.declared.session.Session.{Session}
-use Rattle.fox_server_session.specs.Session.{machineOf, TrueOf}
+use Rattle.fox_server_session.specs.declared.step.Step.{Step}
+use Rattle.fox_server_session.specs.Session.{machineOf, TrueOf, sessionAt}
 
 -- the session that 518 words hold
 unfoldable pub sessionIn : List ℕ → Session
@@ -57,3 +58,9 @@ pub record Stands (cipher rounds : ℕ) (key counter words : List ℕ) (position
 -- what a call tells that is refused with a number: count 0, and the output as it is lent
 abbrev pub refusedWith : ℕ → Call → Told
 refusedWith number call = record { refusal = number; count = 0; output = lent call }
+
+-- what keeping a step promises, of the words before and after and the number returned: where the session stands is stored, unless the step was refused
+pub record Keeps (words : List ℕ) (step : Step) (words' : List ℕ) (r : ℕ) : Type 0 where
+  pub refusal : r ≡ step .answer .refusal
+  pub served : r ≡ 0 → sessionIn words' ≡ sessionAt (sessionIn words) (step .here)
+  pub refused : (r ≡ 0 → ⊥) → words' ≡ words

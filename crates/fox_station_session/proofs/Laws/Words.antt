@@ -9,7 +9,7 @@ use native.Mathlib.Omega.{arith}
 use borrow.Author.Tests.{ltb-true}
 use lib.Dec.{ltb}
 use lib.ListN.{length, getD, take, set, length-set}
-use lib.Seq.{sets, length-sets, getD-set-other, getD-set-same, take-set-le}
+use lib.Seq.{sets, getD-set-other, getD-set-same, take-set-le}
 use Rattle.fox_session.specs.declared.Here.{Here}
 use Rattle.fox_server_session.specs.declared.session.Session.{Session}
 use Rattle.fox_server_session.specs.Session.{sessionAt}
@@ -40,24 +40,23 @@ stored (v ∷ vs) l i (suc k) h within =
 abbrev hereIn : Here → List ℕ
 hereIn here = here .position ∷ here .block .left ∷ here .block .right ∷ []
 
-pub kept : (words : List ℕ) (here : Here) → length words ≡ 518
-    → (length (sets words 515 (hereIn here)) ≡ 518) × (sessionIn (sets words 515 (hereIn here)) ≡ sessionAt (sessionIn words) here)
+pub here-stored : (words : List ℕ) (here : Here) → length words ≡ 518 → sessionIn (sets words 515 (hereIn here)) ≡ sessionAt (sessionIn words) here
 unfolding sessionIn
-kept words here long =
+here-stored words here long =
     let now = sets words 515 (hereIn here) in
     let past : (j : ℕ) → ltb j 515 ≡ true → getD now j 0 ≡ getD words j 0 = λ j h. before (hereIn here) words 515 j (ltb-true j 515 h) in
     let there : (k : ℕ) → ltb k 3 ≡ true → getD now (515 + k) 0 ≡ getD (hereIn here) k 0 =
     λ k h. stored (hereIn here) words 515 k (omega (arith, ltb-true k 3 h)) (ltb-true k 3 h) in
-    (length-sets words 515 (hereIn here) ∙ long, simp (past, there 0, there 1, there 2, front (hereIn here) words 515 510 (omega arith)))
+    simp (past, there 0, there 1, there 2, front (hereIn here) words 515 510 (omega arith))
 
 -- the words with what stays the same in a session, but for the round keys
 abbrev basisIn : Session → List ℕ
 basisIn s = s .key .cipher ∷ s .key .rounds ∷ s .key .«key_len» ∷ s .counter .left ∷ s .counter .right ∷ []
 
-pub filled : (words : List ℕ) (s : Session) → length words ≡ 518 → take 510 words ≡ s .key .keys → s .key .cipher < 2 ^ 32 → s .key .rounds < 2 ^ 32
+pub all-stored : (words : List ℕ) (s : Session) → length words ≡ 518 → take 510 words ≡ s .key .keys → s .key .cipher < 2 ^ 32 → s .key .rounds < 2 ^ 32
     → sessionAt (sessionIn (sets words 510 (basisIn s))) (s .here) ≡ s
 unfolding sessionIn
-filled words s long keys hc hr =
+all-stored words s long keys hc hr =
     let there : (k : ℕ) → ltb k 5 ≡ true → getD (sets words 510 (basisIn s)) (510 + k) 0 ≡ getD (basisIn s) k 0 =
     λ k h. stored (basisIn s) words 510 k (omega (arith, ltb-true k 5 h)) (ltb-true k 5 h) in
     simp

@@ -1,24 +1,17 @@
--- `fox_station_session::move_in` meets its contract: the step is one on the session that the words hold, and it is kept if it was served.
+-- `fox_station_session::move_in` meets its contract: the step is one on the session that the words hold, and it is kept unless it was refused.
 -- Assumes nothing.
 use borrow.Author.Needs.{needs}
-use Rattle.fox_station_session.proofs.Laws.Calls.{step-kept, step-refused}
+use Rattle.fox_station_session.proofs.Laws.Calls.{step-kept}
 use Rattle.fox_station_session.proofs.move_in.Statement.{statement}
 use Rattle.fox_station_session.proofs.move_in.Tie as tie
 
 returns : tie.Need-returns
 returns c =
-    let a = c .before .before .before .before .before in
+    let a = c .before .before .before .before in
     step-kept (a .before .before .before .before .before .before .args .words .now) (a .before .before .before .basis-in .ensures) (a .before .here-in .ensures)
-    (a .move-to .ensures) (c .before .before .before .before .if1 .taken) (c .before .before .keep .ensures .1)
-
-returns-2 : tie.Need-returns-2
-returns-2 c =
-    let a = c .before in
-    step-refused (a .before .before .before .before .before .before .args .words .now) (a .before .before .before .basis-in .ensures) (a .before .here-in .ensures)
-    (a .move-to .ensures) (c .if1 .left)
+    (a .move-to .ensures) (c .before .before .keep .ensures)
 
 pub move-in-spec : {M : Type 1} → statement M
 move-in-spec =
     tie.close
-    (tie.spec (λ c κs. search needs) (λ c κs. search needs) (λ c κs. search needs) (λ c κs. search needs) (λ c. search needs) returns (λ c. search needs)
-    returns-2)
+    (tie.spec (λ c κs. search needs) (λ c κs. search needs) (λ c κs. search needs) (λ c κs. search needs) (λ c. search needs) returns)
