@@ -1,15 +1,17 @@
 -- What the station's exports on sessions promise, for all inputs: the refusal number and the count that follows from it, every byte of the output, and the
 -- session that the words hold. They are the promises of a session, over words.
 -- Assumes nothing.
+use mathlib.Core.Path.{_≡_}
 use Prim.Native.Nat.{ℕ, _%_, _^_}
 use mathlib.Core.List.{List}
 use lib.ListN.{length, getD, take, replicate}
 use Rattle.fox_refusals.specs.declared.answer.Answer.{Answer}
 use Rattle.fox_key_schedule.specs.Schedule.{roundKeys}
-use Rattle.fox_session.specs.Machine.{Machine, Call}
+use Rattle.fox_session.specs.Machine.{Machine, Call, Told, lent}
 use Rattle.fox_session.specs.Promise.{Starts, Follows}
 use Rattle.fox_server_session.specs.declared.session.Session.{Session}
-use Rattle.fox_server_session.specs.Session.{machineOf, TrueOf}
+use Rattle.fox_server_session_step.specs.declared.step.Step.{Step}
+use Rattle.fox_server_session.specs.Session.{machineOf, TrueOf, sessionAt}
 
 -- the session that 518 words hold
 unfoldable pub sessionIn : List ℕ → Session
@@ -42,3 +44,23 @@ StartHanded cipher rounds key counter = Starts machineIn TrueIn noWords cipher r
 -- a call, with the words before, the output and the words afterwards
 abbrev pub CallHanded : List ℕ → Call → List ℕ → Answer → List ℕ → Type 0
 CallHanded = Follows machineIn TrueIn
+
+-- the plain machine of cipher, rounds, key bytes and counter block, at a position
+abbrev pub plainAt : ℕ → ℕ → List ℕ → List ℕ → ℕ → Machine
+plainAt cipher rounds key counter position =
+    record { cipher = cipher; rounds = rounds; keyLen = length key; rks = roundKeys cipher rounds key; counter = counter; position = position }
+
+-- words of a session that stands for that machine, with a block in use that is true
+pub record Stands (cipher rounds : ℕ) (key counter words : List ℕ) (position : ℕ) : Type 0 where
+  pub machine : machineIn words ≡ plainAt cipher rounds key counter position
+  pub true : TrueIn words
+
+-- what a call tells that is refused with a number: count 0, and the output as it is lent
+abbrev pub refusedWith : ℕ → Call → Told
+refusedWith number call = record { refusal = number; count = 0; output = lent call }
+
+-- what keeping a step promises, of the words before and after and the number returned: where the session stands is stored, unless the step was refused
+pub record Keeps (words : List ℕ) (step : Step) (words' : List ℕ) (r : ℕ) : Type 0 where
+  pub refusal : r ≡ step .answer .refusal
+  pub served : r ≡ 0 → sessionIn words' ≡ sessionAt (sessionIn words) (step .here)
+  pub refused : (r ≡ 0 → ⊥) → words' ≡ words

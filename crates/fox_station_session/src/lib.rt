@@ -7,12 +7,13 @@ ghost use lib.ListN.{length};
 ghost use Rattle.fox_refusals.specs.Handed.{answer};
 ghost use Rattle.fox_session.specs.Machine.{Advance, Move};
 ghost use Rattle.fox_server_session.specs.Session.{basisOf, sessionAt};
-ghost use Rattle.fox_station_session.specs.Sessions.{sessionIn, StartHanded, CallHanded};
+ghost use Rattle.fox_station_session.specs.Sessions.{sessionIn, Keeps, StartHanded, CallHanded};
 use fox_server_session::session::Session;
 use fox_server_session::session::start_from_key;
-use fox_server_session::step::Basis;
-use fox_server_session::step::advance;
-use fox_server_session::step::move_to;
+use fox_server_session_step::step::Basis;
+use fox_server_session_step::step::Step;
+use fox_server_session_step::step::advance;
+use fox_server_session_step::step::move_to;
 use fox_session::Here;
 use fox_session::Pair;
 
@@ -47,14 +48,26 @@ fn here_in(words: &[u64]) -> Here
 }
 
 // Writes where the session stands.
-fn keep(words: &mut [u64], here: Here)
+fn write_here(words: &mut [u64], here: Here)
     requires { ⌜ length (now words) ≡ 518 ⌝ }
-    ensures { λ _. ⌜ (length (now (words .exit)) ≡ 518) × (sessionIn (now (words .exit)) ≡ sessionAt (sessionIn (now (words .entry))) here) ⌝ }
+    ensures { λ _. ⌜ sessionIn (now (words .exit)) ≡ sessionAt (sessionIn (now (words .entry))) here ⌝ }
 {
     let block = here.block;
     words[515] = here.position;
     words[516] = block.left;
     words[517] = block.right;
+}
+
+// Keeps a step, unless it was refused; returns its refusal number.
+fn keep(words: &mut [u64], step: Step) -> u32
+    requires { ⌜ length (now words) ≡ 518 ⌝ }
+    ensures { λ r. ⌜ Keeps (now (words .entry)) step (now (words .exit)) r ⌝ }
+{
+    let refusal = step.answer.refusal;
+    if refusal == 0 {
+        write_here(words, step.here);
+    }
+    refusal
 }
 
 fn words_of(s: Session) -> [u64; 518]
@@ -72,7 +85,7 @@ fn words_of(s: Session) -> [u64; 518]
     words[512] = key.key_len as u64;
     words[513] = counter.left;
     words[514] = counter.right;
-    keep(&mut words, s.here);
+    write_here(&mut words, s.here);
     words
 }
 
@@ -82,11 +95,7 @@ fn advance_in(words: &mut [u64], input: &[u8], out: &mut [u8]) -> u32
         (answer r (length (now (out .entry)))) (now (words .exit)) ⌝ }
 {
     let step = advance(basis_in(words), words, here_in(words), input, out);
-    let refusal = step.answer.refusal;
-    if refusal == 0 {
-        keep(words, step.here);
-    }
-    refusal
+    keep(words, step)
 }
 
 fn move_in(words: &mut [u64], to: u64) -> u32
@@ -94,11 +103,7 @@ fn move_in(words: &mut [u64], to: u64) -> u32
     ensures { λ r. ⌜ CallHanded (now (words .entry)) (Move to) [] (answer r 0) (now (words .exit)) ⌝ }
 {
     let step = move_to(basis_in(words), words, here_in(words), to);
-    let refusal = step.answer.refusal;
-    if refusal == 0 {
-        keep(words, step.here);
-    }
-    refusal
+    keep(words, step)
 }
 
 #[no_mangle]
