@@ -36,7 +36,7 @@ help:
 	@echo "make count      instructions, stack and size of the compiled code"
 	@echo "make speed      the library's speed beside that of plain C code, and beside another build's card:"
 	@echo "                make speed BEFORE=ARCHIVE"
-	@echo "make fuzz       ten minutes of clang's fuzzer on the calls and the bench sheet"
+	@echo "make fuzz       ten minutes of clang's fuzzer on the calls, sessions, run files and the bench sheet"
 	@echo "make fmt        sets the Rattle code in its layout"
 	@echo "make install    the libraries, fox.h, stretch with its man page, and files for pkg-config below PREFIX ($(PREFIX));"
 	@echo "                DESTDIR goes before it"

@@ -1,15 +1,15 @@
 #!/bin/sh
-# Fuzzes the bench sheet, the calls of every engine and those on run files by clang's libFuzzer, with the second
-# implementation beside them: sh tests/fuzz.sh [SECONDS] [sheet|calls|file]. Without a name all are run, each for a third of
-# the seconds, 600 in all. SEED=.. in the environment gives the seed that an earlier run printed. FAULT=.. puts that fault of
-# tests/fuzz/wrong_*.c into the library. What is found stays in build/fuzz/found; build/fuzz/sheet.fuzzer FILE, or that of
-# another name, shows it again.
+# Fuzzes the bench sheet, the calls of every engine and those on sessions and run files by clang's libFuzzer, with the second
+# implementation beside them: sh tests/fuzz.sh [SECONDS] [sheet|calls|session|file]. Without a name all are run, each for a
+# fourth of the seconds, 600 in all. SEED=.. in the environment gives the seed that an earlier run printed. FAULT=.. puts
+# that fault of tests/fuzz/wrong_*.c into the library. What is found stays in build/fuzz/found; build/fuzz/sheet.fuzzer FILE,
+# or that of another name, shows it again.
 # The exit status is 1 where anything was found, and 2 where something could not be run.
 set -u
 cd "$(dirname "$0")/.." || exit 2
 unset PROCESSOR
 . tests/host.sh
-seconds=${1:-600} names=${2:-sheet calls file} seed=${SEED:-$(date +%s)}
+seconds=${1:-600} names=${2:-sheet calls session file} seed=${SEED:-$(date +%s)}
 clang=${CLANG:-clang}
 t=tests/fuzz libraries=build/fuzz into=build/fuzz${FAULT:+/wrong}
 flags="-std=gnu11 -g -O2 -Wall -Wextra -Werror $includes"
@@ -22,26 +22,33 @@ stop() { # WHAT
     exit 2
 }
 
-part() { # WHAT sheet|calls|file
+part() { # WHAT sheet|calls|session|file
     case $1-$2 in
         crates-sheet) echo fox_check_probe ;;
-        crates-calls) sed -n 's/^CALLS = //p' Makefile | sed -e 's|$(OUT)/||g' -e 's|\.o||g' -e 's/fox_station_file//' ;;
+        crates-calls)
+            sed -n 's/^CALLS = //p' Makefile |
+                sed -e 's|$(OUT)/||g' -e 's|\.o||g' -e 's/fox_station_session//' -e 's/fox_station_file//'
+            ;;
+        crates-session) echo fox_station_session ;;
         crates-file) echo "fox_station_file${FAULT:+ fox_station_server}" ;;
         sources-sheet) echo "$t/sheet.c $t/begin.c $t/exact.c $s/sheet.c $second $c/answers.c" ;;
         sources-calls)
             echo "$t/calls.c $t/begin.c $t/take.c $t/change.c $t/exact.c tests/beside/second_answer.c" \
                 "$second $engines $c/answers.c $c/chance.c"
             ;;
+        sources-session) echo "$t/session.c $t/begin.c $t/exact.c $s/session.c $c/session_call.c $c/hex.c $c/answers.c" ;;
         sources-file)
             echo "$t/file.c $t/begin.c $t/change_file.c $t/exact.c tests/file/outcome.c $s/file.c $c/file_call.c" \
                 "$c/hex.c $c/answers.c $c/chance.c"
             ;;
-        plain-file) echo "$second" ;;
+        plain-session | plain-file) echo "$second" ;;
         wrapped-sheet) echo fox_probe_sheet ;;
         wrapped-calls) echo fox_card_open_block fox_server_run fox_server_make_tag fox_card_test_tag ;;
+        wrapped-session) echo fox_session_start fox_session_advance fox_session_move ;;
         wrapped-file) echo fox_file_take_up fox_file_read fox_file_skip fox_file_write ;;
         words-sheet) echo "-dict=$t/sheet.dict -max_len=400" ;;
         words-calls) echo "-max_len=256 -len_control=0 -entropic_scale_per_exec_time=1" ;;
+        words-session) echo "-max_len=128 -len_control=0 -entropic_scale_per_exec_time=1" ;;
         words-file) echo "-dict=$t/file.dict -max_len=400 -entropic_scale_per_exec_time=1" ;;
     esac
 }
@@ -72,7 +79,7 @@ guarded_library() { # CRATE
 
 # Besides the fuzzer itself there is one to which the library's branches alone count. What is plain is compiled without
 # sanitizers: the second implementation's cipher, where it would take most of the time.
-build() { # sheet|calls|file
+build() { # sheet|calls|session|file
     sources=$(part sources "$1")
     for source in $(part plain "$1"); do
         object=$into/$(basename "$source" .c).o
@@ -114,6 +121,21 @@ seed_calls() { # FOLDER: a served call of each verb, taken back by each engine, 
             cipher="\\00${choices%.*}$n" data="\\${choices#*.}$n"
             printf "$first$cipher\\004$n\\020$n\\000$n$data\\000$n\\000$n\\000$n\\000$n%s" \
                 0123456789abcdefghijklmnopqrstuvwxyzABCDEF >"$1/$which.$choices"
+        done
+    done
+}
+
+# The setting and calls that tests/fuzz/session_input.h lists: a start, and then advances within a block and over its edge,
+# moves to the end and back, and a copy.
+seed_session() { # FOLDER
+    for cipher in 0 1; do
+        for counter in 0 1; do
+            setting="\\00$cipher\\004\\020\\00$counter\\376"
+            name=$1/$cipher.$counter
+            printf "$setting"'\000\000\005\000\000\003\000\000\020\001\000\011\000\000\100' >"$name.advances"
+            printf "$setting"'\001\004\036\000\000\002\001\005\000\000\000\000\001\002\000\001\000\003\000\000\007' >"$name.end"
+            printf "$setting"'\000\000\013\003\000\000\101\004\000\000\101\005'"$setting"'\000\000\011' >"$name.copy"
+            printf "$setting"'\000\000\013\006\002\012\000\000\101\001\003\005' >"$name.poked"
         done
     done
 }
@@ -168,8 +190,8 @@ fuzz() { # NAME SECONDS
 
 case $seconds in '' | *[!0-9]*) stop "the seconds are to be a number" ;; esac
 case $names in
-    'sheet calls file') seconds=$((seconds / 3)) ;;
-    sheet | calls | file) ;;
+    'sheet calls session file') seconds=$((seconds / 4)) ;;
+    sheet | calls | session | file) ;;
     *) stop "there is no fuzzer named $names" ;;
 esac
 [ "$seconds" -gt 0 ] || stop "so few seconds leave no time to run"

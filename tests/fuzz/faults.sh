@@ -1,11 +1,11 @@
 #!/bin/sh
-# Sees that the fuzzers find faults: each one of wrong_sheet.c, wrong_calls.c and wrong_file.c, put into the library by
-# itself, within a minute and from an empty corpus. Last line: 'N passed, M failed'.
+# Sees that the fuzzers find faults: each one of wrong_sheet.c, wrong_calls.c, wrong_session.c and wrong_file.c, put into the
+# library by itself, within a minute and from an empty corpus. Last line: 'N passed, M failed'.
 set -u
 cd "$(dirname "$0")/../.." || exit 2
 . tests/host.sh
 
-find_fault() { # sheet|calls|file FAULT
+find_fault() { # sheet|calls|session|file FAULT
     rm -rf build/fuzz/wrong
     began=$(date +%s)
     said=$(FAULT=$2 sh tests/fuzz.sh 60 "$1" 2>&1)
@@ -20,6 +20,11 @@ for fault in LEADING_ZERO SMALL_DIGIT FEED_AFTER NUMBER_WRAPS NUL_AFTER READS_AF
 for fault in BYTE_WRONG REFUSALS_EXCHANGED SUM_WRAPS CARRY_LOST UPPER_CARRY_LOST LAST_LENGTH_REFUSED CIPHER_CUT \
     MOST_ROUNDS_WRONG REFUSED_WRITES KEY_READ_AFTER MESSAGE_CUT LAST_BYTE_UNTESTED; do
     find_fault calls $fault
+done
+for fault in EDGE_KEEPS_BLOCK MOVE_KEEPS_BLOCK MOVE_BACK_TO_FIRST MOVE_FORGOTTEN POSITION_CUT REFUSED_ADVANCE_MOVES \
+    REFUSED_ADVANCE_WRITES REFUSED_MOVE_MOVES REFUSED_START_LEAVES END_PASSED END_NOT_REACHED LAST_BLOCK_WRONG \
+    CARRY_LOST_LATER LONGEST_REFUSED SESSION_READ_AFTER INPUT_READ_AFTER; do
+    find_fault session $fault
 done
 for fault in ZERO_BEFORE_LENGTH ANY_SCAN_NUMBER FEED_AFTER_CLOSE SMALL_DIGIT_IN_CLOSE TAG_BYTE_UNTESTED REFUSED_PLACE_STAYS \
     FILE_READ_AFTER REFUSED_READ_MOVES LONGER_BUFFER_SERVED END_COUNTS OFFSET_LOST TENTH_SCAN_WRONG SUM_UNTESTED \

@@ -37,7 +37,7 @@ static size_t most_of_verb(void)
     static const size_t lengths[] = {0, 1, 4, 5, 13, 16, 29, 150, ROOM};
     static const uint64_t positions[] = {0, 3, 4, 8, 16, 1000, FOX_RUN_END - 1, FOX_RUN_END};
     size_t most = 0;
-    for (size_t i = 0; i < (verb == SESSION_START ? 1 : verb == SESSION_MOVE ? COUNT(positions) : COUNT(lengths)); i++) {
+    for (size_t i = 0; i < COUNT(lengths); i++) {
         if (make_session_call(SESSION_START, &call) != FOX_SERVED || fox_session_move(session, 3) != FOX_SERVED)
             return PAINTED;
         call.input_len = call.out_len = lengths[i];

@@ -148,7 +148,7 @@ static void of_inside(work *job, const char *what, uint32_t bits)
     served = served && start(bits, FOX_MOST_ROUNDS) == FOX_SERVED && job(bits, 2) == FOX_SERVED;
     long many = steps(job, bits, 2) - none;
     figure(served && few > 0 && few == many && few < INSTRUCTIONS_INSIDE,
-           "instructions of %s inside the block in use of a FOX%u session: %ld with %d rounds, %ld with %d, to stay below %d",
+           "instructions of %s inside a FOX%u session's block in use: %ld with %d rounds, %ld with %d, to stay below %d",
            what, (unsigned)bits, few, FOX_LEAST_ROUNDS, many, FOX_MOST_ROUNDS, INSTRUCTIONS_INSIDE);
 }
 

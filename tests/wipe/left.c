@@ -195,8 +195,8 @@ static void one_session(void)
         right &= answer == FOX_SERVED;
     }
     right &= left[0] == sizeof round_keys / WORD && left[1] == sizeof round_keys / WORD && left[3] == 0;
-    figure(right, "of a session's round keys %zu words are left, after fox_wipe_stack alone %zu, after fox_wipe alone %zu, "
-           "after both %zu", left[0], left[1], left[2], left[3]);
+    figure(right, "of a session's round keys %zu words are left, after fox_wipe_stack %zu, after fox_wipe %zu, after both %zu",
+           left[0], left[1], left[2], left[3]);
 }
 
 static void exactly(void)
