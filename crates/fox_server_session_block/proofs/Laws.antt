@@ -1,2 +1,3 @@
--- Laws on blocks in two words.
+-- Laws on blocks in two words, and on round keys by their number.
 pub mod Blocks
+pub mod Keys

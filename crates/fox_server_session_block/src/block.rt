@@ -2,16 +2,23 @@
 // block is in two words.
 ghost use mathlib.Core.Path.{_≡_};
 ghost use Prim.Native.Nat.{_+_, _≤_, _<_};
-ghost use lib.ListN.{length, drop};
+ghost use lib.ListN.{length, take, drop};
+ghost use Rattle.fox_rounds.specs.Skeleton.{size};
 ghost use Rattle.fox_refusals.specs.Refusals.{blockSize};
+ghost use Rattle.fox_block.specs.Block.{bytes};
 ghost use Rattle.fox_run.specs.Run.{runWith};
 ghost use Rattle.fox_run.specs.Parts.{Xored};
 ghost use Rattle.fox_session.specs.InUse.{bytesIn, blockIn, BlockAt};
 ghost use Rattle.fox_server_key.specs.Prepared.{heldKeys};
+use crate::seal::sealed;
 use fox_bytes::bytes::load8;
 use fox_bytes::bytes::store16;
+use fox_engine_block::blocks::read;
+use fox_engine_block::blocks::write;
+use fox_engine_counter::states::counted;
 use fox_engine_run::key_stream::xor_bytes;
 use fox_refusals::refusals::block_size;
+use fox_rounds::state::State;
 use fox_server_run::run::stretch;
 use fox_session::Pair;
 
@@ -38,6 +45,15 @@ fn pair_of(bytes: &[u8]) -> Pair
     }
 }
 
+fn pair_of_state(x: State) -> Pair
+    ensures { λ r. ⌜ take (size x) (bytesIn r) ≡ bytes x ⌝ }
+{
+    let mut block = [0u8; 16];
+    let size = x.size();
+    write(&mut block[..size], x);
+    pair_of(&block)
+}
+
 pub fn read_block(cipher: u32, block: &[u8]) -> Pair
     requires { ⌜ length (now block) ≡ blockSize cipher ⌝ }
     ensures { λ r. ⌜ blockIn cipher r ≡ now (block .entry) ⌝ }
@@ -62,7 +78,7 @@ pub fn xor_block(cipher: u32, block: Pair, skip: usize, input: &[u8], out: &mut 
     xor_bytes(&bytes[skip..size], input, out)
 }
 
-// The sealed counter block that a position is in, as the stretch of a run over zeros gives it; two words of 0 at the run's end, where there is none.
+// The sealed counter block that a position is in; two words of 0 at the run's end, where there is none.
 pub fn block_at(
     cipher: u32,
     keys: &[u64; 510],
@@ -76,22 +92,13 @@ pub fn block_at(
     if position == 1_073_741_824 {
         return Pair { left: 0, right: 0 };
     }
-    let mut first = [0u8; 16];
-    put_pair(&mut first, counter);
+    let mut bytes = [0u8; 16];
+    put_pair(&mut bytes, counter);
     let size = block_size(cipher);
-    let from = position - position % size;
-    let zeros = [0u8; 16];
-    let mut block = [0u8; 16];
-    stretch(
-        cipher,
-        keys,
-        rounds,
-        &first[..size],
-        from,
-        &zeros[..size],
-        &mut block[..size],
-    );
-    pair_of(&block)
+    let first = read(cipher, &bytes[..size]);
+    let here = counted(first, (position / size) as u32);
+    let block = sealed(cipher, keys, rounds, here);
+    pair_of_state(block)
 }
 
 // Whole blocks of a run from byte n on. Where there are none, no table is made.

@@ -1,24 +1,25 @@
--- A block in two words: the bytes of the words are those of their halves, and a block is the first of these bytes, up to its size. And the sealed counter block
--- that a position is in: a run over zeros from the block's first byte on, since XOR with 0 changes nothing.
+-- Blocks in two words: their bytes, the block of a cipher's size that they hold, and the sealed counter block as code has it.
 -- Assumes nothing.
 use mathlib.Core.Path.{_≡_, refl, sym, ap, ap₂, _∙_}
 use mathlib.Core.Bool.{true}
-use mathlib.Core.List.{List, [], _∷_, _++_, append-nil, append-assoc}
-use Prim.Native.Nat.{ℕ, zero, suc, _+_, _*_, _-_, _/_, _%_, _^_, _≤_, _<_}
-use native.Mathlib.Nat.{one-mul, not-suc-le-zero, le-of-suc-le-suc, div-add-mod'}
+use mathlib.Core.List.{List, _++_, append-assoc}
+use Prim.Native.Nat.{ℕ, _+_, _-_, _/_, _%_, _^_, _≤_, _<_}
+use native.Mathlib.Nat.{div-add-mod'}
 use native.Mathlib.Omega.{arith}
-use lib.ListN.{length, take, drop, replicate, length-append}
+use lib.Dec.{lit≤}
+use lib.ListN.{length, take, drop, length-append}
 use lib.Seq.{length-take-le, take-all, take-at, drop-at, take-add}
-use Rattle.fox_layers.specs.Words.{split, xorEach}
+use Rattle.fox_layers.specs.Words.{split}
 use Rattle.fox_layers.proofs.Laws.Words.{length-split, split-above, split-parts}
-use Rattle.fox_layers.proofs.Laws.Xor.{xor-zero}
+use Rattle.fox_rounds.specs.Skeleton.{size, turned}
+use Rattle.fox_rounds.specs.declared.state.State.{State}
+use Rattle.fox_rounds.specs.declared.state.State.the-variants.{Of64, Of128}
 use Rattle.fox_refusals.specs.Refusals.{blockSize}
-use Rattle.fox_block.specs.Block.{sealWith}
-use Rattle.fox_block.proofs.Laws.Block.{by-cipher, size-64, size-128, length-turned}
+use Rattle.fox_block.specs.Block.{state, bytes, turnWith, sealWith}
+use Rattle.fox_block.proofs.Laws.Block.{by-cipher, size-64, size-128, state-size, turned-size}
 use Rattle.fox_run.specs.Counter.{counterBlock}
-use Rattle.fox_run.specs.Run.{streamed, xorFrom, keyStream, runWith}
-use Rattle.fox_run.proofs.Laws.XorFrom.{xorFrom-from}
-use Rattle.fox_run.proofs.Laws.Streams.{blocksFrom, whole-blocks}
+use Rattle.fox_run.specs.States.{counted}
+use Rattle.fox_run.proofs.Laws.Counting.{counted-state}
 use Rattle.fox_session.specs.declared.Pair.{Pair}
 use Rattle.fox_session.specs.InUse.{bytesIn, blockIn}
 use Rattle.fox_server_key.proofs.Laws.Prepares.{size-le}
@@ -27,11 +28,6 @@ use Rattle.fox_server_key.proofs.Laws.Prepares.{size-le}
 
 pub size-some : (c : ℕ) {B : ℕ} → B ≡ blockSize c → 0 < B
 size-some c e = by-cipher c (λ is. omega (arith, e, size-64 c is)) (λ isnt. omega (arith, e, size-128 c isnt))
-
--- the block that a position below the run's end is in ends within the run
-pub block-within : (c p : ℕ) {B : ℕ} → B ≡ blockSize c → p < 1073741824 → p - p % B + B ≤ 1073741824
-block-within c p e h =
-    by-cipher c (λ is. rw (e ∙ size-64 c is) (omega arith)) (λ isnt. rw (e ∙ size-128 c isnt) (omega arith))
 
 -- the bytes of two words
 
@@ -87,35 +83,22 @@ module _ (c : ℕ) (w : Pair) where
       sym (drop-at (take k bs) (take (B - k) (drop k bs)) k (length-take-le k bs (omega (arith, size-le c n))))
       ∙ ap (λ (xs : List ℕ). drop k xs) (sym (take-add k (B - k) bs) ∙ ap (λ (m : ℕ). take m bs) whole ∙ front-block e n)
 
--- the sealed counter block that a position is in
+-- a state's bytes fit in two words
+pub state-small : (x : State) → size x ≤ 16
+unfolding size
+state-small (Of64 x) = lit≤ tt
+state-small (Of128 x) = lit≤ tt
 
-xor-zeros : (xs : List ℕ) (n : ℕ) → length xs ≤ n → xorEach xs (replicate n 0) ≡ xs
-unfolding xorEach
-xor-zeros [] n h = refl
-xor-zeros (x ∷ xs) zero h = absurd (not-suc-le-zero h)
-xor-zeros (x ∷ xs) (suc n) h = ap₂ (λ (y : ℕ) (ys : List ℕ). y ∷ ys) (xor-zero x) (xor-zeros xs n (le-of-suc-le-suc h))
-
-module _ (c : ℕ) (rks : List ℕ) (p : ℕ) where
-  -- the run over zeros
-  block-of-zeros : (counter : List ℕ)
-      → runWith c rks counter (p - p % blockSize c) (take (blockSize c) (replicate 16 0)) ≡ sealWith c rks (counterBlock counter (p / blockSize c))
-  unfolding runWith keyStream blocksFrom
-  block-of-zeros counter =
-      let B = blockSize c in
-      let i = p / B in
-      let sealed : ℕ → List ℕ = λ j. sealWith c rks (counterBlock counter j) in
-      let size : (j : ℕ) → length (sealed j) ≡ B = λ j. length-turned true c rks (counterBlock counter j) in
-      xorFrom-from (streamed B sealed) (take B (replicate 16 0)) (omega (arith, div-add-mod' p B))
-      ∙ ap (λ (n : ℕ). xorFrom (streamed B sealed) (i * B) (take n (replicate 16 0))) (sym (one-mul B))
-      ∙ whole-blocks B sealed (size-some c refl) size i 1 (replicate 16 0)
-      ∙ ap (λ (xs : List ℕ). xorEach xs (replicate 16 0)) (append-nil (sealed i))
-      ∙ xor-zeros (sealed i) 16 (omega (arith, size i, size-le c refl))
-
-  -- as code has it: both the first counter block and the sealed one are in two words, and zeros come after the run
-  pub block-sealed : (first w : Pair) {B : ℕ} {fs bs : List ℕ} → B ≡ blockSize c → fs ≡ bytesIn first
-      → bs ≡ runWith c rks (take B fs) (p - p % B) (take B (replicate 16 0)) → length bs ≡ B → bytesIn w ≡ bs ++ drop B (replicate 16 0)
-      → blockIn c w ≡ sealWith c rks (counterBlock (blockIn c first) (p / blockSize c))
-  block-sealed first w {B} {fs} {bs} n e run l made =
-      sym (front-block c w (sym made) n) ∙ take-at bs (drop B (replicate 16 0)) B l ∙ run
-      ∙ ap₂ (λ (m : ℕ) (xs : List ℕ). runWith c rks xs (p - p % m) (take m (replicate 16 0))) n (front-block c first e n)
-      ∙ block-of-zeros (blockIn c first)
+-- the sealed counter block that a position is in, as code has it: by states, and with its bytes in front of the words'
+pub block-sealed : (c : ℕ) (rks : List ℕ) (p : ℕ) (first w : Pair) {fs : List ℕ} {B : ℕ} {x y z : State} → B ≡ blockSize c → fs ≡ bytesIn first
+    → x ≡ state c (take B fs) → y ≡ counted x (p / B) → z ≡ turned true rks y → take (size z) (bytesIn w) ≡ bytes z
+    → blockIn c w ≡ sealWith c rks (counterBlock (blockIn c first) (p / blockSize c))
+unfolding blockIn turnWith
+block-sealed c rks p first w {fs} {B} {x} {y} {z} n e ex ey ez made =
+    let i = p / blockSize c in
+    let block : x ≡ state c (blockIn c first) = ex ∙ ap (state c) (front-block c first e n) in
+    let here : y ≡ state c (counterBlock (blockIn c first) i)
+    = ey ∙ ap₂ (λ (u : State) (m : ℕ). counted u (p / m)) block n ∙ sym (counted-state c (blockIn c first) i (length-blockIn c first)) in
+    let turns : z ≡ turned true rks (state c (counterBlock (blockIn c first) i)) = ez ∙ ap (turned true rks) here in
+    let wide : size z ≡ blockSize c = ap size turns ∙ turned-size true rks _ ∙ state-size c (counterBlock (blockIn c first) i) in
+    ap (λ (m : ℕ). take m (bytesIn w)) (sym wide) ∙ made ∙ ap bytes turns

@@ -1,0 +1,2 @@
+-- A round key by its number, for either cipher.
+pub mod Keys
