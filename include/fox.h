@@ -290,8 +290,8 @@ uint32_t fox_server_run(uint32_t cipher, uint32_t rounds, const uint8_t *key, si
  *   fox_wipe(session, sizeof session);
  *   fox_wipe_stack();
  *
- * A session that seals is not to move back and seal other data there: whoever has both sealed stretches can XOR
- * them, and gets the XOR of the two plain texts.
+ * Where a session has sealed, neither it nor a copy of it is to seal other data: whoever has both sealed stretches
+ * can XOR them, and gets the XOR of the two plain texts.
  *
  * The words are as secret as the key: they have all round keys in them, and some of the key stream. Wipe them, and
  * every copy of them, when the session is done with: fox_wipe(session, sizeof session) where `session` is the array

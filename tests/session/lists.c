@@ -102,17 +102,23 @@ static void one_call(struct pair *p)
     }
 }
 
+static void start_anew(struct pair *p)
+{
+    struct setting s = some_setting(below(2) == 0 ? FOX64 : FOX128);
+    hold_start(p, &s, FOX_SERVED);
+}
+
 /* Now and then one session becomes a copy of the other, or is started anew. */
 static void one_list(size_t calls)
 {
-    for (size_t i = 0; i < COUNT(pairs); i++) {
-        struct setting s = some_setting(below(2) == 0 ? FOX64 : FOX128);
-        try_start(&pairs[i], &s);
-    }
+    for (size_t i = 0; i < COUNT(pairs); i++)
+        start_anew(&pairs[i]);
     for (size_t i = 0; i < calls; i++) {
         size_t which = below(COUNT(pairs));
         if (below(20) == 0)
             pairs[which] = pairs[1 - which];
+        if (below(40) == 0)
+            start_anew(&pairs[which]);
         one_call(&pairs[which]);
     }
 }
