@@ -155,3 +155,4 @@ check "four threads at once get the bytes that one alone gets" \
     compiled_and_right threads tests/product/threads.c $engines -pthread
 check "the C example of README.md is compiled as printed and prints what is shown" readme_example 1 example
 check "so is its example of run files" readme_example 2 runfile
+check "and its example of sessions" readme_example 3 display
