@@ -1,7 +1,13 @@
--- A session as one value: the plain machine that it stands for, whether its stored block is true, the same session elsewhere, and that of a refused start.
+-- A session as one value: the plain machine that it stands for, whether its stored block is true, the same session elsewhere, that of a refused start, and what a
+-- call promises that changes a session where the caller has it.
 -- Assumes nothing.
+use mathlib.Core.Path.{_≡_}
+use Prim.Native.Nat.{ℕ}
+use mathlib.Core.List.{List}
+use Rattle.fox_refusals.specs.declared.answer.Answer.{Answer}
 use Rattle.fox_session.specs.declared.Here.{Here}
-use Rattle.fox_session.specs.Machine.{Machine}
+use Rattle.fox_session.specs.Machine.{Machine, Call}
+use Rattle.fox_session.specs.Promise.{Follows}
 use Rattle.fox_server_key.specs.Prepared.{noKey}
 use Rattle.fox_server_session_step.specs.declared.step.Basis.{Basis}
 use Rattle.fox_server_session_step.specs.Step.{machineAt, TrueAt}
@@ -29,3 +35,8 @@ noSession =
       counter = record { left = 0; right = 0 };
       here = record { position = 0; block = record { left = 0; right = 0 } };
     }
+
+-- a call on a session that is changed where the caller has it: it follows the plain machine, and nothing but where the session stands is changed
+pub record Changes (s : Session) (call : Call) (output : List ℕ) (r : Answer) (s' : Session) : Type 0 where
+  pub follows : Follows machineOf TrueOf s call output r s'
+  pub stays : s' ≡ sessionAt s (s' .here)

@@ -8,6 +8,7 @@ use mathlib.Core.List.{List, [], _∷_}
 use mir.Syntax.{named}
 use base.Logic.{id⊢}
 use base.Fml.{Lft, Share, flft}
+use contract.Monad.{fact-mono}
 use types.Kit.{‵, _⊛_, _$_, _∵_, !, move, use1, split, join, fsplit, fjoin}
 use types.Part.{agg, whole, sub, look-in, store-in}
 use types.Run.{look, init, stop, hop, fld, from, load, addr, of-opd, and-then, no-more, assigns, land, returns, alloc1, alloc0, params1, pass1, pass0, free0}
@@ -76,7 +77,7 @@ module _ (w : World) (κ κ′ κ″ : Lft) (q q′ q″ : Share) (x : RefT Sess
       move ! (1 ∷ 3 ∷ []) $ join ! $ use1 (W w) (tokens w F at) (id⊢ (w .𝓤) _) $ move ! (1 ∷ 3 ∷ []) $ join ! $ move ! (0 ∷ 2 ∷ []) $
       ends w F at (r .answer) _ (‵ (Last x (r .here)) ⊛ ensures w (G .says) to r)
       (so-first w F (G .says) at to (r .answer) r (Last x (r .here)) (λ ws. (sessionAt (now x) (r .here), ws .1)) (λ _. refl) (λ _. refl)
-      (λ _. id⊢ (w .𝓤) _))))))))))))
+      (λ _. fact-mono (w .𝓤) _ _ (λ f. record { follows = f; stays = refl })))))))))))))
 
 pub advance-spec : {M : Type 1} → stated.statement M
 unfolding code.routine
