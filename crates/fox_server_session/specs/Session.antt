@@ -1,5 +1,5 @@
 -- A session as one value: the plain machine that it stands for, whether its stored block is true, the same session elsewhere, that of a refused start, and what a
--- call promises that changes a session where the caller has it.
+-- start promises, and a call that changes a session where the caller has it.
 -- Assumes nothing.
 use mathlib.Core.Path.{_≡_}
 use Prim.Native.Nat.{ℕ}
@@ -7,7 +7,8 @@ use mathlib.Core.List.{List}
 use Rattle.fox_refusals.specs.declared.answer.Answer.{Answer}
 use Rattle.fox_session.specs.declared.Here.{Here}
 use Rattle.fox_session.specs.Machine.{Machine, Call}
-use Rattle.fox_session.specs.Promise.{Follows}
+use Rattle.fox_session.specs.Promise.{Starts, Follows}
+use Rattle.fox_server_key.specs.declared.prepared.Prepared.{Prepared}
 use Rattle.fox_server_key.specs.Prepared.{noKey}
 use Rattle.fox_server_session_step.specs.declared.step.Basis.{Basis}
 use Rattle.fox_server_session_step.specs.Step.{machineAt, TrueAt}
@@ -35,6 +36,11 @@ noSession =
       counter = record { left = 0; right = 0 };
       here = record { position = 0; block = record { left = 0; right = 0 } };
     }
+
+-- a start whose session, where it is served, holds this prepared key
+pub record Begins (p : Prepared) (cipher rounds keyLen : ℕ) (rks counter : List ℕ) (r : Answer) (s : Session) : Type 0 where
+  pub starts : Starts machineOf TrueOf noSession cipher rounds keyLen rks counter r s
+  pub key : r .refusal ≡ 0 → s .key ≡ p
 
 -- a call on a session that is changed where the caller has it: it follows the plain machine, and nothing but where the session stands is changed
 pub record Changes (s : Session) (call : Call) (output : List ℕ) (r : Answer) (s' : Session) : Type 0 where

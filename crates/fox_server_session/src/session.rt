@@ -5,9 +5,9 @@ ghost use mathlib.Core.List.{[]};
 ghost use lib.ListN.{length};
 ghost use Rattle.fox_key_schedule.specs.Schedule.{roundKeys};
 ghost use Rattle.fox_session.specs.Machine.{Advance, Move};
-ghost use Rattle.fox_session.specs.Promise.{Starts, Follows};
-ghost use Rattle.fox_server_key.specs.Prepared.{roundKeysIn};
-ghost use Rattle.fox_server_session.specs.Session.{basisOf, machineOf, TrueOf, sessionAt, noSession};
+ghost use Rattle.fox_session.specs.Promise.{Follows};
+ghost use Rattle.fox_server_key.specs.Prepared.{preparedKey, roundKeysIn};
+ghost use Rattle.fox_server_session.specs.Session.{basisOf, machineOf, TrueOf, sessionAt, noSession, Begins};
 use fox_refusals::answer::Answer;
 use fox_refusals::stretch::for_run;
 use fox_server_key::prepared::Prepared;
@@ -62,8 +62,7 @@ fn refused(refusal: u32) -> Started
 
 // From a prepared key: the session is that of the round keys it holds, also where the caller filled it.
 pub fn start(p: Prepared, counter: &[u8]) -> Started
-    ensures { λ r. ⌜ Starts machineOf TrueOf noSession (p .cipher) (p .rounds) (p .«key_len») (roundKeysIn p) (now (counter .entry)) (r .answer)
-        (r .session) ⌝ }
+    ensures { λ r. ⌜ Begins p (p .cipher) (p .rounds) (p .«key_len») (roundKeysIn p) (now (counter .entry)) (r .answer) (r .session) ⌝ }
 {
     let refusal = for_run(p.cipher, p.rounds, p.key_len, counter.len(), 0, 0, 0);
     if refusal != 0 {
@@ -84,8 +83,8 @@ pub fn start(p: Prepared, counter: &[u8]) -> Started
 
 // From key bytes; the key is prepared within the call.
 pub fn start_from_key(cipher: u32, rounds: u32, key: &[u8], counter: &[u8]) -> Started
-    ensures { λ r. ⌜ Starts machineOf TrueOf noSession cipher rounds (length (now (key .entry))) (roundKeys cipher rounds (now (key .entry)))
-        (now (counter .entry)) (r .answer) (r .session) ⌝ }
+    ensures { λ r. ⌜ Begins (preparedKey cipher rounds (now (key .entry))) cipher rounds (length (now (key .entry)))
+        (roundKeys cipher rounds (now (key .entry))) (now (counter .entry)) (r .answer) (r .session) ⌝ }
 {
     let refusal = for_run(cipher, rounds, key.len(), counter.len(), 0, 0, 0);
     if refusal != 0 {

@@ -20,6 +20,7 @@ use Rattle.fox_run.specs.Run.{run}
 use Rattle.fox_session.specs.Machine.{Machine, Call, Told, Advance, Move, lent, tells, after, tellsAll, afterAll}
 use Rattle.fox_session.specs.Promise.{Plays, none, next}
 use Rattle.fox_session.proofs.Lists.{as-plain, advance-runs}
+use Rattle.fox_server_key.specs.Prepared.{preparedKey}
 use Rattle.fox_server_session_step.specs.Step.{machineAt}
 use Rattle.fox_station.specs.Exports.{RunHanded}
 use Rattle.fox_station.proofs.Exports.{run-exports-agree, run-export-served, run-opened-sealed}
@@ -83,25 +84,30 @@ module _ (c r : ℕ) (key counter : List ℕ) where
     pub start-served : Keyed c r (length key) → length counter ≡ blockSize c → n ≡ 0
     unfolding answer
     start-served keyed size =
-        start .refusal ∙ stretched-served (record { keyed = keyed; counter = size; short = omega arith; output = refl; end = omega arith })
+        start .starts .refusal ∙ stretched-served (record { keyed = keyed; counter = size; short = omega arith; output = refl; end = omega arith })
 
     pub start-known : n ≡ 0 → Keyed c r (length key) × (length counter ≡ blockSize c)
     unfolding answer
-    start-known e = let known = stretched c r (length key) (length counter) 0 0 0 (sym (start .refusal) ∙ e) in (known .keyed, known .counter)
+    start-known e = let known = stretched c r (length key) (length counter) 0 0 0 (sym (start .starts .refusal) ∙ e) in (known .keyed, known .counter)
 
     -- where it is served, the session stands at position 0
     pub started : n ≡ 0 → Stands c r key counter words 0
     unfolding answer
-    started e = record { machine = start .served e; true = start .true }
+    started e = record { machine = start .starts .served e; true = start .starts .true }
 
     -- where it is refused, the number is that of the first refusal that applies, and the words are all zeros; so every call on them is refused with 1
     pub start-refused : (n ≡ 0 → ⊥) → First n (forRun c r (length key) (length counter) 0 0 0) × (words ≡ noWords)
     unfolding answer
-    start-refused isnt = (given-first n (forRun c r (length key) (length counter) 0 0 0) (sym (start .refusal)) isnt, start .refused isnt)
+    start-refused isnt = (given-first n (forRun c r (length key) (length counter) 0 0 0) (sym (start .starts .refusal)) isnt, start .starts .refused isnt)
 
     pub start-refused-calls : {words' : List ℕ} {calls : List Call} {tolds : List Told} → (n ≡ 0 → ⊥) → Plays machineIn TrueIn words calls tolds words'
         → (tolds ≡ map (refusedWith 1) calls) × (words' ≡ noWords)
     start-refused-calls isnt plays = zeros-refused (start-refused isnt .1) plays
+
+    -- where it is served, every word of the prepared key is this key's, whatever the words were before
+    pub start-key : n ≡ 0 → sessionIn words .key ≡ preparedKey c r key
+    unfolding answer
+    start-key e = start .held e
 
   -- any calls, one after the other, tell what the plain machine tells, and the words then stand at its last position
 

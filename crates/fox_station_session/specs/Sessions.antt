@@ -7,6 +7,7 @@ use mathlib.Core.List.{List}
 use lib.ListN.{length, getD, take, replicate}
 use Rattle.fox_refusals.specs.declared.answer.Answer.{Answer}
 use Rattle.fox_key_schedule.specs.Schedule.{roundKeys}
+use Rattle.fox_server_key.specs.Prepared.{preparedKey}
 use Rattle.fox_session.specs.Machine.{Machine, Call, Told, lent}
 use Rattle.fox_session.specs.Promise.{Starts, Follows}
 use Rattle.fox_server_session.specs.declared.session.Session.{Session}
@@ -37,9 +38,11 @@ TrueIn words = TrueOf (sessionIn words)
 abbrev pub noWords : List ℕ
 noWords = replicate 518 0
 
--- a start, from cipher, rounds, key bytes and counter block, with the words afterwards
-abbrev pub StartHanded : ℕ → ℕ → List ℕ → List ℕ → Answer → List ℕ → Type 0
-StartHanded cipher rounds key counter = Starts machineIn TrueIn noWords cipher rounds (length key) (roundKeys cipher rounds key) counter
+-- a start, from cipher, rounds, key bytes and counter block, with the words afterwards: where it is served, all words of the prepared key are this key's, and
+-- none of an earlier session is left
+pub record StartHanded (cipher rounds : ℕ) (key counter : List ℕ) (r : Answer) (words : List ℕ) : Type 0 where
+  pub starts : Starts machineIn TrueIn noWords cipher rounds (length key) (roundKeys cipher rounds key) counter r words
+  pub held : r .refusal ≡ 0 → sessionIn words .key ≡ preparedKey cipher rounds key
 
 -- a call, with the words before, the output and the words afterwards
 abbrev pub CallHanded : List ℕ → Call → List ℕ → Answer → List ℕ → Type 0

@@ -1,15 +1,27 @@
 -- `fox_station_session::fox_session_start` meets its contract: the words hold the session that was started, or are all zeros where it was refused.
 -- Assumes nothing.
+use mathlib.Core.Path.{ap, _∙_}
+use Rattle.fox_refusals.specs.Handed.{answer}
+use Rattle.fox_server_session.specs.declared.session.Session.{Session}
 use borrow.Author.Needs.{needs}
 use Rattle.fox_station_session.proofs.Laws.Calls.{start-stored, start-refused}
 use Rattle.fox_station_session.proofs.fox_session_start.Statement.{statement}
 use Rattle.fox_station_session.proofs.fox_session_start.Tie as tie
 
 returns : tie.Need-returns
-returns c = start-stored (c .before .before .before .before .start-from-key .ensures) (c .before .if1 .taken) (c .words-of .ensures)
+unfolding answer
+returns c =
+    let begun = c .before .before .before .before .start-from-key .ensures in
+    record {
+      starts = start-stored (begun .starts) (c .before .if1 .taken) (c .words-of .ensures);
+      held = λ z. ap (λ (s : Session). s .key) (c .words-of .ensures) ∙ begun .key z;
+    }
 
 returns-2 : tie.Need-returns-2
-returns-2 c = start-refused (c .before .before .before .before .start-from-key .ensures) (c .before .if1 .left)
+unfolding answer
+returns-2 c =
+    let begun = c .before .before .before .before .start-from-key .ensures in
+    record { starts = start-refused (begun .starts) (c .before .if1 .left); held = λ z. absurd (c .before .if1 .left z) }
 
 pub fox-session-start-spec : {M : Type 1} → statement M
 fox-session-start-spec = tie.close (tie.spec (λ c κs. search needs) (λ c κs. search needs) returns returns-2)

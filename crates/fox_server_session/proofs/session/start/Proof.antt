@@ -1,7 +1,7 @@
 -- `session::start` meets its contract: the refusals are those of a stretch of no bytes at the run's start; past them the counter has the block's length, and
 -- the block in use is the first.
 -- Assumes nothing.
-use mathlib.Core.Path.{sym, _∙_}
+use mathlib.Core.Path.{refl, sym, _∙_}
 use native.Mathlib.Omega.{arith}
 use Rattle.fox_refusals.proofs.Laws.Refusals.{stretched}
 use Rattle.fox_server_session.proofs.Laws.Sessions.{refused-start, served-start}
@@ -12,7 +12,10 @@ use Rattle.fox_server_session.proofs.session.start.Tie as tie
 returns : tie.Need-returns
 returns c =
     let test = c .before in
-    refused-start _ _ _ _ _ (test .before .for-run .ensures) (test .if1 .taken) (c .refused .ensures)
+    record {
+      starts = refused-start _ _ _ _ _ (test .before .for-run .ensures) (test .if1 .taken) (c .refused .ensures);
+      key = λ z. absurd (test .if1 .taken (sym (c .refused .ensures .0) ∙ z));
+    }
 
 read-block-requires : tie.Need-read-block-requires
 read-block-requires c κs = stretched _ _ _ _ _ _ _ (sym (c .before .for-run .ensures) ∙ c .if1 .left) .counter
@@ -28,8 +31,11 @@ returns-2 c =
     let read = c .before .before .before .before .before in
     let test = read .before in
     let a = test .before .before .before .args in
-    served-start (a .p) (read .read-block .result) (c .before .block-at .result) (a .counter .now) (sym (test .before .for-run .ensures) ∙ test .if1 .left)
-    (c .served .ensures) (read .read-block .ensures) (c .before .block-at .ensures)
+    record {
+      starts = served-start (a .p) (read .read-block .result) (c .before .block-at .result) (a .counter .now)
+          (sym (test .before .for-run .ensures) ∙ test .if1 .left) (c .served .ensures) (read .read-block .ensures) (c .before .block-at .ensures);
+      key = λ z. refl;
+    }
 
 pub start-spec : {M : Type 1} → statement M
 start-spec =
