@@ -1,2 +1,3 @@
--- The laws that the proofs of this crate share.
+-- The laws that the proofs of this crate share, and the theorems on sessions with a prepared key.
 pub mod Laws
+pub mod ByPrepared

@@ -8,7 +8,7 @@ ghost use Rattle.fox_refusals.specs.Refusals.{blockSize};
 ghost use Rattle.fox_block.specs.Block.{bytes};
 ghost use Rattle.fox_run.specs.Run.{runWith};
 ghost use Rattle.fox_run.specs.Parts.{Xored};
-ghost use Rattle.fox_session.specs.InUse.{bytesIn, blockIn, BlockAt};
+ghost use Rattle.fox_session.specs.InUse.{bytesIn, heldBlock, BlockAt};
 ghost use Rattle.fox_server_key.specs.Prepared.{heldKeys};
 use crate::seal::sealed;
 use fox_bytes::bytes::load8;
@@ -56,7 +56,7 @@ fn pair_of_state(x: State) -> Pair
 
 pub fn read_block(cipher: u32, block: &[u8]) -> Pair
     requires { ⌜ length (now block) ≡ blockSize cipher ⌝ }
-    ensures { λ r. ⌜ blockIn cipher r ≡ now (block .entry) ⌝ }
+    ensures { λ r. ⌜ heldBlock cipher r ≡ now (block .entry) ⌝ }
 {
     if cipher == 64 {
         return Pair {
@@ -70,7 +70,7 @@ pub fn read_block(cipher: u32, block: &[u8]) -> Pair
 // XORs with the bytes of a block from its byte number `skip` on, up to the end of the shorter; returns the count of bytes written.
 pub fn xor_block(cipher: u32, block: Pair, skip: usize, input: &[u8], out: &mut [u8]) -> usize
     requires { ⌜ (skip < blockSize cipher) × (length (now out) ≡ length (now input)) ⌝ }
-    ensures { λ r. ⌜ Xored (drop skip (blockIn cipher block)) (now (input .entry)) (now (out .entry)) (now (out .exit)) r ⌝ }
+    ensures { λ r. ⌜ Xored (drop skip (heldBlock cipher block)) (now (input .entry)) (now (out .entry)) (now (out .exit)) r ⌝ }
 {
     let mut bytes = [0u8; 16];
     put_pair(&mut bytes, block);
@@ -87,7 +87,7 @@ pub fn block_at(
     position: usize,
 ) -> Pair
     requires { ⌜ (1 ≤ rounds) × (rounds ≤ 255) × (position ≤ 1073741824) ⌝ }
-    ensures { λ r. ⌜ BlockAt cipher (heldKeys cipher (now (keys .entry)) rounds) (blockIn cipher counter) position r ⌝ }
+    ensures { λ r. ⌜ BlockAt cipher (heldKeys cipher (now (keys .entry)) rounds) (heldBlock cipher counter) position r ⌝ }
 {
     if position == 1_073_741_824 {
         return Pair { left: 0, right: 0 };
@@ -113,7 +113,7 @@ pub fn whole_blocks(
 )
     requires { ⌜ (1 ≤ rounds) × (rounds ≤ 255) × (n + length (now input) ≤ 1073741824) × (length (now out) ≡ length (now input)) ⌝ }
     ensures { λ _. ⌜ now (out .exit)
-        ≡ runWith cipher (heldKeys cipher (now (keys .entry)) rounds) (blockIn cipher counter) n (now (input .entry)) ⌝ }
+        ≡ runWith cipher (heldKeys cipher (now (keys .entry)) rounds) (heldBlock cipher counter) n (now (input .entry)) ⌝ }
 {
     if input.len() == 0 {
         return;

@@ -9,7 +9,7 @@ use Rattle.fox_run.specs.Run.{runWith}
 use Rattle.fox_session.specs.declared.Pair.{Pair}
 use Rattle.fox_session.specs.declared.Here.{Here}
 use Rattle.fox_session.specs.Machine.{Machine}
-use Rattle.fox_session.specs.InUse.{blockIn, TrueTo}
+use Rattle.fox_session.specs.InUse.{heldBlock, TrueTo}
 use Rattle.fox_server_key.specs.Prepared.{heldKeys}
 use Rattle.fox_server_session_step.specs.declared.step.Basis.{Basis}
 
@@ -21,7 +21,7 @@ machineAt b keys here =
       rounds = b .rounds;
       keyLen = b .«key_len»;
       rks = heldKeys (b .cipher) keys (b .rounds);
-      counter = blockIn (b .cipher) (b .counter);
+      counter = heldBlock (b .cipher) (b .counter);
       position = here .position;
     }
 
@@ -41,5 +41,5 @@ Renews b keys here position w = TrueAt b keys here → TrueAt b keys (record { p
 -- the input sealed or opened at the position, and the block that the next position is in, where the block in use was true before
 pub record Passes (b : Basis) (keys : List ℕ) (here : Here) (input output : List ℕ) (w : Pair) : Type 0 where
   pub bytes : TrueAt b keys here
-      → output ≡ runWith (b .cipher) (heldKeys (b .cipher) keys (b .rounds)) (blockIn (b .cipher) (b .counter)) (here .position) input
+      → output ≡ runWith (b .cipher) (heldKeys (b .cipher) keys (b .rounds)) (heldBlock (b .cipher) (b .counter)) (here .position) input
   pub block : Renews b keys here (here .position + length input) w

@@ -6,7 +6,7 @@ ghost use Prim.Native.Nat.{_+_, _%_, _≤_};
 ghost use lib.ListN.{length, take};
 ghost use Rattle.fox_refusals.specs.Refusals.{blockSize};
 ghost use Rattle.fox_run.specs.Run.{runWith};
-ghost use Rattle.fox_session.specs.InUse.{blockIn, BlockAt};
+ghost use Rattle.fox_session.specs.InUse.{heldBlock, BlockAt};
 ghost use Rattle.fox_session.specs.Machine.{Advance, Move};
 ghost use Rattle.fox_session.specs.Promise.{Follows};
 ghost use Rattle.fox_server_key.specs.Prepared.{heldKeys};
@@ -66,8 +66,8 @@ fn further(
 ) -> Pair
     requires { ⌜ (1 ≤ rounds) × (rounds ≤ 255) × (n + length (now input) ≤ 1073741824) × (length (now out) ≡ length (now input)) ⌝ }
     requires { ⌜ n % blockSize cipher ≡ 0 ⌝ }
-    ensures { λ r. ⌜ (now (out .exit) ≡ runWith cipher (heldKeys cipher (now (keys .entry)) rounds) (blockIn cipher counter) n (now (input .entry)))
-        × BlockAt cipher (heldKeys cipher (now (keys .entry)) rounds) (blockIn cipher counter) (n + length (now (input .entry))) r ⌝ }
+    ensures { λ r. ⌜ (now (out .exit) ≡ runWith cipher (heldKeys cipher (now (keys .entry)) rounds) (heldBlock cipher counter) n (now (input .entry)))
+        × BlockAt cipher (heldKeys cipher (now (keys .entry)) rounds) (heldBlock cipher counter) (n + length (now (input .entry))) r ⌝ }
 {
     let size = block_size(cipher);
     let whole = input.len() - input.len() % size;

@@ -50,3 +50,10 @@ pub known-first :
     ≡ 1 ∷ 2 ∷ 3 ∷ 4 ∷ 7 ∷ []
 unfolding refusalOf blockSize wrongCipher wrongRounds longKey wrongBlockLength longData wrongOutputLength pastEnd forKey forStretch forRun
 known-first = refl
+
+-- 65,536 bytes in a call, and one more, which is told before the output's length and the run's end
+pub known-long :
+    tells (at 0) (bytes 65536) .refusal ∷ tells (at 0) (bytes 65537) .refusal ∷ tells (at 1073741824) (Advance (replicate 65537 0) []) .refusal ∷ []
+    ≡ 0 ∷ 5 ∷ 5 ∷ []
+unfolding refusalOf blockSize wrongCipher wrongRounds longKey wrongBlockLength longData wrongOutputLength pastEnd forKey forStretch forRun
+known-long = refl

@@ -1,13 +1,20 @@
 -- Any list of calls on a session gives the answers, bytes and positions of the plain machine; and each advance is answered as a call on that stretch of the
 -- run is, so that every theorem on runs holds of it.
 -- Assumes nothing.
-use mathlib.Core.Path.{_≡_, refl, ap, ap₂, _∙_}
+use mathlib.Core.Path.{_≡_, refl, ap, ap₂, subst, _∙_}
 use Prim.Native.Nat.{ℕ}
 use mathlib.Core.List.{List, [], _∷_}
 use Rattle.fox_refusals.specs.declared.answer.Answer.{Answer}
 use Rattle.fox_run.specs.Promise.{RunsWith}
-use Rattle.fox_session.specs.Machine.{Machine, atStart, Call, Told, Advance, tells, tellsAll, afterAll}
+use Rattle.fox_session.specs.Machine.{Machine, atStart, Call, Told, Advance, Move, tells, standing, tellsAll, afterAll}
 use Rattle.fox_session.specs.Promise.{Starts, Follows, Plays, none, next}
+
+-- calls change nothing of a machine but its position
+pub same-key : (m : Machine) (calls : List Call) → afterAll m calls ≡ standing m (afterAll m calls .position)
+unfolding afterAll
+same-key m [] = refl
+same-key m (Advance input out ∷ calls) = same-key (standing m _) calls
+same-key m (Move to ∷ calls) = same-key (standing m _) calls
 
 module _ {S : Type 0} (machine : S → Machine) (True : S → Type 0) where
   -- one call
@@ -37,3 +44,14 @@ module _ {S : Type 0} (machine : S → Machine) (True : S → Type 0) where
   pub advance-runs : {s s' : S} {input before output : List ℕ} {r : Answer} → True s → Follows machine True s (Advance input before) output r s'
       → RunsWith (machine s .cipher) (machine s .rounds) (machine s .keyLen) (machine s .rks) (machine s .counter) (machine s .position) input before output r
   advance-runs t f = record { refusal = f .refusal; count = f .count; output = f .bytes t }
+
+  -- so after a start and any calls an advance is answered as a call on the stretch at the last position
+  pub started-runs : {z s s' s'' : S} {c rounds k : ℕ} {rks counter : List ℕ} {r q : Answer} {calls : List Call} {tolds : List Told}
+      {input before output : List ℕ} → Starts machine True z c rounds k rks counter r s → r .refusal ≡ 0 → Plays machine True s calls tolds s'
+      → Follows machine True s' (Advance input before) output q s''
+      → RunsWith c rounds k rks counter (afterAll (atStart c rounds k rks counter) calls .position) input before output q
+  started-runs {c = c} {rounds} {k} {rks} {counter} {q = q} {calls = calls} {input = input} {before} {output} begun e played f =
+      let m = atStart c rounds k rks counter in
+      let later = started-plain begun e played in
+      subst (λ (n : Machine). RunsWith (n .cipher) (n .rounds) (n .keyLen) (n .rks) (n .counter) (n .position) input before output q)
+      (later .1 ∙ same-key m calls) (advance-runs (later .2) f)

@@ -16,13 +16,13 @@ unfoldable pub bytesIn : Pair → List ℕ
 bytesIn w = split 8 (w .left) ++ split 8 (w .right)
 
 -- the block of the cipher's size that two words hold
-unfoldable pub blockIn : ℕ → Pair → List ℕ
-blockIn cipher w = take (blockSize cipher) (bytesIn w)
+unfoldable pub heldBlock : ℕ → Pair → List ℕ
+heldBlock cipher w = take (blockSize cipher) (bytesIn w)
 
 -- two words hold the sealed counter block that a position is in. At the run's end there is none
 abbrev pub BlockAt : ℕ → List ℕ → List ℕ → ℕ → Pair → Type 0
 BlockAt cipher rks counter position w =
-    position < 1073741824 → blockIn cipher w ≡ sealWith cipher rks (counterBlock counter (position / blockSize cipher))
+    position < 1073741824 → heldBlock cipher w ≡ sealWith cipher rks (counterBlock counter (position / blockSize cipher))
 
 -- the same of the machine's position, unless its key is refused
 abbrev pub TrueTo : Machine → Pair → Type 0

@@ -19,7 +19,7 @@ use Rattle.fox_refusals.proofs.Laws.Reply.{chosen}
 use Rattle.fox_run.specs.Run.{run}
 use Rattle.fox_session.specs.Machine.{Machine, Call, Told, Advance, Move, lent, tells, after, tellsAll, afterAll}
 use Rattle.fox_session.specs.Promise.{Plays, none, next}
-use Rattle.fox_session.proofs.Lists.{as-plain, advance-runs}
+use Rattle.fox_session.proofs.Lists.{same-key, as-plain, advance-runs}
 use Rattle.fox_server_key.specs.Prepared.{preparedKey}
 use Rattle.fox_server_session_step.specs.Step.{machineAt}
 use Rattle.fox_station.specs.Exports.{RunHanded}
@@ -111,18 +111,12 @@ module _ (c r : ℕ) (key counter : List ℕ) where
 
   -- any calls, one after the other, tell what the plain machine tells, and the words then stand at its last position
 
-  same-key : (p : ℕ) (calls : List Call) → afterAll (plain p) calls ≡ plain (afterAll (plain p) calls .position)
-  unfolding afterAll
-  same-key p [] = refl
-  same-key p (Advance input out ∷ calls) = same-key _ calls
-  same-key p (Move to ∷ calls) = same-key _ calls
-
   pub stands-as-plain : (p : ℕ) {words words' : List ℕ} {calls : List Call} {tolds : List Told} → Stands c r key counter words p
       → Plays machineIn TrueIn words calls tolds words' → (tolds ≡ tellsAll (plain p) calls) × Stands c r key counter words' (afterAll (plain p) calls .position)
   stands-as-plain p {calls = calls} s plays =
       let (told, goes, true) = as-plain machineIn TrueIn (s .true) plays in (
         told ∙ ap (λ (m : Machine). tellsAll m calls) (s .machine),
-        record { machine = goes ∙ ap (λ (m : Machine). afterAll m calls) (s .machine) ∙ same-key p calls; true = true },
+        record { machine = goes ∙ ap (λ (m : Machine). afterAll m calls) (s .machine) ∙ same-key (plain p) calls; true = true },
       )
 
   pub session-as-plain : {words words' : List ℕ} {n : ℕ} {calls : List Call} {tolds : List Told} → StartHanded c r key counter (answer n 0) words → n ≡ 0

@@ -11,7 +11,7 @@ use Rattle.fox_refusals.specs.Refusals.{refusalOf, forRun}
 use Rattle.fox_refusals.specs.declared.answer.Answer.{Answer}
 use Rattle.fox_session.specs.Machine.{Machine, Call}
 use Rattle.fox_session.specs.Promise.{Starts, Follows}
-use Rattle.fox_session.specs.InUse.{blockIn, BlockAt}
+use Rattle.fox_session.specs.InUse.{heldBlock, BlockAt}
 use Rattle.fox_session.specs.declared.Pair.{Pair}
 use Rattle.fox_session.specs.declared.Here.{Here}
 use Rattle.fox_server_key.specs.Prepared.{heldKeys, roundKeysIn, noKey}
@@ -55,7 +55,7 @@ module _ (cipher rounds keyLen : ℕ) (rks counter : List ℕ) where
 
 pub served-start : (p : Prepared) (first block : Pair) (counter : List ℕ) {r : Answer}
     → refusalOf (forRun (p .cipher) (p .rounds) (p .«key_len») (length counter) 0 0 0) ≡ 0 → (r .refusal ≡ 0) × (r .count ≡ 0)
-    → blockIn (p .cipher) first ≡ counter → BlockAt (p .cipher) (heldKeys (p .cipher) (p .keys) (p .rounds)) (blockIn (p .cipher) first) 0 block
+    → heldBlock (p .cipher) first ≡ counter → BlockAt (p .cipher) (heldKeys (p .cipher) (p .keys) (p .rounds)) (heldBlock (p .cipher) first) 0 block
     → Starts machineOf TrueOf noSession (p .cipher) (p .rounds) (p .«key_len») (roundKeysIn p) counter r
     (record { key = p; counter = first; here = record { position = 0; block = block } })
 unfolding machineAt roundKeysIn

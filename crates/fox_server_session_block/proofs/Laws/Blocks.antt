@@ -21,7 +21,7 @@ use Rattle.fox_run.specs.Counter.{counterBlock}
 use Rattle.fox_run.specs.States.{counted}
 use Rattle.fox_run.proofs.Laws.Counting.{counted-state}
 use Rattle.fox_session.specs.declared.Pair.{Pair}
-use Rattle.fox_session.specs.InUse.{bytesIn, blockIn}
+use Rattle.fox_session.specs.InUse.{bytesIn, heldBlock}
 use Rattle.fox_server_key.proofs.Laws.Prepares.{size-le}
 
 -- the block size
@@ -55,28 +55,28 @@ bytes-read w bs l e f = ap₂ (λ (xs ys : List ℕ). xs ++ ys) e f ∙ sym (tak
 -- the block in two words
 
 module _ (c : ℕ) (w : Pair) where
-  pub length-blockIn : length (blockIn c w) ≡ blockSize c
-  unfolding blockIn
-  length-blockIn = length-take-le (blockSize c) (bytesIn w) (omega (arith, length-bytesIn w, size-le c refl))
+  pub length-heldBlock : length (heldBlock c w) ≡ blockSize c
+  unfolding heldBlock
+  length-heldBlock = length-take-le (blockSize c) (bytesIn w) (omega (arith, length-bytesIn w, size-le c refl))
 
   -- a block of 8 bytes is in the left word
-  pub left-block : (bs : List ℕ) → c ≡ 64 → length bs ≡ blockSize c → split 8 (w .left) ≡ take 8 bs → blockIn c w ≡ bs
-  unfolding bytesIn blockIn
+  pub left-block : (bs : List ℕ) → c ≡ 64 → length bs ≡ blockSize c → split 8 (w .left) ≡ take 8 bs → heldBlock c w ≡ bs
+  unfolding bytesIn heldBlock
   left-block bs is l e =
       ap (λ (n : ℕ). take n (split 8 (w .left) ++ split 8 (w .right))) (size-64 c is)
       ∙ take-at (split 8 (w .left)) (split 8 (w .right)) 8 (length-split 8 (w .left))
       ∙ e ∙ take-all 8 bs (omega (arith, size-64 c is))
 
   -- the first of the words' bytes
-  pub front-block : {bs : List ℕ} {B : ℕ} → bs ≡ bytesIn w → B ≡ blockSize c → take B bs ≡ blockIn c w
-  unfolding blockIn
+  pub front-block : {bs : List ℕ} {B : ℕ} → bs ≡ bytesIn w → B ≡ blockSize c → take B bs ≡ heldBlock c w
+  unfolding heldBlock
   front-block e n = ap₂ (λ (m : ℕ) (xs : List ℕ). take m xs) n e
 
   pub front-length : {bs : List ℕ} {B : ℕ} → bs ≡ bytesIn w → B ≡ blockSize c → length (take B bs) ≡ blockSize c
-  front-length e n = ap length (front-block e n) ∙ length-blockIn
+  front-length e n = ap length (front-block e n) ∙ length-heldBlock
 
   -- from its byte number k on
-  pub rest-block : (k : ℕ) {bs : List ℕ} {B : ℕ} → bs ≡ bytesIn w → B ≡ blockSize c → k ≤ B → take (B - k) (drop k bs) ≡ drop k (blockIn c w)
+  pub rest-block : (k : ℕ) {bs : List ℕ} {B : ℕ} → bs ≡ bytesIn w → B ≡ blockSize c → k ≤ B → take (B - k) (drop k bs) ≡ drop k (heldBlock c w)
   rest-block k {bs} {B} e n h =
       let whole : k + (B - k) ≡ B = omega arith in
       let long : length bs ≡ 16 = ap length e ∙ length-bytesIn w in
@@ -92,13 +92,13 @@ state-small (Of128 x) = lit≤ tt
 -- the sealed counter block that a position is in, as code has it: by states, and with its bytes in front of the words'
 pub block-sealed : (c : ℕ) (rks : List ℕ) (p : ℕ) (first w : Pair) {fs : List ℕ} {B : ℕ} {x y z : State} → B ≡ blockSize c → fs ≡ bytesIn first
     → x ≡ state c (take B fs) → y ≡ counted x (p / B) → z ≡ turned true rks y → take (size z) (bytesIn w) ≡ bytes z
-    → blockIn c w ≡ sealWith c rks (counterBlock (blockIn c first) (p / blockSize c))
-unfolding blockIn turnWith
+    → heldBlock c w ≡ sealWith c rks (counterBlock (heldBlock c first) (p / blockSize c))
+unfolding heldBlock turnWith
 block-sealed c rks p first w {fs} {B} {x} {y} {z} n e ex ey ez made =
     let i = p / blockSize c in
-    let block : x ≡ state c (blockIn c first) = ex ∙ ap (state c) (front-block c first e n) in
-    let here : y ≡ state c (counterBlock (blockIn c first) i)
-    = ey ∙ ap₂ (λ (u : State) (m : ℕ). counted u (p / m)) block n ∙ sym (counted-state c (blockIn c first) i (length-blockIn c first)) in
-    let turns : z ≡ turned true rks (state c (counterBlock (blockIn c first) i)) = ez ∙ ap (turned true rks) here in
-    let wide : size z ≡ blockSize c = ap size turns ∙ turned-size true rks _ ∙ state-size c (counterBlock (blockIn c first) i) in
+    let block : x ≡ state c (heldBlock c first) = ex ∙ ap (state c) (front-block c first e n) in
+    let here : y ≡ state c (counterBlock (heldBlock c first) i)
+    = ey ∙ ap₂ (λ (u : State) (m : ℕ). counted u (p / m)) block n ∙ sym (counted-state c (heldBlock c first) i (length-heldBlock c first)) in
+    let turns : z ≡ turned true rks (state c (counterBlock (heldBlock c first) i)) = ez ∙ ap (turned true rks) here in
+    let wide : size z ≡ blockSize c = ap size turns ∙ turned-size true rks _ ∙ state-size c (counterBlock (heldBlock c first) i) in
     ap (λ (m : ℕ). take m (bytesIn w)) (sym wide) ∙ made ∙ ap bytes turns

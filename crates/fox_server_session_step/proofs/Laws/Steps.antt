@@ -29,11 +29,11 @@ use Rattle.fox_run.proofs.Stretches.{run-append}
 use Rattle.fox_session.specs.declared.Pair.{Pair}
 use Rattle.fox_session.specs.declared.Here.{Here}
 use Rattle.fox_session.specs.Machine.{refusalOn}
-use Rattle.fox_session.specs.InUse.{blockIn, BlockAt}
+use Rattle.fox_session.specs.InUse.{heldBlock, BlockAt}
 use Rattle.fox_server_key.specs.Prepared.{heldKeys}
 use Rattle.fox_server_session_step.specs.declared.step.Basis.{Basis}
 use Rattle.fox_server_session_step.specs.Step.{machineAt, Passes, Renews}
-use Rattle.fox_server_session_block.proofs.Laws.Blocks.{size-some, length-blockIn}
+use Rattle.fox_server_session_block.proofs.Laws.Blocks.{size-some, length-heldBlock}
 
 -- what holds of 8 and of 16 holds of the block size
 by-size : (c : ℕ) (P : ℕ → Type 0) → P 8 → P 16 → P (blockSize c)
@@ -66,11 +66,11 @@ xored-within {bs} {ds} x = omega (arith, x .count, length-xorEach-min bs ds)
 
 -- the XOR with what is left of a block, from byte n of a run on
 
-module _ (c n : ℕ) (w : Pair) (ds os : List ℕ) {after : List ℕ} {B r : ℕ} (e : B ≡ blockSize c) (x : Xored (drop (n % B) (blockIn c w)) ds os after r) where
+module _ (c n : ℕ) (w : Pair) (ds os : List ℕ) {after : List ℕ} {B r : ℕ} (e : B ≡ blockSize c) (x : Xored (drop (n % B) (heldBlock c w)) ds os after r) where
   count-xored : r ≡ min (B - n % B) (length ds)
   count-xored =
-      x .count ∙ length-xorEach-min (drop (n % B) (blockIn c w)) ds
-      ∙ ap (λ (k : ℕ). min k (length ds)) (length-drop (n % B) (blockIn c w) ∙ ap (λ (k : ℕ). k - n % B) (length-blockIn c w ∙ sym e))
+      x .count ∙ length-xorEach-min (drop (n % B) (heldBlock c w)) ds
+      ∙ ap (λ (k : ℕ). min k (length ds)) (length-drop (n % B) (heldBlock c w) ∙ ap (λ (k : ℕ). k - n % B) (length-heldBlock c w ∙ sym e))
 
   -- where the bytes go on past the block, the XOR ends with it
   pub xored-end : B ≤ n % B + length ds → (n + r) % blockSize c ≡ 0
@@ -88,7 +88,7 @@ module _ (c n : ℕ) (w : Pair) (ds os : List ℕ) {after : List ℕ} {B r : ℕ
       (λ i. length-turned true c rks (counterBlock counter i)) n (at (ltb-true n 1073741824 t)) (rw e at x) .output)
       (λ t.
       let none : length ds ≡ 0 = omega (arith, ltb-false n 1073741824 t) in
-      let empty : xorEach (drop (n % B) (blockIn c w)) ds ≡ xorFrom (keyStream c rks counter) n (take r ds) =
+      let empty : xorEach (drop (n % B) (heldBlock c w)) ds ≡ xorFrom (keyStream c rks counter) n (take r ds) =
       both-empty _ _ (omega (arith, count-xored, x .count)) (length-xorFrom _ n (take r ds) ∙ omega (arith, length-take r ds)) in
       x .output ∙ ap (λ (xs : List ℕ). xs ++ drop r os) empty)
 
@@ -99,7 +99,7 @@ module _ (c : ℕ) (rks counter : List ℕ) where
 
   -- bytes that end before their block does
   in-block : (n : ℕ) (w : Pair) (ds os : List ℕ) {after : List ℕ} {B r : ℕ} → B ≡ blockSize c → n % B + length ds < B → n + length ds ≤ 1073741824
-      → length os ≡ length ds → BlockAt c rks counter n w → Xored (drop (n % B) (blockIn c w)) ds os after r → after ≡ runWith c rks counter n ds
+      → length os ≡ length ds → BlockAt c rks counter n w → Xored (drop (n % B) (heldBlock c w)) ds os after r → after ≡ runWith c rks counter n ds
   unfolding runWith
   in-block n w ds os {r = r} e short within room at x =
       xoredTo-last (keyStream c rks counter) n ds os r room (omega (arith, count-xored c n w ds os e x)) (xored-run c n w ds os e x rks counter within at)
@@ -117,7 +117,7 @@ module _ (c : ℕ) (rks counter : List ℕ) where
   pub run-further : (n m : ℕ) (w : Pair) (ds os front : List ℕ) {part : List ℕ} {B r : ℕ} → B ≡ blockSize c → m ≡ length ds - length ds % B
       → n % blockSize c ≡ 0 → n + length ds ≤ 1073741824 → length os ≡ length ds → front ≡ runWith c rks counter n (take m ds)
       → BlockAt c rks counter (n + length ds) w
-      → Xored (drop 0 (blockIn c w)) (midOf m (length ds - m) ds) (midOf m (length (front ++ drop m os) - m) (front ++ drop m os)) part r
+      → Xored (drop 0 (heldBlock c w)) (midOf m (length ds - m) ds) (midOf m (length (front ++ drop m os) - m) (front ++ drop m os)) part r
       → putMid m (length (front ++ drop m os) - m) (front ++ drop m os) part ≡ runWith c rks counter n ds
   run-further n m w ds os front {part} {B} {r} e whole start within room done at x =
       let l = front ++ drop m os in
@@ -138,13 +138,13 @@ module _ (c : ℕ) (rks counter : List ℕ) where
 
 module _ (b : Basis) (keys : List ℕ) (here : Here) (ds os : List ℕ) (keyed : Keyed (b .cipher) (b .rounds) (b .«key_len»))
     (within : here .position + length ds ≤ 1073741824) (room : length os ≡ length ds) {after : List ℕ} {B r : ℕ} (e : B ≡ blockSize (b .cipher))
-    (x : Xored (drop (here .position % B) (blockIn (b .cipher) (here .block))) ds os after r) where
+    (x : Xored (drop (here .position % B) (heldBlock (b .cipher) (here .block))) ds os after r) where
   -- the bytes end within the block in use, which stays
   pub passes-within : here .position % B + length ds < B → Passes b keys here ds after (here .block)
   unfolding machineAt
   passes-within short =
       let rks = heldKeys (b .cipher) keys (b .rounds) in
-      let counter = blockIn (b .cipher) (b .counter) in
+      let counter = heldBlock (b .cipher) (b .counter) in
       record {
         bytes = λ t. in-block (b .cipher) rks counter (here .position) (here .block) ds os e short within room (t keyed) x;
         block = λ t k. same-block (b .cipher) rks counter (here .position) (here .position + length ds) (here .block)
@@ -153,16 +153,16 @@ module _ (b : Basis) (keys : List ℕ) (here : Here) (ds os : List ℕ) (keyed :
 
   -- the block's rest is done, and the bytes go on
   pub passes-on : (w : Pair) {held part : List ℕ} → held ≡ keys
-      → (part ≡ runWith (b .cipher) (heldKeys (b .cipher) held (b .rounds)) (blockIn (b .cipher) (b .counter)) (here .position + r)
+      → (part ≡ runWith (b .cipher) (heldKeys (b .cipher) held (b .rounds)) (heldBlock (b .cipher) (b .counter)) (here .position + r)
       (midOf r (length ds - r) ds))
-      × BlockAt (b .cipher) (heldKeys (b .cipher) held (b .rounds)) (blockIn (b .cipher) (b .counter))
+      × BlockAt (b .cipher) (heldKeys (b .cipher) held (b .rounds)) (heldBlock (b .cipher) (b .counter))
       (here .position + r + length (midOf r (length ds - r) ds)) w
       → Passes b keys here ds (putMid r (length after - r) after part) w
   unfolding machineAt runWith
   passes-on w {held} {part} same further =
       let c = b .cipher in
       let rks = heldKeys c keys (b .rounds) in
-      let counter = blockIn c (b .counter) in
+      let counter = heldBlock c (b .counter) in
       let n = here .position in
       let done : r ≤ length ds = xored-within x in
       let size : length (xorFrom (keyStream c rks counter) n (take r ds)) ≡ r = length-xorFrom _ n (take r ds) ∙ length-take-le r ds done in
@@ -182,7 +182,7 @@ module _ (b : Basis) (keys : List ℕ) (here : Here) (to : ℕ) where
   renews-same e same t k = same-block (b .cipher) _ _ (here .position) to (here .block) (sym (rw e at same)) (t k)
 
   pub renews-new : (w : Pair) {held : List ℕ} → held ≡ keys
-      → BlockAt (b .cipher) (heldKeys (b .cipher) held (b .rounds)) (blockIn (b .cipher) (b .counter)) to w → Renews b keys here to w
+      → BlockAt (b .cipher) (heldKeys (b .cipher) held (b .rounds)) (heldBlock (b .cipher) (b .counter)) to w → Renews b keys here to w
   unfolding machineAt
   renews-new w same made t k = rw same at made
 
@@ -191,4 +191,4 @@ pub refusal-with : (b : Basis) (keys : List ℕ) (here : Here) (offset inputLen 
     → refusalOf (forRun (b .cipher) (b .rounds) (b .«key_len») B offset inputLen outLen) ≡ refusalOn (machineAt b keys here) offset inputLen outLen
 unfolding machineAt
 refusal-with b keys here offset inputLen outLen e =
-    ap (λ (n : ℕ). refusalOf (forRun (b .cipher) (b .rounds) (b .«key_len») n offset inputLen outLen)) (e ∙ sym (length-blockIn (b .cipher) (b .counter)))
+    ap (λ (n : ℕ). refusalOf (forRun (b .cipher) (b .rounds) (b .«key_len») n offset inputLen outLen)) (e ∙ sym (length-heldBlock (b .cipher) (b .counter)))

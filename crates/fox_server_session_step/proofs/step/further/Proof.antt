@@ -6,7 +6,7 @@ use native.Mathlib.Nat.{mod-le}
 use native.Mathlib.Omega.{arith}
 use lib.ListN.{length-take, length-drop}
 use Rattle.fox_server_key.specs.Prepared.{heldKeys}
-use Rattle.fox_session.specs.InUse.{blockIn}
+use Rattle.fox_session.specs.InUse.{heldBlock}
 use Rattle.fox_server_session_block.proofs.Laws.Blocks.{size-some}
 use Rattle.fox_server_session_step.proofs.Laws.Steps.{run-further}
 use borrow.Author.Needs.{needs}
@@ -44,7 +44,7 @@ returns c =
     let size = whole .before .before .before in
     let start = size .before .before .before in
     let a = start .args in (
-      run-further (a .cipher) (heldKeys (a .cipher) (a .keys .now) (a .rounds)) (blockIn (a .cipher) (a .counter)) (a .n) _ (at .block-at .result)
+      run-further (a .cipher) (heldKeys (a .cipher) (a .keys .now) (a .rounds)) (heldBlock (a .cipher) (a .counter)) (a .n) _ (at .block-at .result)
           (a .input .now) (a .out .now) _ (size .block-size .ensures) refl (start .pre .1) (start .pre .0 .2) (start .pre .0 .3) (whole .whole-blocks .ensures)
           (at .block-at .ensures) (xored .xor-block .ensures),
       at .block-at .ensures,
