@@ -57,8 +57,8 @@
  * one makes the other tests. The card engine keeps no list of round keys and no large table, and is slow.
  * The server engine expands the key and makes its tables once in a call, and is fast on many blocks; for one
  * block these preparations are most of the work. A session (fox_session_...) works by the server engine, and
- * gives the same bytes too: it expands the key once, when it is started, and after that makes tables only in a
- * call that leaves the block in use.
+ * gives the same bytes too: it expands the key once, when it is started, and after that makes tables only in an
+ * advance that takes in a whole block beyond the block in use.
  *
  * Every call of an engine or on a session, fox_counter, and every call on a run file that gives a count or takes
  * a file up, answers FOX_SERVED, which is 0, or the number of the first refusal below that applies. Order for
@@ -264,7 +264,8 @@ uint32_t fox_server_run(uint32_t cipher, uint32_t rounds, const uint8_t *key, si
 /* A session: a run that is kept open, and sealed or opened a few bytes at a time, as a live display does it. It
  * keeps the prepared key, the counter block that the run begins with, the position and the block in use, in
  * FOX_SESSION_WORDS words that the caller lends. Bytes inside the block in use are XORed with it, and nothing is
- * sealed for them; for those beyond it the server engine works as in fox_server_run, the key being prepared.
+ * sealed for them; whole blocks beyond it go as in fox_server_run, the key being prepared, and the bytes after
+ * those by the next block in use.
  * Answers and bytes depend on key, counter block and position alone: they are those of fox_server_run with the
  * position as the offset.
  *
