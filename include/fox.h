@@ -265,9 +265,8 @@ uint32_t fox_server_run(uint32_t cipher, uint32_t rounds, const uint8_t *key, si
  * keeps the prepared key, the counter block that the run begins with, the position and the block in use, in
  * FOX_SESSION_WORDS words that the caller lends. Bytes inside the block in use are XORed with it, and nothing is
  * sealed for them; whole blocks beyond it go as in fox_server_run, the key being prepared, and the bytes after
- * those by the next block in use.
- * Answers and bytes depend on key, counter block and position alone: they are those of fox_server_run with the
- * position as the offset.
+ * those by the next block in use. Answers and bytes depend on key, counter block and position alone: they are
+ * those of fox_server_run with the position as the offset.
  *
  * fox_session_start sets the words to a session at position 0, whatever they were. The refusals are 1 to 4, and
  * with any of them all words are set to zero, so that every other call on them is refused with 1.
