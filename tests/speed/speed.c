@@ -1,6 +1,6 @@
-/* The speed of the library's runs and tags beside that of plain C code, and of its run files beside its own runs and
- * tags, side by side in one process. The C code and every engine are first held to the server's answers, and nothing is
- * measured where they differ. A figure that is missed is said and is no error. */
+/* The speed of the library's runs and tags beside that of plain C code, and of its run files and sessions beside its own
+ * runs and tags, side by side in one process. The C code and every engine are first held to the server's answers, and
+ * nothing is measured where they differ. A figure that is missed is said and is no error. */
 #include "chance.h"
 #include "count.h"
 #include "engines.h"
