@@ -1,32 +1,71 @@
-// Sealing and opening by the card engine: each round key is computed when its round comes, from the register's value for that round.
+// Sealing and opening by the card engine: each round key is made when its round comes, at the register's value for that round, and hands on the value for the
+// next. Between any two rounds the block can be stopped, and gone on with later.
 ghost use mathlib.Core.Path.{_≡_};
-ghost use Prim.Native.Nat.{_≤_, _<_, _^_};
-ghost use Rattle.fox_rounds.specs.Skeleton.{round, turned};
-ghost use Rattle.fox_key_schedule.specs.Step.{roundKeyAt, roundKeysOf};
+ghost use Prim.Native.Nat.{_-_, _≤_, _<_, _^_};
+ghost use Rattle.fox_rounds.specs.Skeleton.{turned};
+ghost use Rattle.fox_key_schedule.specs.Step.{roundKeyAt, steps, roundKeysOf};
+ghost use Rattle.fox_card_block.specs.Hold.{led, roundOn, roundsOn};
 use fox_key_schedule::schedule::Schedule;
 use fox_rounds::state::State;
 
-// One round, with the round key at the register value reg.
-fn round_at(s: Schedule, reg: u32, y: State) -> State
-    requires { ⌜ reg < 2 ^ 24 ⌝ }
-    ensures { λ z. ⌜ z ≡ round (roundKeyAt s reg) y ⌝ }
+// A block between two rounds: its state, and the register's value for the next round.
+pub struct Hold {
+    pub state: State,
+    pub reg: u32,
+}
+
+// The state as round number i takes it, with "or" or "io" before every round but the first.
+fn led(sealing: bool, i: u8, y: State) -> State
+    ensures { λ z. ⌜ z ≡ led sealing i y ⌝ }
 {
-    let k = s.round_key(reg);
-    y.round(k.left, k.right)
+    if i == 0 {
+        return y;
+    }
+    y.between(sealing)
+}
+
+// Round number i.
+fn round_on(sealing: bool, s: Schedule, i: u8, h: Hold) -> Hold
+    requires { ⌜ h .reg < 2 ^ 24 ⌝ }
+    ensures { λ r. ⌜ r ≡ roundOn sealing (roundKeyAt s) (steps s) i h ⌝ }
+{
+    let k = s.round_key(h.reg);
+    let y = led(sealing, i, h.state);
+    Hold {
+        state: y.round(k.key.left, k.key.right),
+        reg: k.onward(sealing),
+    }
+}
+
+// The rounds from number `from` on, up to the one before number `until`.
+pub fn rounds_on(sealing: bool, s: Schedule, from: u8, until: u8, h: Hold) -> Hold
+    requires { ⌜ h .reg < 2 ^ 24 ⌝ }
+    ensures { λ r. ⌜ r ≡ roundsOn sealing (roundKeyAt s) (steps s) from (until - from) h ⌝ }
+{
+    let mut now = h;
+    for i in from..until {
+        now = round_on(sealing, s, i, now);
+    }
+    now
 }
 
 pub fn turned(sealing: bool, s: Schedule, rounds: u8, x: State) -> State
     requires { ⌜ 1 ≤ rounds ⌝ }
     ensures { λ y. ⌜ y ≡ turned sealing (roundKeysOf s rounds) x ⌝ }
 {
-    let mut reg = s.first(sealing, rounds);
-    let mut y = x;
-    for i in 0..rounds {
-        if i > 0 {
-            y = y.between(sealing);
-            reg = s.next(sealing, reg);
-        }
-        y = round_at(s, reg, y);
-    }
-    y
+    let reg = s.first(sealing, rounds);
+    let done = rounds_on(sealing, s, 0, rounds, Hold { state: x, reg });
+    done.state
+}
+
+// The same in two parts: stopped after `stop` rounds, or after the last, with state and register in hand, and gone on with from there.
+pub fn turned_in_two(sealing: bool, s: Schedule, rounds: u8, stop: u8, x: State) -> State
+    requires { ⌜ 1 ≤ rounds ⌝ }
+    ensures { λ y. ⌜ y ≡ turned sealing (roundKeysOf s rounds) x ⌝ }
+{
+    let reg = s.first(sealing, rounds);
+    let at = if stop < rounds { stop } else { rounds };
+    let held = rounds_on(sealing, s, 0, at, Hold { state: x, reg });
+    let done = rounds_on(sealing, s, at, rounds, held);
+    done.state
 }

@@ -45,6 +45,16 @@ roundKey cipher r key i =
     let other = roundKey128 r key i in
     cond (eqb cipher 64) (roundKey64 r key i) other
 
+-- the round key of either cipher at the register value reg
+unfoldable pub keyAt : ℕ → List ℕ → ℕ → ℕ
+keyAt cipher key reg =
+    let other = roundKeyAt128 key reg in
+    cond (eqb cipher 64) (roundKeyAt64 key reg) other
+
+-- the register's steps from one round key of either cipher to the next, which are a step block: as many as the key has groups
+unfoldable pub stepBlock : ℕ → List ℕ → ℕ
+stepBlock cipher key = cond (eqb cipher 64) (groups (ek64 (length key))) (groups ek128)
+
 -- the r round keys
 unfoldable pub roundKeys : ℕ → ℕ → List ℕ → List ℕ
 roundKeys cipher r key = numbered (roundKey cipher r key) r 0

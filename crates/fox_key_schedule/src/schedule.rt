@@ -1,9 +1,9 @@
 // The key schedule of either cipher (001 §2.3.1 to §2.3.4): the mixed key, with whether the key has ek bytes. The card engine and the prepared key both take
-// round keys and register steps from here.
+// round keys from here, and with each of them the register's value for the next.
 ghost use mathlib.Core.Path.{_≡_};
-ghost use Prim.Native.Nat.{_^_, _<_, _≤_};
+ghost use Prim.Native.Nat.{_*_, _^_, _<_, _≤_};
 ghost use lib.ListN.{length};
-ghost use Rattle.fox_key_schedule.specs.Step.{RoundKeyAt, steps, Scheduled, RegisterAt, RegisterNext};
+ghost use Rattle.fox_key_schedule.specs.Step.{KeyAt, RoundKeyAt, onward, steps, stepped, Scheduled, RegisterAt};
 use fox_key_mixing::diversification::dkey16;
 use fox_key_mixing::diversification::dkey32;
 use fox_key_mixing::key_bytes::Key16;
@@ -19,6 +19,25 @@ use fox_key_register::register::forward;
 use fox_key_register::register::seed;
 use fox_rounds::fox64::Fox64;
 use fox_rounds::fox128::Fox128;
+
+// A round key, and the register's value for the next one and for the one before.
+pub struct RoundKey {
+    pub key: Key128,
+    pub next: u32,
+    pub before: u32,
+}
+
+impl RoundKey {
+    // The register's value for the next round.
+    pub fn onward(self, sealing: bool) -> u32
+        ensures { λ r. ⌜ r ≡ onward sealing self ⌝ }
+    {
+        if sealing {
+            return self.next;
+        }
+        self.before
+    }
+}
 
 // KS64, KS64h or KS128, and whether the key has ek bytes.
 pub enum Schedule {
@@ -42,7 +61,7 @@ impl Schedule {
         }
     }
 
-    // Register steps from one round key to the next.
+    // Register steps from one round key to the next, which are a step block.
     fn steps(self) -> u32
         ensures { λ r. ⌜ r ≡ steps self ⌝ }
     {
@@ -53,10 +72,22 @@ impl Schedule {
         }
     }
 
-    // The round key at the register value reg; for FOX64 it is the right word, and the left word is 0.
-    pub fn round_key(self, reg: u32) -> Key128
+    // The register so many step blocks on, or back. Nothing else moves it from one round key to another.
+    fn moved(self, on: bool, blocks: u8, reg: u32) -> u32
         requires { ⌜ reg < 2 ^ 24 ⌝ }
-        ensures { λ k. ⌜ RoundKeyAt self reg k ⌝ }
+        ensures { λ r. ⌜ (r ≡ stepped on (blocks * steps self) reg) × (r < 2 ^ 24) ⌝ }
+    {
+        let steps = (blocks as u32) * self.steps();
+        if on {
+            return forward(reg, steps);
+        }
+        back(reg, steps)
+    }
+
+    // The round key's words at the register value reg; for FOX64 it is the right word, and the left word is 0.
+    fn key_at(self, reg: u32) -> Key128
+        requires { ⌜ reg < 2 ^ 24 ⌝ }
+        ensures { λ k. ⌜ KeyAt self reg k ⌝ }
     {
         match self {
             Schedule::Ks64(m, flip) => Key128 {
@@ -71,27 +102,26 @@ impl Schedule {
         }
     }
 
+    // The round key at the register value reg, which is any, also one before the first round key or beyond the last.
+    pub fn round_key(self, reg: u32) -> RoundKey
+        requires { ⌜ reg < 2 ^ 24 ⌝ }
+        ensures { λ k. ⌜ RoundKeyAt self reg k ⌝ }
+    {
+        let key = self.key_at(reg);
+        let next = self.moved(true, 1, reg);
+        let before = self.moved(false, 1, reg);
+        RoundKey { key, next, before }
+    }
+
     // The register's value for the first round: in sealing the seed, in opening the value for the last round key.
     pub fn first(self, sealing: bool, rounds: u8) -> u32
         requires { ⌜ 1 ≤ rounds ⌝ }
-        ensures { λ r. ⌜ RegisterAt self sealing rounds 0 r ⌝ }
+        ensures { λ r. ⌜ RegisterAt (steps self) sealing rounds 0 r ⌝ }
     {
         let start = seed(rounds);
         if sealing {
             return start;
         }
-        forward(start, ((rounds - 1) as u32) * self.steps())
-    }
-
-    // The register's value for the next round: forward in sealing, back in opening.
-    pub fn next(self, sealing: bool, reg: u32) -> u32
-        requires { ⌜ reg < 2 ^ 24 ⌝ }
-        ensures { λ r. ⌜ RegisterNext self sealing reg r ⌝ }
-    {
-        let steps = self.steps();
-        if sealing {
-            return forward(reg, steps);
-        }
-        back(reg, steps)
+        self.moved(true, rounds - 1, start)
     }
 }

@@ -5,7 +5,7 @@ use Prim.Native.Nat.{ℕ, zero, suc, _+_, _-_, _*_, _/_, _%_, _^_, _≤_, _<_}
 use native.Mathlib.Nat.{zero-add, suc-add, add-comm, one-mul}
 use native.Mathlib.Numerals.{add-one}
 use native.Mathlib.Omega.{arith}
-use lib.Dec.{ltb}
+use lib.Dec.{ltb, eqb}
 use lib.Bits.{xor-shr, xor-mod, xor-comm, xor-lt, xor-shifted}
 use borrow.Author.Tests.{ltb-true, ltb-false, lt-ltb, le-ltb, eq-eqb, ne-eqb}
 use Rattle.fox_layers.specs.Words.{_⊕_, joined}
@@ -40,6 +40,10 @@ pub clocked-lt : (x : ℕ) → x < 2 ^ 24 → clocked x < 2 ^ 24
 unfolding clocked
 clocked-lt x h =
     by-test (ltb x (2 ^ 23)) (λ t. rw t (omega (arith, ltb-true x (2 ^ 23) t))) (λ t. rw t (moved-lt x h))
+
+pub clockedBack-lt : (x : ℕ) → x < 2 ^ 24 → clockedBack x < 2 ^ 24
+unfolding clockedBack
+clockedBack-lt x h = by-test (eqb (x % 2) 0) (λ t. rw t (omega arith)) (λ t. rw t (halved-lt x h))
 
 -- XOR with a top bit that is not set is the sum. The powers are variables here, since ⊕ of two numerals would be computed bit by bit
 with-top : (k p b : ℕ) → p ≡ 2 ^ k → b < 2 ^ k → b ⊕ p ≡ p + b
@@ -90,10 +94,17 @@ unfolding iterate
 iterate-add zero n f x = rw zero-add
 iterate-add (suc m) n f x = rw suc-add (ap f (iterate-add m n f x))
 
-pub iterate-lt : (n x : ℕ) → x < 2 ^ 24 → iterate n clocked x < 2 ^ 24
+-- what every step keeps, any number of steps keep
+iterate-keeps : {A : Type 0} (P : A → Type 0) (f : A → A) → ((x : A) → P x → P (f x)) → (n : ℕ) (x : A) → P x → P (iterate n f x)
 unfolding iterate
-iterate-lt zero x h = h
-iterate-lt (suc n) x h = clocked-lt (iterate n clocked x) (iterate-lt n x h)
+iterate-keeps P f keeps zero x h = h
+iterate-keeps P f keeps (suc n) x h = keeps (iterate n f x) (iterate-keeps P f keeps n x h)
+
+pub iterate-lt : (n x : ℕ) → x < 2 ^ 24 → iterate n clocked x < 2 ^ 24
+iterate-lt n x h = iterate-keeps (λ (y : ℕ). y < 2 ^ 24) clocked clocked-lt n x h
+
+pub back-lt : (n x : ℕ) → x < 2 ^ 24 → iterate n clockedBack x < 2 ^ 24
+back-lt n x h = iterate-keeps (λ (y : ℕ). y < 2 ^ 24) clockedBack clockedBack-lt n x h
 
 pub back-iterate : (n x : ℕ) → x < 2 ^ 24 → iterate n clockedBack (iterate n clocked x) ≡ x
 unfolding iterate

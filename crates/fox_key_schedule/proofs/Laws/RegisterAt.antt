@@ -1,49 +1,19 @@
--- The register from round key to round key: forward from the seed, and back from its value for the last round key.
+-- Where round keys stand: from one to the next and to the one before, the two ends beyond included; and the register from round to round, in sealing and in
+-- opening.
 -- Assumes nothing.
-use mathlib.Core.Path.{_≡_, refl, sym, ap, ap₂, _∙_}
+use mathlib.Core.Path.{_≡_, refl, sym, ap, _∙_, subst}
 use mathlib.Core.Bool.{Bool, true, false}
-use Prim.Native.Nat.{ℕ, _+_, _-_, _*_, _^_, _<_, _≤_}
-use native.Mathlib.Nat.{zero-mul, add-mul, one-mul, mul-le-mul-left}
+use Prim.Native.Nat.{ℕ, zero, suc, _+_, _-_, _*_, _^_, _<_, _≤_}
+use native.Mathlib.Nat.{zero-mul, add-mul, one-mul, mul-le-mul-left, not-suc-le-zero}
 use native.Mathlib.Omega.{arith}
 use lib.Dec.{lit≤}
-use Rattle.fox_key_register.specs.Register.{seed, clocked, clockedBack, iterate, LFSR}
-use Rattle.fox_key_register.proofs.Laws.Register.{LFSR-forward, LFSR-back}
+use Rattle.fox_key_register.specs.Register.{seed, clocked, iterate, LFSR}
+use Rattle.fox_key_register.proofs.Laws.Register.{iterate-lt, back-lt, back-iterate, seed-lt, LFSR-lt, LFSR-forward, LFSR-back}
 use Rattle.fox_rounds.specs.Skeleton.{place}
-use Rattle.fox_key_schedule.specs.Step.{roundKeyAt, steps, roundKeyOf, RegisterAt, stepped, RegisterNext}
+use Rattle.fox_key_schedule.specs.Step.{steps, stepped, RoundKeyAt, onward, stands, number, RegisterAt}
+use Rattle.fox_key_schedule.specs.declared.schedule.RoundKey.{RoundKey}
 use Rattle.fox_key_schedule.specs.declared.schedule.Schedule.{Schedule}
 use Rattle.fox_key_schedule.specs.declared.schedule.Schedule.the-variants.{Ks64, Ks64h, Ks128}
-
-reg-first : (g r reg : ℕ) → reg ≡ seed r → reg ≡ LFSR (0 * g) r
-unfolding LFSR iterate
-reg-first g r reg e = e ∙ ap (λ (n : ℕ). iterate n clocked (seed r)) (sym (zero-mul g))
-
-one-more : (i g : ℕ) → i * g + g ≡ (i + 1) * g
-one-more i g = ap (λ (n : ℕ). i * g + n) (sym (one-mul g)) ∙ sym (add-mul i 1 g)
-
-reg-next : (i r : ℕ) {g steps reg to : ℕ} → steps ≡ g → reg ≡ LFSR (i * g) r → to ≡ iterate steps clocked reg → to ≡ LFSR ((i + 1) * g) r
-reg-next i r {g} e at moved =
-    moved
-    ∙ ap₂ (λ (n x : ℕ). iterate n clocked x) e at
-    ∙ LFSR-forward (i * g) g r
-    ∙ ap (λ (n : ℕ). LFSR n r) (one-more i g)
-
--- from the seed to the value for the last round key, all its steps at once
-reg-last : (n r : ℕ) {g steps reg to : ℕ} → steps ≡ g → reg ≡ seed r → to ≡ iterate (n * steps) clocked reg → to ≡ LFSR ((n - 0) * g) r
-unfolding LFSR
-reg-last n r {g} e at moved =
-    let all : n ≡ n - 0 = omega arith in
-    moved
-    ∙ ap₂ (λ (m x : ℕ). iterate (n * m) clocked x) e at
-    ∙ ap (λ (m : ℕ). iterate (m * g) clocked (seed r)) all
-
-reg-back : (n i r : ℕ) {g steps reg to : ℕ} → r < 256 → i < n → steps ≡ g → reg ≡ LFSR ((n - i) * g) r → to ≡ iterate steps clockedBack reg
-    → to ≡ LFSR ((n - (i + 1)) * g) r
-reg-back n i r {g} small h e at moved =
-    let less : n - i ≡ n - (i + 1) + 1 = omega arith in
-    let here : (n - i) * g ≡ (n - (i + 1)) * g + g = ap (λ (m : ℕ). m * g) less ∙ sym (one-more (n - (i + 1)) g) in
-    moved
-    ∙ ap₂ (λ (m x : ℕ). iterate m clockedBack x) e (at ∙ ap (λ (m : ℕ). LFSR m r) here)
-    ∙ LFSR-back ((n - (i + 1)) * g) g r small
 
 steps-few : (s : Schedule) → steps s ≤ 11
 unfolding steps
@@ -51,34 +21,116 @@ steps-few (Ks64 m flip) = lit≤ tt
 steps-few (Ks64h m flip) = lit≤ tt
 steps-few (Ks128 m flip) = lit≤ tt
 
--- the steps to the last round key, at most 2,805, fit a word
+-- the steps of n step blocks, at most 2,805, fit a word
 pub few-steps : (n : ℕ) (s : Schedule) {k : ℕ} → n < 256 → k ≡ steps s → n * k < 2 ^ 32
 few-steps n s {k} h e =
     let bound : k ≤ 11 = rw e (steps-few s) in
     let most : n * k ≤ n * 11 = mul-le-mul-left n bound in
     omega arith
 
-module _ (s : Schedule) (r : ℕ) where
-  pub registerAt-first : {reg : ℕ} → reg ≡ seed r → reg < 2 ^ 24 → RegisterAt s true r 0 reg
-  unfolding place
-  registerAt-first {reg} e h = record { here = reg-first (steps s) r reg e; small = h }
+pub stepped-lt : (d : Bool) (n reg : ℕ) → reg < 2 ^ 24 → stepped d n reg < 2 ^ 24
+unfolding stepped
+stepped-lt true n reg h = iterate-lt n reg h
+stepped-lt false n reg h = back-lt n reg h
 
-  pub registerAt-last : {k reg to : ℕ} → k ≡ steps s → reg ≡ seed r → to ≡ iterate ((r - 1) * k) clocked reg → to < 2 ^ 24 → RegisterAt s false r 0 to
-  unfolding place
-  registerAt-last e at moved h = record { here = reg-last (r - 1) r e at moved; small = h }
+-- n steps back undo n steps on
+pub stepped-back : (n reg : ℕ) → reg < 2 ^ 24 → stepped false n (stepped true n reg) ≡ reg
+unfolding stepped
+stepped-back n reg h = back-iterate n reg h
 
-  -- sealing, from a round to the next, also past the last round
-  pub registerAt-on : (i : ℕ) {reg to : ℕ} → RegisterAt s true r i reg → RegisterNext s true reg to → RegisterAt s true r (i + 1) to
-  unfolding place stepped
-  registerAt-on i at m = record { here = reg-next i r refl (at .here) (m .there); small = m .small }
+-- the register that a round key hands on
+pub onward-stepped : (d : Bool) {s : Schedule} {reg : ℕ} {k : RoundKey} → RoundKeyAt s reg k → onward d k ≡ stepped d (steps s) reg
+unfolding onward
+onward-stepped true m = m .next
+onward-stepped false m = m .before
 
-  -- sealing or opening, from a round to the next
-  pub registerAt-next : (d : Bool) (i : ℕ) {reg to : ℕ} → r < 256 → i < r - 1 → RegisterAt s d r i reg → RegisterNext s d reg to → RegisterAt s d r (i + 1) to
-  unfolding place stepped
-  registerAt-next true i few h at m = registerAt-on i at m
-  registerAt-next false i few h at m = record { here = reg-back (r - 1) i r few h refl (at .here) (m .there); small = m .small }
+one-more : (i g : ℕ) → i * g + g ≡ (i + 1) * g
+one-more i g = ap (λ (n : ℕ). i * g + n) (sym (one-mul g)) ∙ sym (add-mul i 1 g)
 
-  -- the round key at that register value
-  pub registerAt-key : (d : Bool) (i : ℕ) {reg : ℕ} → RegisterAt s d r i reg → roundKeyAt s reg ≡ roundKeyOf s r (place d r i)
-  unfolding roundKeyOf
-  registerAt-key d i at = ap (roundKeyAt s) (at .here)
+module _ (g r : ℕ) where
+  -- the first round key stands at the seed
+  pub stands-first : stands g r 1 ≡ seed r
+  unfolding stands LFSR iterate
+  stands-first = ap (λ (n : ℕ). iterate n clocked (seed r)) (zero-mul g)
+
+  pub stands-at : (i : ℕ) → 1 ≤ i → stands g r i ≡ LFSR ((i - 1) * g) r
+  unfolding stands
+  stands-at zero some = absurd (not-suc-le-zero some)
+  stands-at (suc i) some =
+      let here : i ≡ suc i - 1 = omega arith in
+      ap (λ (n : ℕ). LFSR (n * g) r) here
+
+  pub stands-next : (i : ℕ) → 1 ≤ i → stepped true g (stands g r i) ≡ stands g r (i + 1)
+  unfolding stepped
+  stands-next i some =
+      let same : i - 1 + 1 ≡ i + 1 - 1 = omega arith in
+      ap (iterate g clocked) (stands-at i some)
+      ∙ LFSR-forward ((i - 1) * g) g r
+      ∙ ap (λ (n : ℕ). LFSR n r) (one-more (i - 1) g ∙ ap (λ (n : ℕ). n * g) same)
+      ∙ sym (stands-at (i + 1) (omega arith))
+
+  module _ (few : r < 256) where
+    pub stands-before : (i : ℕ) → 1 ≤ i → stepped false g (stands g r i) ≡ stands g r (i - 1)
+    stands-before zero some = absurd (not-suc-le-zero some)
+    stands-before (suc zero) some = beyond
+      where
+        beyond : stepped false g (stands g r 1) ≡ stands g r 0
+        unfolding stands
+        beyond = ap (stepped false g) stands-first
+    stands-before (suc (suc i)) some = inside
+      where
+        inside : stepped false g (stands g r (suc (suc i))) ≡ stands g r (suc (suc i) - 1)
+        unfolding stands stepped
+        inside =
+            let next : suc i ≡ i + 1 = omega arith in
+            let here : suc i ≡ suc (suc i) - 1 = omega arith in
+            ap (λ (n : ℕ). stepped false g (LFSR n r)) (ap (λ (n : ℕ). n * g) next ∙ sym (one-more i g))
+            ∙ LFSR-back (i * g) g r few
+            ∙ ap (stands g r) here
+
+    pub stands-lt : (i : ℕ) → stands g r i < 2 ^ 24
+    unfolding stands
+    stands-lt zero = stepped-lt false g (seed r) (seed-lt r few)
+    stands-lt (suc i) = LFSR-lt (i * g) r few
+
+    -- from a round to the next, also past the last one
+    pub registerAt-next : (d : Bool) (i : ℕ) {reg : ℕ} → i < r → RegisterAt g d r i reg → RegisterAt g d r (i + 1) (stepped d g reg)
+    unfolding number
+    registerAt-next true i h at =
+        let same : suc i + 1 ≡ suc (i + 1) = omega arith in
+        record {
+          here = ap (stepped true g) (at .here) ∙ stands-next (suc i) (omega arith) ∙ ap (stands g r) same;
+          small = stepped-lt true g _ (at .small);
+        }
+    registerAt-next false i h at =
+        let same : r - i - 1 ≡ r - (i + 1) = omega arith in
+        record {
+          here = ap (stepped false g) (at .here) ∙ stands-before (r - i) (omega arith) ∙ ap (stands g r) same;
+          small = stepped-lt false g _ (at .small);
+        }
+
+  -- the value for the first round of sealing is the seed
+  pub registerAt-first : {reg : ℕ} → reg ≡ seed r → reg < 2 ^ 24 → RegisterAt g true r 0 reg
+  unfolding number
+  registerAt-first e h = record { here = e ∙ sym stands-first; small = h }
+
+  -- and that of opening the one for the last round key
+  pub registerAt-last : {reg to : ℕ} → 1 ≤ r → reg ≡ seed r → to ≡ stepped true ((r - 1) * g) reg → to < 2 ^ 24 → RegisterAt g false r 0 to
+  unfolding number stepped LFSR
+  registerAt-last some at moved h =
+      let all : r ≡ r - 0 = omega arith in
+      record { here = moved ∙ ap (iterate ((r - 1) * g) clocked) at ∙ sym (stands-at r some) ∙ ap (stands g r) all; small = h }
+
+  -- the register's value for a round is that of the round key which it takes
+  pub registerAt-place : (d : Bool) (i : ℕ) {reg : ℕ} → i < r → RegisterAt g d r i reg → reg ≡ LFSR (place d r i * g) r
+  unfolding number place stands
+  registerAt-place true i h at = at .here
+  registerAt-place false i h at =
+      let same : r - i - 1 ≡ r - 1 - i = omega arith in
+      at .here ∙ stands-at (r - i) (omega arith) ∙ ap (λ (n : ℕ). LFSR (n * g) r) same
+
+-- sealing or opening, from a round to the next by the round key that was made for it
+pub registerAt-on : (s : Schedule) (r : ℕ) (d : Bool) (i : ℕ) {reg : ℕ} {k : RoundKey} → r < 256 → i < r → RegisterAt (steps s) d r i reg
+    → RoundKeyAt s reg k → RegisterAt (steps s) d r (i + 1) (onward d k)
+registerAt-on s r d i few h at m =
+    subst (RegisterAt (steps s) d r (i + 1)) (sym (onward-stepped d m)) (registerAt-next (steps s) r few d i h at)

@@ -59,7 +59,7 @@ Fits true (Of128 x) = ⊥
 Fits false (Of64 x) = ⊥
 Fits false (Of128 x) = Words128 x
 
-round-fits : (b : Bool) (k : ℕ) (x : State) → Fits b x → Fits b (round k x)
+pub round-fits : (b : Bool) (k : ℕ) (x : State) → Fits b x → Fits b (round k x)
 unfolding Fits round
 round-fits true k (Of64 x) w = lmid64-words k x w
 round-fits true k (Of128 x) w = w
@@ -71,7 +71,7 @@ unfolding round
 round-twice k (Of64 x) = ap Of64 (lmid64-twice k x)
 round-twice k (Of128 x) = ap Of128 (elmid128-twice k x)
 
-between-fits : (d b : Bool) (x : State) → Fits b x → Fits b (between d x)
+pub between-fits : (d b : Bool) (x : State) → Fits b x → Fits b (between d x)
 unfolding Fits between
 between-fits true true (Of64 x) w = or64-words x w
 between-fits true true (Of128 x) w = w

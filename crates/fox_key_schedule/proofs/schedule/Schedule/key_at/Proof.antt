@@ -1,4 +1,4 @@
--- `schedule::Schedule::round_key` meets its contract: in each case that schedule's non-linear part is applied to the diversified key.
+-- `schedule::Schedule::key_at` meets its contract: in each case that schedule's non-linear part is applied to the diversified key.
 -- Assumes nothing.
 use borrow.Author.Needs.{needs}
 use mathlib.Core.Path.{refl, sym, ap, _∙_}
@@ -7,8 +7,8 @@ use native.Mathlib.Nat.{zero-add}
 use Rattle.fox_key_nonlinear.specs.Nonlinear.{NL64, NL64h, NL128}
 use Rattle.fox_key_schedule.specs.Step.{roundKeyAt, narrow}
 use Rattle.fox_key_schedule.specs.declared.schedule.Schedule.{Schedule}
-use Rattle.fox_key_schedule.proofs.schedule.Schedule.round_key.Statement.{statement}
-use Rattle.fox_key_schedule.proofs.schedule.Schedule.round_key.Tie as tie
+use Rattle.fox_key_schedule.proofs.schedule.Schedule.key_at.Statement.{statement}
+use Rattle.fox_key_schedule.proofs.schedule.Schedule.key_at.Tie as tie
 
 returns : tie.Need-returns
 unfolding roundKeyAt
@@ -40,7 +40,7 @@ returns-3 c =
       short = λ e. absurd (true≢false (sym e ∙ ap narrow (at .self3 .given .1)));
     }
 
-pub round-key-spec : {M : Type 1} → statement M
-round-key-spec =
+pub key-at-spec : {M : Type 1} → statement M
+key-at-spec =
     tie.close (tie.spec (λ c. search needs) (λ c κs. search needs) (λ c κs. search needs) (λ c. search needs) (λ c κs. search needs)
     (λ c κs. search needs) (λ c. search needs) (λ c κs. search needs) (λ c κs. search needs) returns returns-2 returns-3)
