@@ -4,19 +4,16 @@ use mathlib.Core.Path.{_≡_}
 use Prim.Native.Nat.{ℕ, zero, suc, _-_, _%_, _^_}
 use mathlib.Core.Bool.{Bool, cond}
 use mathlib.Core.List.{List}
-use lib.Dec.{ltb, eqb}
+use lib.Dec.{eqb}
 use lib.ListN.{length}
 use Rattle.fox_key_schedule.specs.Schedule.{keyAt, stepBlock}
 use Rattle.fox_key_schedule.specs.Step.{stands, number}
-use Rattle.fox_refusals.specs.Refusals.{refusalOf, forBlock}
+use Rattle.fox_refusals.specs.Refusals.{Refusal, refusalOf, forBlock}
 use Rattle.fox_refusals.specs.Reply.{Reply}
 use Rattle.fox_block.specs.Block.{state, bytes}
-use Rattle.fox_card_block.specs.Hold.{roundsOn}
+use Rattle.fox_card_block.specs.Hold.{least, roundsOn}
 use Rattle.fox_card_block.specs.declared.rounds.Hold.{Hold}
 use Rattle.fox_card_block.specs.declared.part.Part.{Part}
-
-unfoldable pub least : ℕ → ℕ → ℕ
-least a b = cond (ltb a b) a b
 
 -- the register's value for round number i of r, with step blocks of g steps: for the first round it follows, and for a later one it is the 24 lowest bits of
 -- what is handed in
@@ -31,9 +28,13 @@ parted sealing cipher r key i j reg block =
     let h : Hold = record { state = state cipher block; reg = inHand sealing g r i reg } in
     roundsOn sealing (keyAt cipher key) g (least i r) (least j r - least i r) h
 
--- refusals, count and output as for a whole block, with the state's bytes as the output; and the register's value for the next round, 0 where it is refused
-pub record TurnsPart (sealing : Bool) (cipher r : ℕ) (key : List ℕ) (i j reg : ℕ) (block before after : List ℕ) (p : Part) : Type 0 where
-  pub reply : Reply (forBlock sealing cipher r (length key) (length block) (length before)) (bytes (parted sealing cipher r key i j reg block .state)) before
-      after (p .answer)
-  pub handed : p .reg
-      ≡ cond (eqb (refusalOf (forBlock sealing cipher r (length key) (length block) (length before))) 0) (parted sealing cipher r key i j reg block .reg) 0
+-- the whole answer of a call that hands back a block in hand: refusal number, count and output, which has the bytes of the state; and the register's value for
+-- the next round, 0 where the call is refused
+pub record HandsBack (refusals : List Refusal) (h : Hold) (before after : List ℕ) (p : Part) : Type 0 where
+  pub reply : Reply refusals (bytes (h .state)) before after (p .answer)
+  pub handed : p .reg ≡ cond (eqb (refusalOf refusals) 0) (h .reg) 0
+
+-- a call on part of a block's rounds, with the output before and after; it is refused as a call on the whole block
+abbrev pub TurnsPart : Bool → ℕ → ℕ → List ℕ → ℕ → ℕ → ℕ → List ℕ → List ℕ → List ℕ → Part → Type 0
+TurnsPart sealing cipher r key i j reg block before after p =
+    HandsBack (forBlock sealing cipher r (length key) (length block) (length before)) (parted sealing cipher r key i j reg block) before after p

@@ -3,8 +3,9 @@
 ghost use mathlib.Core.Path.{_≡_};
 ghost use Prim.Native.Nat.{_≤_, _<_, _^_};
 ghost use Rattle.fox_key_schedule.specs.Step.{steps};
-ghost use Rattle.fox_card_block.specs.Part.{least, inHand, TurnsPart};
+ghost use Rattle.fox_card_block.specs.Part.{inHand, TurnsPart};
 use crate::rounds::Hold;
+use crate::rounds::least;
 use crate::rounds::rounds_on;
 use fox_engine_block::blocks::read;
 use fox_engine_block::blocks::write;
@@ -16,15 +17,6 @@ use fox_refusals::refusals::for_block;
 pub struct Part {
     pub answer: Answer,
     pub reg: u32,
-}
-
-fn least(a: u32, b: u8) -> u8
-    ensures { λ r. ⌜ r ≡ least a b ⌝ }
-{
-    if a < b as u32 {
-        return (a % 256) as u8;
-    }
-    b
 }
 
 // The register's value for round number `from`. For the first round it follows from the number of rounds; for a later one it is the value handed in, of which

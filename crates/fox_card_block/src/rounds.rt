@@ -4,7 +4,7 @@ ghost use mathlib.Core.Path.{_≡_};
 ghost use Prim.Native.Nat.{_-_, _≤_, _<_, _^_};
 ghost use Rattle.fox_rounds.specs.Skeleton.{turned};
 ghost use Rattle.fox_key_schedule.specs.Step.{roundKeyAt, steps, roundKeysOf};
-ghost use Rattle.fox_card_block.specs.Hold.{led, roundOn, roundsOn};
+ghost use Rattle.fox_card_block.specs.Hold.{least, led, roundOn, roundsOn};
 use fox_key_schedule::schedule::Schedule;
 use fox_rounds::state::State;
 
@@ -12,6 +12,16 @@ use fox_rounds::state::State;
 pub struct Hold {
     pub state: State,
     pub reg: u32,
+}
+
+// The smaller of two numbers, which fits a byte since one of them does.
+pub fn least(a: u32, b: u8) -> u8
+    ensures { λ r. ⌜ r ≡ least a b ⌝ }
+{
+    if a < b as u32 {
+        return (a % 256) as u8;
+    }
+    b
 }
 
 // The state as round number i takes it, with "or" or "io" before every round but the first.
@@ -59,12 +69,12 @@ pub fn turned(sealing: bool, s: Schedule, rounds: u8, x: State) -> State
 }
 
 // The same in two parts: stopped after `stop` rounds, or after the last, with state and register in hand, and gone on with from there.
-pub fn turned_in_two(sealing: bool, s: Schedule, rounds: u8, stop: u8, x: State) -> State
+pub fn turned_in_two(sealing: bool, s: Schedule, rounds: u8, stop: u32, x: State) -> State
     requires { ⌜ 1 ≤ rounds ⌝ }
     ensures { λ y. ⌜ y ≡ turned sealing (roundKeysOf s rounds) x ⌝ }
 {
     let reg = s.first(sealing, rounds);
-    let at = if stop < rounds { stop } else { rounds };
+    let at = least(stop, rounds);
     let held = rounds_on(sealing, s, 0, at, Hold { state: x, reg });
     let done = rounds_on(sealing, s, at, rounds, held);
     done.state

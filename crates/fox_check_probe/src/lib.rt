@@ -1,11 +1,16 @@
-// Exported functions whose instructions the gate counts (tests/instructions.sh, tests/measure.sh), and the bench sheet for a fuzzer to call (tests/fuzz.sh).
+// Exported functions whose instructions the gate counts (tests/instructions.sh, tests/measure.sh), part of a block's rounds (tests/part.sh), and the bench sheet
+// for a fuzzer to call (tests/fuzz.sh).
 // No product uses this crate.
 ghost use mathlib.Core.Path.{_≡_};
+ghost use lib.ListN.{length};
 ghost use Rattle.fox_layers.specs.Tables.{picked};
 ghost use Rattle.fox_rounds.specs.Skeleton.{seal64, seal128};
 ghost use Rattle.fox_rounds.specs.RoundKeys.{roundKeysIn64, roundKeysIn128};
 ghost use Rattle.fox_key_register.specs.Register.{iterate};
 ghost use Rattle.fox_sheet.specs.Answer.{Answers};
+ghost use Rattle.fox_card_block.specs.Part.{TurnsPart};
+ghost use Rattle.fox_check_probe.specs.Unpacked.{chosen, unpacked};
+use fox_card_block::part::turn_part;
 use fox_rounds::fox64::Fox64;
 use fox_rounds::fox128::Fox128;
 use fox_server_rounds::fox64;
@@ -68,4 +73,24 @@ pub extern "C" fn fox_probe_sheet(sheet: &[u8], out: &mut [u8; 128]) -> usize
     ensures { λ r. ⌜ Answers (now (sheet .entry)) (now (out .entry)) (now (out .exit)) r ⌝ }
 {
     answer::answer(sheet, out)
+}
+
+// Part of a block's rounds by the card engine, sealed or, where `sealing` is 0, opened: the refusal number times 2 to the 32, and the register's value.
+#[no_mangle]
+pub extern "C" fn fox_probe_part(
+    sealing: u32,
+    cipher: u32,
+    rounds: u32,
+    key: &[u8],
+    from: u32,
+    until: u32,
+    reg: u32,
+    block: &[u8],
+    out: &mut [u8],
+) -> u64
+    ensures { λ r. ⌜ TurnsPart (chosen sealing) cipher rounds (now (key .entry)) from until reg (now (block .entry)) (now (out .entry)) (now (out .exit))
+        (unpacked r (length (now (out .entry)))) ⌝ }
+{
+    let part = turn_part(sealing != 0, cipher, rounds, key, from, until, reg, block, out);
+    (part.answer.refusal as u64) * 0x1_0000_0000 + part.reg as u64
 }

@@ -1,3 +1,3 @@
 -- Laws on the definitions, which proofs cite in place of a definition's text.
-pub mod Schedules
 pub mod RegisterAt
+pub mod Schedules

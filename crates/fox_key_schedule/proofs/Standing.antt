@@ -1,7 +1,8 @@
 -- What a made round key hands on, on calls: made where round key number i stands, for i of 1 to the rounds, it is that round key; `next` is where the next one
 -- stands and `before` where the one before stands, one step block beyond either end included; and `before` of `next` is where it was.
 -- Assumes nothing.
-use mathlib.Core.Path.{_≡_, sym, ap, _∙_, subst}
+use mathlib.Core.Path.{_≡_, sym, ap, _∙_}
+use mathlib.Core.Bool.{true, false}
 use mathlib.Core.List.{List}
 use Prim.Native.Nat.{ℕ, _+_, _-_, _*_, _^_, _<_, _≤_}
 use Rattle.fox_key_schedule.specs.Schedule.{roundKey, stepBlock}

@@ -32,8 +32,8 @@ fn fill64(s: Schedule, rounds: u8) -> [u64; 510]
     let mut reg = s.first(true, rounds);
     for i in 0..rounds {
         let k = s.round_key(reg);
-        keys[i as usize] = k.right;
-        reg = s.next(true, reg);
+        keys[i as usize] = k.key.right;
+        reg = k.next;
     }
     keys
 }
@@ -47,9 +47,9 @@ fn fill128(s: Schedule, rounds: u8) -> [u64; 510]
     for i in 0..rounds {
         let k = s.round_key(reg);
         let at = 2 * (i as usize);
-        keys[at] = k.left;
-        keys[at + 1] = k.right;
-        reg = s.next(true, reg);
+        keys[at] = k.key.left;
+        keys[at + 1] = k.key.right;
+        reg = k.next;
     }
     keys
 }

@@ -56,12 +56,12 @@ state-size c bs = both (eqb c 64)
     both true = refl
     both false = refl
 
-round-size : (k : ℕ) (x : State) → size (round k x) ≡ size x
+pub round-size : (k : ℕ) (x : State) → size (round k x) ≡ size x
 unfolding size round
 round-size k (Of64 x) = refl
 round-size k (Of128 x) = refl
 
-between-size : (d : Bool) (x : State) → size (between d x) ≡ size x
+pub between-size : (d : Bool) (x : State) → size (between d x) ≡ size x
 unfolding size between
 between-size true (Of64 x) = refl
 between-size true (Of128 x) = refl

@@ -2,23 +2,60 @@
 -- Assumes nothing.
 use mathlib.Core.Path.{_≡_, refl, sym, ap, _∙_, subst}
 use mathlib.Core.Bool.{Bool}
-use Prim.Native.Nat.{ℕ, zero, suc, _+_, _*_, _^_, _<_, _≤_}
+use Prim.Native.Nat.{ℕ, zero, suc, _+_, _-_, _*_, _^_, _<_, _≤_}
 use native.Mathlib.Omega.{arith}
+use lib.Dec.{ltb}
+use borrow.Author.Tests.{lt-ltb, le-ltb, ltb-true, ltb-false}
 use Rattle.fox_layers.specs.Lists.{numbered}
-use Rattle.fox_rounds.specs.Skeleton.{round, between, place, turned}
+use Rattle.fox_layers.proofs.Laws.Lists.{by-test}
+use Rattle.fox_rounds.specs.Skeleton.{size, round, between, place, turned}
 use Rattle.fox_rounds.specs.declared.state.State.{State}
 use Rattle.fox_rounds.proofs.Laws.Skeleton.{TurnDone, turnDone-none, turnDone-one, turnDone-more, turnDone-all}
 use Rattle.fox_rounds.proofs.Laws.Undoing.{Fits, round-fits, between-fits}
 use Rattle.fox_key_register.specs.Register.{LFSR}
 use Rattle.fox_key_schedule.specs.Step.{stepped, RegisterAt}
 use Rattle.fox_key_schedule.proofs.Laws.RegisterAt.{stepped-lt, registerAt-next, registerAt-place}
-use Rattle.fox_card_block.specs.Hold.{led, roundOn, roundsOn}
+use Rattle.fox_block.proofs.Laws.Block.{round-size, between-size}
+use Rattle.fox_card_block.specs.Hold.{least, led, roundOn, roundsOn}
 use Rattle.fox_card_block.specs.declared.rounds.Hold.{Hold}
+
+pub least-below : (a b : ℕ) → a < b → least a b ≡ a
+unfolding least
+least-below a b h = simp (lt-ltb a b h)
+
+pub least-above : (a b : ℕ) → b ≤ a → least a b ≡ b
+unfolding least
+least-above a b h = simp (le-ltb a b h)
+
+pub least-most : (a b : ℕ) → least a b ≤ b
+unfolding least
+least-most a b = by-test (ltb a b) (λ t. rw t (omega (arith, ltb-true a b t))) (λ t. rw t (omega arith))
+
+pub least-le : (a b r : ℕ) → a ≤ b → least a r ≤ least b r
+unfolding least
+least-le a b r h =
+    by-test (ltb a r)
+    (λ t. by-test (ltb b r) (λ u. rw (t, u) h) (λ u. rw (t, u) (omega (arith, ltb-true a r t))))
+    (λ t. by-test (ltb b r) (λ u. absurd (omega (arith, ltb-false a r t, ltb-true b r u))) (λ u. rw (t, u) (omega arith)))
+
+pub led-first : (d : Bool) (i : ℕ) (y : State) → i ≡ 0 → led d i y ≡ y
+unfolding led
+led-first d i y e = ap (λ (j : ℕ). led d j y) e
+
+pub led-later : (d : Bool) (i : ℕ) (y : State) → (i ≡ 0 → ⊥) → led d i y ≡ between d y
+unfolding led
+led-later d zero y isnt = absurd (isnt refl)
+led-later d (suc i) y isnt = refl
 
 led-fits : (d b : Bool) (i : ℕ) (y : State) → Fits b y → Fits b (led d i y)
 unfolding led
 led-fits d b zero y f = f
 led-fits d b (suc i) y f = between-fits d b y f
+
+led-size : (d : Bool) (i : ℕ) (y : State) → size (led d i y) ≡ size y
+unfolding led
+led-size d zero y = refl
+led-size d (suc i) y = between-size d y
 
 module _ (d : Bool) (at : ℕ → ℕ) (g : ℕ) where
   -- the register stays within 24 bits
@@ -35,6 +72,21 @@ module _ (d : Bool) (at : ℕ → ℕ) (g : ℕ) where
       let now = roundsOn d at g i n h in
       round-fits b (at (now .reg)) (led d (i + n) (now .state)) (led-fits d b (i + n) (now .state) (roundsOn-fits b i n h f))
 
+  pub roundsOn-size : (i n : ℕ) (h : Hold) → size (roundsOn d at g i n h .state) ≡ size (h .state)
+  unfolding roundsOn roundOn
+  roundsOn-size i zero h = refl
+  roundsOn-size i (suc n) h =
+      let now = roundsOn d at g i n h in
+      round-size (at (now .reg)) (led d (i + n) (now .state)) ∙ led-size d (i + n) (now .state) ∙ roundsOn-size i n h
+
+  -- one round more
+  pub roundsOn-next : (from i : ℕ) (h : Hold) → from ≤ i → roundOn d at g i (roundsOn d at g from (i - from) h) ≡ roundsOn d at g from (i + 1 - from) h
+  unfolding roundsOn
+  roundsOn-next from i h le =
+      let here : i ≡ from + (i - from) = omega arith in
+      let next : suc (i - from) ≡ i + 1 - from = omega arith in
+      ap (λ (j : ℕ). roundOn d at g j (roundsOn d at g from (i - from) h)) here ∙ ap (λ (k : ℕ). roundsOn d at g from k h) next
+
   -- m rounds, and n rounds from there on, are m + n rounds
   pub roundsOn-cut : (i m n : ℕ) (h : Hold) → roundsOn d at g (i + m) n (roundsOn d at g i m h) ≡ roundsOn d at g i (m + n) h
   unfolding roundsOn
@@ -47,6 +99,15 @@ module _ (d : Bool) (at : ℕ → ℕ) (g : ℕ) where
       ap (roundOn d at g (i + m + n)) (roundsOn-cut i m n h)
       ∙ ap (λ (j : ℕ). roundOn d at g j (roundsOn d at g i (m + n) h)) here
       ∙ ap (λ (k : ℕ). roundsOn d at g i k h) more
+
+  -- n of m rounds, and then the others
+  pub roundsOn-two : (n m : ℕ) (h : Hold) → n ≤ m → roundsOn d at g n (m - n) (roundsOn d at g 0 (n - 0) h) ≡ roundsOn d at g 0 (m - 0) h
+  roundsOn-two n m h le =
+      let here : n ≡ 0 + (n - 0) = omega arith in
+      let all : n - 0 + (m - n) ≡ m - 0 = omega arith in
+      ap (λ (i : ℕ). roundsOn d at g i (m - n) (roundsOn d at g 0 (n - 0) h)) here
+      ∙ roundsOn-cut 0 (n - 0) (m - n) h
+      ∙ ap (λ (k : ℕ). roundsOn d at g 0 k h) all
 
 -- with the round keys at the register's values for m rounds
 module _ (d : Bool) (at : ℕ → ℕ) (g m : ℕ) (x : State) (few : m < 256) where
@@ -82,8 +143,9 @@ module _ (d : Bool) (at : ℕ → ℕ) (g m : ℕ) (x : State) (few : m < 256) w
       (subst (λ (j : ℕ). Held j (roundOn d at g n now)) next (held-next n now (omega arith) (held-all n h (omega arith) held)))
 
   pub turned-on : {reg : ℕ} → 1 ≤ m → RegisterAt g d m 0 reg
-      → roundsOn d at g 0 m (record { state = x; reg = reg }) .state ≡ turned d (numbered (λ (i : ℕ). at (LFSR (i * g) m)) m 0) x
+      → roundsOn d at g 0 (m - 0) (record { state = x; reg = reg }) .state ≡ turned d (numbered (λ (i : ℕ). at (LFSR (i * g) m)) m 0) x
   turned-on {reg} some first =
       let h : Hold = record { state = x; reg = reg } in
       let begun : Held 0 h = record { stands = first; done = turnDone-none d keys m x } in
-      turnDone-all d keys m x (roundsOn d at g 0 m h .state) some refl (held-all m h (omega arith) begun .done)
+      let all : m - 0 ≡ m = omega arith in
+      turnDone-all d keys m x (roundsOn d at g 0 (m - 0) h .state) some all (held-all (m - 0) h (omega arith) begun .done)

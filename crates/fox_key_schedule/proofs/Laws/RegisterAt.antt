@@ -7,7 +7,7 @@ use Prim.Native.Nat.{ℕ, zero, suc, _+_, _-_, _*_, _^_, _<_, _≤_}
 use native.Mathlib.Nat.{zero-mul, add-mul, one-mul, mul-le-mul-left, not-suc-le-zero}
 use native.Mathlib.Omega.{arith}
 use lib.Dec.{lit≤}
-use Rattle.fox_key_register.specs.Register.{seed, clocked, iterate, LFSR}
+use Rattle.fox_key_register.specs.Register.{seed, clocked, clockedBack, iterate, LFSR}
 use Rattle.fox_key_register.proofs.Laws.Register.{iterate-lt, back-lt, back-iterate, seed-lt, LFSR-lt, LFSR-forward, LFSR-back}
 use Rattle.fox_rounds.specs.Skeleton.{place}
 use Rattle.fox_key_schedule.specs.Step.{steps, stepped, RoundKeyAt, onward, stands, number, RegisterAt}
@@ -71,22 +71,15 @@ module _ (g r : ℕ) where
 
   module _ (few : r < 256) where
     pub stands-before : (i : ℕ) → 1 ≤ i → stepped false g (stands g r i) ≡ stands g r (i - 1)
+    unfolding stands stepped
     stands-before zero some = absurd (not-suc-le-zero some)
-    stands-before (suc zero) some = beyond
-      where
-        beyond : stepped false g (stands g r 1) ≡ stands g r 0
-        unfolding stands
-        beyond = ap (stepped false g) stands-first
-    stands-before (suc (suc i)) some = inside
-      where
-        inside : stepped false g (stands g r (suc (suc i))) ≡ stands g r (suc (suc i) - 1)
-        unfolding stands stepped
-        inside =
-            let next : suc i ≡ i + 1 = omega arith in
-            let here : suc i ≡ suc (suc i) - 1 = omega arith in
-            ap (λ (n : ℕ). stepped false g (LFSR n r)) (ap (λ (n : ℕ). n * g) next ∙ sym (one-more i g))
-            ∙ LFSR-back (i * g) g r few
-            ∙ ap (stands g r) here
+    stands-before (suc zero) some = ap (iterate g clockedBack) stands-first
+    stands-before (suc (suc i)) some =
+        let next : suc i ≡ i + 1 = omega arith in
+        let here : suc i ≡ suc (suc i) - 1 = omega arith in
+        ap (λ (n : ℕ). iterate g clockedBack (LFSR n r)) (ap (λ (n : ℕ). n * g) next ∙ sym (one-more i g))
+        ∙ LFSR-back (i * g) g r few
+        ∙ ap (stands g r) here
 
     pub stands-lt : (i : ℕ) → stands g r i < 2 ^ 24
     unfolding stands

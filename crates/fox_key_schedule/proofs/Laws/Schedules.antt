@@ -9,6 +9,7 @@ use lib.Dec.{eqb}
 use lib.ListN.{length}
 use borrow.Author.Tests.{le-leb, lt-leb, eq-eqb, ne-eqb}
 use Rattle.fox_layers.proofs.Laws.Lists.{numbered-same}
+use Rattle.fox_rounds.specs.Skeleton.{place}
 use Rattle.fox_key_mixing.specs.Padding.{mkey}
 use Rattle.fox_key_register.specs.Register.{LFSR}
 use Rattle.fox_key_mixing.specs.Diversification.{groups, dkey}
@@ -16,9 +17,10 @@ use Rattle.fox_key_nonlinear.specs.Nonlinear.{NL64, NL64h, NL128}
 use Rattle.fox_key_nonlinear.proofs.Laws.Width.{NL128-lt}
 use Rattle.fox_key_nonlinear.specs.declared.nl128.Key128.{Key128}
 use Rattle.fox_key_schedule.specs.Schedule.{ek64, ek128, roundKeyAt64, roundKeyAt128, roundKey64, roundKey128, roundKey, keyAt, stepBlock, roundKeys}
-use Rattle.fox_key_schedule.specs.Step.{roundKeyAt, steps, Scheduled, roundKeyOf, narrow, KeyAt, roundKeysOf}
+use Rattle.fox_key_schedule.specs.Step.{roundKeyAt, steps, Scheduled, roundKeyOf, narrow, KeyAt, roundKeysOf, RegisterAt}
 use Rattle.fox_key_schedule.specs.declared.schedule.Schedule.{Schedule}
 use Rattle.fox_key_schedule.specs.declared.schedule.Schedule.the-variants.{Ks64, Ks64h, Ks128}
+use Rattle.fox_key_schedule.proofs.Laws.RegisterAt.{registerAt-place}
 
 -- KS64
 pub roundKeyAt64-ks64 : (key : List ℕ) (reg : ℕ) → length key ≤ 16
@@ -110,3 +112,9 @@ unfolding Scheduled narrow
 scheduled-narrow c key (Ks64 m flip) is e = refl
 scheduled-narrow c key (Ks64h m flip) is e = refl
 scheduled-narrow c key (Ks128 m flip) is e = absurd (is .0 e)
+
+-- the round key at the register's value for a round is the one that this round takes
+pub registerAt-key : (s : Schedule) (r : ℕ) (d : Bool) (i : ℕ) {reg : ℕ} → i < r → RegisterAt (steps s) d r i reg
+    → roundKeyAt s reg ≡ roundKeyOf s r (place d r i)
+unfolding roundKeyOf
+registerAt-key s r d i h at = ap (roundKeyAt s) (registerAt-place (steps s) r d i h at)

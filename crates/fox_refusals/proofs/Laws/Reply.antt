@@ -1,12 +1,13 @@
 -- A reply from its parts, and the two cases of how a call ends, served or refused: it is served exactly where the refusals' number is 0.
 -- Assumes nothing.
-use mathlib.Core.Path.{_≡_, sym, ap, ap₂, _∙_}
+use mathlib.Core.Path.{_≡_, refl, sym, ap, ap₂, _∙_}
 use mathlib.Core.Bool.{cond}
 use mathlib.Core.List.{List}
 use Prim.Native.Nat.{ℕ}
 use lib.Dec.{eqb}
 use lib.ListN.{length}
-use borrow.Author.Tests.{eq-eqb, ne-eqb}
+use borrow.Author.Tests.{eq-eqb, ne-eqb, eqb-true}
+use Rattle.fox_layers.proofs.Laws.Lists.{by-test}
 use Rattle.fox_refusals.specs.Refusals.{Refusal, refusalOf, First}
 use Rattle.fox_refusals.specs.Reply.{Reply, Verdict, Served, Refused, Same}
 use Rattle.fox_refusals.specs.Handed.{Handed, answer}
@@ -38,6 +39,19 @@ refused-reply {rs} {value} {before} e isnt refused =
       refusal = refused .0 ∙ e;
       count = refused .1 ∙ passed-over (refusalOf rs) (length before) 0 refusal;
       output = passed-over (refusalOf rs) value before refusal;
+    }
+
+-- a reply fixes the value only where the call is served
+pub reply-as : {rs : List Refusal} {value other before after : List ℕ} {r : Answer} → (refusalOf rs ≡ 0 → value ≡ other) → Reply rs value before after r
+    → Reply rs other before after r
+reply-as {rs} {value} {other} {before} same call =
+    record {
+      refusal = call .refusal;
+      count = call .count;
+      output = call .output
+          ∙ by-test (eqb (refusalOf rs) 0)
+          (λ t. rw t (same (eqb-true (refusalOf rs) 0 t)))
+          (λ t. rw t refl);
     }
 
 -- what a reply says

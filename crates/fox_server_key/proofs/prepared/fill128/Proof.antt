@@ -9,15 +9,16 @@ use Rattle.fox_rounds.specs.Rounds.{left, right}
 use Rattle.fox_layers.specs.Lists.{numbered}
 use Rattle.fox_rounds.specs.Skeleton.{place}
 use Rattle.fox_rounds.proofs.Laws.Halves.{left-pair, right-pair}
-use Rattle.fox_key_schedule.specs.Step.{roundKeyOf, RegisterAt}
-use Rattle.fox_key_schedule.proofs.Laws.RegisterAt.{registerAt-on, registerAt-key}
+use Rattle.fox_key_schedule.specs.Step.{steps, onward, roundKeyOf, RegisterAt}
+use Rattle.fox_key_schedule.proofs.Laws.RegisterAt.{registerAt-on}
+use Rattle.fox_key_schedule.proofs.Laws.Schedules.{registerAt-key}
 use Rattle.fox_server_key.specs.Prepared.{inHalves, filled}
 use Rattle.fox_server_key.proofs.Laws.Filled.{filled-128}
 use Rattle.fox_server_key.proofs.prepared.fill128.Statement.{statement}
 use Rattle.fox_server_key.proofs.prepared.fill128.Tie as tie
 
 abbrev Inv-loop : tie.InvT-loop
-Inv-loop s rounds keys₀ reg₀ i₀ keys reg i = (i ≤ rounds) × RegisterAt s true rounds i reg × (keys ≡ filled (inHalves (numbered (roundKeyOf s rounds) i 0)))
+Inv-loop s rounds keys₀ reg₀ i₀ keys reg i = (i ≤ rounds) × RegisterAt (steps s) true rounds i reg × (keys ≡ filled (inHalves (numbered (roundKeyOf s rounds) i 0)))
 
 abbrev μ-loop : tie.MeasureT-loop
 μ-loop s rounds keys₀ reg₀ i₀ keys reg i = rounds - i
@@ -27,17 +28,18 @@ unfolding filled inHalves numbered
 loop-holds c = (search needs, c .first .ensures, refl)
 
 loop-again : tie.Need-loop-again Inv-loop μ-loop
-unfolding place
+unfolding place onward
 loop-again c =
-    let at = c .before .before .before in
+    let at = c .before .before in
     let a = at .before .before .args in
-    let l = c .before .round-key .result .left in
-    let r = c .before .round-key .result .right in
-    let made = c .before .round-key .ensures .whole ∙ registerAt-key (a .s) (a .rounds) true (at .loop .i) (at .loop .inv .1) in (
+    let l = c .round-key .result .key .left in
+    let r = c .round-key .result .key .right in
+    let made = c .round-key .ensures in
+    let key = made .key .whole ∙ registerAt-key (a .s) (a .rounds) true (at .loop .i) (search needs) (at .loop .inv .1) in (
       search needs,
-      registerAt-on (a .s) (a .rounds) (at .loop .i) (at .loop .inv .1) (c .next .ensures),
+      registerAt-on (a .s) (a .rounds) true (at .loop .i) (search needs) (search needs) (at .loop .inv .1) made,
       filled-128 (roundKeyOf (a .s) (a .rounds)) (at .loop .i) l r (at .loop .keys) (search needs)
-          (sym (left-pair 64 l r (search needs) (search needs)) ∙ ap (left 64) made) (sym (right-pair 64 l r (search needs)) ∙ ap (right 64) made)
+          (sym (left-pair 64 l r (search needs) (search needs)) ∙ ap (left 64) key) (sym (right-pair 64 l r (search needs)) ∙ ap (right 64) key)
           (at .loop .inv .2),
     )
 

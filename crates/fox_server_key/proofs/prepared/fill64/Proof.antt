@@ -7,16 +7,16 @@ use mathlib.Core.Bool.{true}
 use Prim.Native.Nat.{ℕ, _-_, _≤_}
 use Rattle.fox_layers.specs.Lists.{numbered}
 use Rattle.fox_rounds.specs.Skeleton.{place}
-use Rattle.fox_key_schedule.specs.Step.{roundKeyOf, RegisterAt}
-use Rattle.fox_key_schedule.proofs.Laws.RegisterAt.{registerAt-on, registerAt-key}
-use Rattle.fox_key_schedule.proofs.Laws.Schedules.{right-roundKeyAt}
+use Rattle.fox_key_schedule.specs.Step.{steps, onward, roundKeyOf, RegisterAt}
+use Rattle.fox_key_schedule.proofs.Laws.RegisterAt.{registerAt-on}
+use Rattle.fox_key_schedule.proofs.Laws.Schedules.{registerAt-key, right-roundKeyAt}
 use Rattle.fox_server_key.specs.Prepared.{filled}
 use Rattle.fox_server_key.proofs.Laws.Filled.{filled-64}
 use Rattle.fox_server_key.proofs.prepared.fill64.Statement.{statement}
 use Rattle.fox_server_key.proofs.prepared.fill64.Tie as tie
 
 abbrev Inv-loop : tie.InvT-loop
-Inv-loop s rounds keys₀ reg₀ i₀ keys reg i = (i ≤ rounds) × RegisterAt s true rounds i reg × (keys ≡ filled (numbered (roundKeyOf s rounds) i 0))
+Inv-loop s rounds keys₀ reg₀ i₀ keys reg i = (i ≤ rounds) × RegisterAt (steps s) true rounds i reg × (keys ≡ filled (numbered (roundKeyOf s rounds) i 0))
 
 abbrev μ-loop : tie.MeasureT-loop
 μ-loop s rounds keys₀ reg₀ i₀ keys reg i = rounds - i
@@ -26,15 +26,15 @@ unfolding filled numbered
 loop-holds c = (search needs, c .first .ensures, refl)
 
 loop-again : tie.Need-loop-again Inv-loop μ-loop
-unfolding place
+unfolding place onward
 loop-again c =
-    let at = c .before .before .before in
+    let at = c .before .before in
     let a = at .before .before .args in
-    let key = c .before .round-key .ensures in (
+    let made = c .round-key .ensures in (
       search needs,
-      registerAt-on (a .s) (a .rounds) (at .loop .i) (at .loop .inv .1) (c .next .ensures),
-      filled-64 (roundKeyOf (a .s) (a .rounds)) (at .loop .i) (c .before .round-key .result .right) (at .loop .keys) (search needs)
-          (right-roundKeyAt key (at .before .before .pre .0) ∙ registerAt-key (a .s) (a .rounds) true (at .loop .i) (at .loop .inv .1)) (at .loop .inv .2),
+      registerAt-on (a .s) (a .rounds) true (at .loop .i) (search needs) (search needs) (at .loop .inv .1) made,
+      filled-64 (roundKeyOf (a .s) (a .rounds)) (at .loop .i) (c .round-key .result .key .right) (at .loop .keys) (search needs)
+          (right-roundKeyAt (made .key) (at .before .before .pre .0) ∙ registerAt-key (a .s) (a .rounds) true (at .loop .i) (search needs) (at .loop .inv .1)) (at .loop .inv .2),
     )
 
 returns : tie.Need-returns Inv-loop μ-loop

@@ -1,11 +1,10 @@
--- `schedule::Schedule::first` meets its contract: it is the seed, or the seed stepped on to the last round key.
+-- `schedule::Schedule::first` meets its contract: it is the seed, or the seed moved on to the last round key.
 -- Assumes nothing.
 use borrow.Author.Needs.{needs}
 use mathlib.Core.Path.{sym, subst}
 use mathlib.Core.Bool.{Bool}
-use native.Mathlib.Omega.{arith}
-use Rattle.fox_key_schedule.specs.Step.{RegisterAt}
-use Rattle.fox_key_schedule.proofs.Laws.RegisterAt.{few-steps, registerAt-first, registerAt-last}
+use Rattle.fox_key_schedule.specs.Step.{steps, RegisterAt}
+use Rattle.fox_key_schedule.proofs.Laws.RegisterAt.{registerAt-first, registerAt-last}
 use Rattle.fox_key_schedule.proofs.schedule.Schedule.first.Statement.{statement}
 use Rattle.fox_key_schedule.proofs.schedule.Schedule.first.Tie as tie
 
@@ -13,22 +12,17 @@ returns : tie.Need-returns
 returns c =
     let seed = c .before in
     let a = seed .before .args in
-    subst (λ (d : Bool). RegisterAt (a .self) d (a .rounds) 0 (seed .seed .result)) (sym (c .if1 .taken))
-    (registerAt-first (a .self) (a .rounds) (seed .seed .ensures .0) (seed .seed .ensures .1))
-
-mul-forward : tie.Need-mul-forward
-mul-forward c = record { fits = few-steps _ _ (omega arith) (c .steps .ensures) }
+    subst (λ (d : Bool). RegisterAt (steps (a .self)) d (a .rounds) 0 (seed .seed .result)) (sym (c .if1 .taken))
+    (registerAt-first (steps (a .self)) (a .rounds) (seed .seed .ensures .0) (seed .seed .ensures .1))
 
 returns-2 : tie.Need-returns-2
 returns-2 c =
-    let steps = c .before in
-    let test = steps .before in
+    let test = c .before in
     let seed = test .before in
     let a = seed .before .args in
-    subst (λ (d : Bool). RegisterAt (a .self) d (a .rounds) 0 (c .forward .result)) (sym (test .if1 .left))
-    (registerAt-last (a .self) (a .rounds) (steps .steps .ensures) (seed .seed .ensures .0) (c .forward .ensures .0) (c .forward .ensures .1))
+    subst (λ (d : Bool). RegisterAt (steps (a .self)) d (a .rounds) 0 (c .moved .result)) (sym (test .if1 .left))
+    (registerAt-last (steps (a .self)) (a .rounds) (search needs) (seed .seed .ensures .0) (c .moved .ensures .0) (c .moved .ensures .1))
 
 pub first-spec : {M : Type 1} → statement M
 first-spec =
-    tie.close (tie.spec (λ c κs. search needs) returns (λ c. search needs) (λ c. search needs) (λ c κs. search needs) mul-forward
-    (λ c κs. search needs) returns-2)
+    tie.close (tie.spec (λ c κs. search needs) returns (λ c. search needs) (λ c κs. search needs) returns-2)

@@ -1,0 +1,70 @@
+-- A block in parts, on calls: a call on part of the rounds, and a call that goes on from its output and its register, answer as one call on both parts; and where
+-- the first part begins with the first round and the second ends with the last, as a call on the whole block, for every round to stop at, in sealing and in
+-- opening.
+-- Assumes nothing.
+use mathlib.Core.Path.{_≡_, sym, ap, ap₂, _∙_, subst}
+use mathlib.Core.Bool.{Bool, cond}
+use mathlib.Core.List.{List}
+use Prim.Native.Nat.{ℕ, _<_, _≤_}
+use native.Mathlib.Omega.{arith}
+use lib.Dec.{eqb}
+use lib.ListN.{length}
+use Rattle.fox_key_schedule.specs.Schedule.{roundKeys}
+use Rattle.fox_refusals.specs.Refusals.{refusalOf, forBlock}
+use Rattle.fox_refusals.proofs.Laws.Refusals.{blocked}
+use Rattle.fox_refusals.proofs.Laws.Reply.{served, reply-as, chosen}
+use Rattle.fox_block.specs.Block.{bytes, turnWith, BlockOf}
+use Rattle.fox_block.specs.Promise.{Turns}
+use Rattle.fox_block.proofs.Laws.Block.{length-bytes}
+use Rattle.fox_card_block.specs.Hold.{least}
+use Rattle.fox_card_block.specs.Part.{parted, TurnsPart}
+use Rattle.fox_card_block.specs.declared.rounds.Hold.{Hold}
+use Rattle.fox_card_block.specs.declared.part.Part.{Part}
+use Rattle.fox_card_block.proofs.Laws.Hold.{least-most, least-above}
+use Rattle.fox_card_block.proofs.Laws.Part.{parted-size, parted-joined, parted-all}
+
+-- a call on all rounds is a call on the block
+pub whole-part : (d : Bool) (c r : ℕ) (key : List ℕ) (reg : ℕ) {block before after : List ℕ} {p : Part} → TurnsPart d c r key 0 r reg block before after p
+    → Turns d c r key block before after (p .answer)
+unfolding turnWith
+whole-part d c r key reg {block} call =
+    reply-as
+    (λ z.
+    let known = blocked _ _ _ _ _ _ z .keyed in
+    ap bytes (parted-all d c r key reg block (omega (arith, known .low)) (omega (arith, known .high)))) (call .reply)
+
+module _ (d : Bool) (c r : ℕ) (key block : List ℕ) (b : BlockOf c block) (i j reg : ℕ) {before mid : List ℕ} {p : Part}
+  (first : TurnsPart d c r key i j reg block before mid p) (went : p .answer .refusal ≡ 0) where
+  zero : refusalOf (forBlock d c r (length key) (length block) (length before)) ≡ 0
+  zero = sym (first .reply .refusal) ∙ went
+
+  held : Hold
+  held = parted d c r key i j reg block
+
+  state-kept : mid ≡ bytes (held .state)
+  state-kept = served (first .reply) zero .output
+
+  register-kept : p .reg ≡ held .reg
+  register-kept = first .handed ∙ sym (chosen _ _ _ zero)
+
+  same-length : length mid ≡ length block
+  same-length = ap length state-kept ∙ length-bytes (held .state) ∙ parted-size d c r key i j reg block ∙ sym (b .size)
+
+  few : r < 256
+  few = omega (arith, blocked _ _ _ _ _ _ zero .keyed .high)
+
+  -- parts that follow each other
+  pub parts-join : (k : ℕ) {before₂ after : List ℕ} {q : Part} → i ≤ j → least j r ≤ least k r → TurnsPart d c r key j k (p .reg) mid before₂ after q
+      → TurnsPart d c r key i k reg block before₂ after q
+  parts-join k {before₂} {after} {q} le most second =
+      let same : parted d c r key j k (p .reg) mid ≡ parted d c r key i k reg block =
+          ap₂ (parted d c r key j k) register-kept state-kept ∙ parted-joined d c r key i j k reg block b le most few in
+      rw (← same-length, ← same) second
+
+-- a block stopped after any number of rounds, and gone on with
+pub two-parts : (d : Bool) (c r : ℕ) (key block : List ℕ) → BlockOf c block → (n reg : ℕ) {before mid before₂ after : List ℕ} {p q : Part}
+    → TurnsPart d c r key 0 n reg block before mid p → p .answer .refusal ≡ 0 → TurnsPart d c r key n r (p .reg) mid before₂ after q
+    → Turns d c r key block before₂ after (q .answer)
+two-parts d c r key block b n reg first went second =
+    let most : least n r ≤ least r r = rw (least-above r r (omega arith)) (least-most n r) in
+    whole-part d c r key reg (parts-join d c r key block b 0 n reg first went r (omega arith) most second)

@@ -1,0 +1,2 @@
+-- What the numbers of an exported call stand for.
+pub mod Unpacked
