@@ -24,10 +24,11 @@ use Rattle.fox_card_block.proofs.Laws.Hold.{least-most, least-above}
 use Rattle.fox_card_block.proofs.Laws.Part.{parted-size, parted-joined, parted-all}
 
 -- a call on all rounds is a call on the block
-pub whole-part : (d : Bool) (c r : ℕ) (key : List ℕ) (reg : ℕ) {block before after : List ℕ} {p : Part} → TurnsPart d c r key 0 r reg block before after p
+pub whole-part : (d : Bool) (c r : ℕ) (key : List ℕ) (reg : ℕ) (block : List ℕ) {before after : List ℕ} {p : Part}
+    → TurnsPart d c r key 0 r reg block before after p
     → Turns d c r key block before after (p .answer)
 unfolding turnWith
-whole-part d c r key reg {block} call =
+whole-part d c r key reg block call =
     reply-as
     (λ z.
     let known = blocked _ _ _ _ _ _ z .keyed in
@@ -38,7 +39,7 @@ module _ (d : Bool) (c r : ℕ) (key block : List ℕ) (b : BlockOf c block) (i 
   zero : refusalOf (forBlock d c r (length key) (length block) (length before)) ≡ 0
   zero = sym (first .reply .refusal) ∙ went
 
-  held : Hold
+  abbrev held : Hold
   held = parted d c r key i j reg block
 
   state-kept : mid ≡ bytes (held .state)
@@ -67,4 +68,4 @@ pub two-parts : (d : Bool) (c r : ℕ) (key block : List ℕ) → BlockOf c bloc
     → Turns d c r key block before₂ after (q .answer)
 two-parts d c r key block b n reg first went second =
     let most : least n r ≤ least r r = rw (least-above r r (omega arith)) (least-most n r) in
-    whole-part d c r key reg (parts-join d c r key block b 0 n reg first went r (omega arith) most second)
+    whole-part d c r key reg block (parts-join d c r key block b 0 n reg first went r (omega arith) most second)

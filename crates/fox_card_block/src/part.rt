@@ -55,7 +55,8 @@ pub fn turn_part(
     let n = (rounds % 256) as u8;
     let first = in_hand(sealing, s, n, from, reg);
     let done = rounds_on(sealing, s, least(from, n), least(until, n), Hold { state, reg: first });
-    write(out, done.state);
+    let y = done.state;
+    write(out, y);
     let answer = Answer::served(out.len());
     Part { answer, reg: done.reg }
 }

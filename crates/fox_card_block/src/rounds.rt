@@ -40,7 +40,8 @@ fn round_on(sealing: bool, s: Schedule, i: u8, h: Hold) -> Hold
     ensures { λ r. ⌜ r ≡ roundOn sealing (roundKeyAt s) (steps s) i h ⌝ }
 {
     let k = s.round_key(h.reg);
-    let y = led(sealing, i, h.state);
+    let x = h.state;
+    let y = led(sealing, i, x);
     Hold {
         state: y.round(k.key.left, k.key.right),
         reg: k.onward(sealing),

@@ -111,7 +111,7 @@ module _ (d : Bool) (at : ℕ → ℕ) (g : ℕ) where
 
 -- with the round keys at the register's values for m rounds
 module _ (d : Bool) (at : ℕ → ℕ) (g m : ℕ) (x : State) (few : m < 256) where
-  keys : ℕ → ℕ
+  abbrev keys : ℕ → ℕ
   keys i = at (LFSR (i * g) m)
 
   -- a block in hand after i rounds of x

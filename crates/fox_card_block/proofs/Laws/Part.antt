@@ -45,11 +45,11 @@ inHand-lt d g r (suc i) reg few = omega arith
 
 module _ (d : Bool) (c r : ℕ) (key : List ℕ) where
   -- what code does with the schedule of a key is the definition's part
-  pub parted-scheduled : {s : Schedule} → Scheduled c key s → (i j reg : ℕ) (block : List ℕ) {done : Hold} {x : State} {from until first : ℕ}
+  pub parted-scheduled : (s : Schedule) → Scheduled c key s → (i j reg : ℕ) (block : List ℕ) {done : Hold} {x : State} {from until first : ℕ}
       → from ≡ least i r → until ≡ least j r → x ≡ state c block → first ≡ inHand d (steps s) r i reg
       → done ≡ roundsOn d (roundKeyAt s) (steps s) from (until - from) (record { state = x; reg = first }) → done ≡ parted d c r key i j reg block
   unfolding parted
-  parted-scheduled {s} is i j reg block from until x first e =
+  parted-scheduled s is i j reg block from until x first e =
       let at : roundKeyAt s ≡ keyAt c key = λ t y. scheduled-at c key s is y t in
       let g : steps s ≡ stepBlock c key = scheduled-steps c key s is in
       let begun = first ∙ ap (λ (n : ℕ). inHand d n r i reg) g in

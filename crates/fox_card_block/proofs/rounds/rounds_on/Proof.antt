@@ -11,16 +11,16 @@ use Rattle.fox_card_block.proofs.rounds.rounds_on.Statement.{statement}
 use Rattle.fox_card_block.proofs.rounds.rounds_on.Tie as tie
 
 abbrev Inv-loop : tie.InvT-loop
-Inv-loop sealing s from until h now₀ i₀ now i =
+Inv-loop sealing s from until h i₀ now i =
     (from ≤ i) × (i - from ≤ until - from) × (now ≡ roundsOn sealing (roundKeyAt s) (steps s) from (i - from) h)
 
 abbrev μ-loop : tie.MeasureT-loop
-μ-loop sealing s from until h now₀ i₀ now i = until - i
+μ-loop sealing s from until h i₀ now i = until - i
 
 loop-holds : tie.Need-loop-holds Inv-loop μ-loop
 unfolding roundsOn
 loop-holds c =
-    let a = c .before .args in
+    let a = c .args in
     let none : 0 ≡ a .from - a .from = omega arith in
     (search needs, search needs, ap (λ (n : ℕ). roundsOn (a .sealing) (roundKeyAt (a .s)) (steps (a .s)) (a .from) n (a .h)) none)
 
@@ -51,4 +51,4 @@ returns c =
     at .loop .inv .2 ∙ ap (λ (n : ℕ). roundsOn (a .sealing) (roundKeyAt (a .s)) (steps (a .s)) (a .from) n (a .h)) all
 
 pub rounds-on-spec : {M : Type 1} → statement M
-rounds-on-spec = tie.close (tie.spec Inv-loop μ-loop loop-holds round-on-requires (λ c. search needs) loop-again returns)
+rounds-on-spec = tie.close (tie.spec Inv-loop μ-loop loop-holds round-on-requires (λ c. search needs) (λ c. search needs) loop-again returns)

@@ -14,8 +14,8 @@ use Rattle.fox_card_block.proofs.rounds.turned_in_two.Tie as tie
 rounds-on-requires : tie.Need-rounds-on-requires
 rounds-on-requires c κs = c .before .first .ensures .small
 
-rounds-on2-requires : tie.Need-rounds-on2-requires
-rounds-on2-requires c κs =
+rounds-on-requires-2 : tie.Need-rounds-on-requires-2
+rounds-on-requires-2 c κs =
     let stop = c .before in
     let begun = stop .before in
     let a = begun .before .args in
@@ -39,4 +39,4 @@ returns c =
     ∙ turned-on (a .sealing) key g (a .rounds) (a .x) (search needs) (search needs) (begun .first .ensures)
 
 pub turned-in-two-spec : {M : Type 1} → statement M
-turned-in-two-spec = tie.close (tie.spec (λ c κs. search needs) (λ c κs. search needs) rounds-on-requires rounds-on2-requires returns)
+turned-in-two-spec = tie.close (tie.spec (λ c κs. search needs) (λ c κs. search needs) rounds-on-requires rounds-on-requires-2 returns)
