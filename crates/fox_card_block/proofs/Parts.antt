@@ -35,7 +35,7 @@ whole-part d c r key reg block call =
     ap bytes (parted-all d c r key reg block (omega (arith, known .low)) (omega (arith, known .high)))) (call .reply)
 
 module _ (d : Bool) (c r : ℕ) (key block : List ℕ) (b : BlockOf c block) (i j reg : ℕ) {before mid : List ℕ} {p : Part}
-  (first : TurnsPart d c r key i j reg block before mid p) (went : p .answer .refusal ≡ 0) where
+    (first : TurnsPart d c r key i j reg block before mid p) (went : p .answer .refusal ≡ 0) where
   zero : refusalOf (forBlock d c r (length key) (length block) (length before)) ≡ 0
   zero = sym (first .reply .refusal) ∙ went
 
@@ -59,7 +59,7 @@ module _ (d : Bool) (c r : ℕ) (key block : List ℕ) (b : BlockOf c block) (i 
       → TurnsPart d c r key i k reg block before₂ after q
   parts-join k {before₂} {after} {q} le most second =
       let same : parted d c r key j k (p .reg) mid ≡ parted d c r key i k reg block =
-          ap₂ (parted d c r key j k) register-kept state-kept ∙ parted-joined d c r key i j k reg block b le most few in
+      ap₂ (parted d c r key j k) register-kept state-kept ∙ parted-joined d c r key i j k reg block b le most few in
       rw (← same-length, ← same) second
 
 -- a block stopped after any number of rounds, and gone on with

@@ -54,9 +54,18 @@ pub fn turn_part(
     let state = read(cipher, block);
     let n = (rounds % 256) as u8;
     let first = in_hand(sealing, s, n, from, reg);
-    let done = rounds_on(sealing, s, least(from, n), least(until, n), Hold { state, reg: first });
+    let done = rounds_on(
+        sealing,
+        s,
+        least(from, n),
+        least(until, n),
+        Hold { state, reg: first },
+    );
     let y = done.state;
     write(out, y);
     let answer = Answer::served(out.len());
-    Part { answer, reg: done.reg }
+    Part {
+        answer,
+        reg: done.reg,
+    }
 }

@@ -91,6 +91,16 @@ pub extern "C" fn fox_probe_part(
     ensures { λ r. ⌜ TurnsPart (chosen sealing) cipher rounds (now (key .entry)) from until reg (now (block .entry)) (now (out .entry)) (now (out .exit))
         (unpacked r (length (now (out .entry)))) ⌝ }
 {
-    let part = turn_part(sealing != 0, cipher, rounds, key, from, until, reg, block, out);
+    let part = turn_part(
+        sealing != 0,
+        cipher,
+        rounds,
+        key,
+        from,
+        until,
+        reg,
+        block,
+        out,
+    );
     (part.answer.refusal as u64) * 0x1_0000_0000 + part.reg as u64
 }

@@ -14,7 +14,7 @@ use Rattle.fox_key_schedule.proofs.Laws.Schedules.{scheduled-key, sched
 
 -- by the schedule of a key, for r rounds
 module _ (c r : ℕ) (key : List ℕ) (s : Schedule) (is : Scheduled c key s) (few : r < 256) (i : ℕ) {k : RoundKey} (some : 1 ≤ i) (most : i ≤ r)
-  (made : RoundKeyAt s (stands (stepBlock c key) r i) k) where
+    (made : RoundKeyAt s (stands (stepBlock c key) r i) k) where
   same : stepBlock c key ≡ steps s
   same = sym (scheduled-steps c key s is)
 

@@ -34,8 +34,7 @@ loop-again : tie.Need-loop-again Inv-loop μ-loop
 loop-again c =
     let at = c .before .before in
     let a = at .before .args in
-    let key = roundKeyAt (a .s) in
-    (
+    let key = roundKeyAt (a .s) in (
       search needs,
       search needs,
       c .round-on .ensures
