@@ -29,19 +29,31 @@ static uint32_t some_cipher(void)
     return below(2) == 0 ? FOX64 : FOX128;
 }
 
+/* Any other, or one that has the same cipher, rounds and length of key as the block that is interrupted. */
+static struct setting another(const struct setting *s)
+{
+    struct setting t = some_setting((uint32_t)below(2), some_cipher());
+    if (below(2) == 0) {
+        t = *s;
+        fill(t.key, sizeof t.key);
+        fill(t.block, sizeof t.block);
+    }
+    return t;
+}
+
 /* Whole blocks, and a block that is stopped itself. */
-static void other_work(void)
+static void other_work(const struct setting *interrupted_one)
 {
     for (size_t times = 1 + below(3); times > 0; times--) {
-        other.setting = some_setting(1, some_cipher());
+        other.setting = another(interrupted_one);
         on_painted_stack(other_block);
         if (case_wrong(other.refusals == 0 &&
                        memcmp(other.opened, other.setting.block, other.setting.block_len) == 0))
             printf("a block between two parts of another does not come back\n");
     }
-    struct setting s = some_setting((uint32_t)below(2), some_cipher());
+    const struct setting s = another(interrupted_one);
     struct kept k = begun(&s);
-    go_on(&s, &k, (uint32_t)below(s.rounds));
+    go_on(&s, &k, 1 + (uint32_t)below(s.rounds));
 }
 
 static void with_interruptions(const struct setting *s)
@@ -51,7 +63,7 @@ static void with_interruptions(const struct setting *s)
     while (k.done < s->rounds) {
         go_on(s, &k, k.done + 1 + (uint32_t)below(6));
         same_stop(s, &k, stops, k.done);
-        other_work();
+        other_work(s);
     }
 }
 
@@ -73,7 +85,7 @@ void interrupted(void)
     group_begin("other blocks under other keys between the parts, and two blocks in turns, on a painted stack");
     for (uint32_t i = 0; i < TIMES; i++) {
         const struct setting s = some_setting(i % 2, i % 4 < 2 ? FOX64 : FOX128);
-        struct setting t = some_setting((uint32_t)below(2), some_cipher());
+        struct setting t = another(&s);
         with_interruptions(&s);
         in_turns(&s, &t);
         t = s;
