@@ -21,14 +21,15 @@ static const uint32_t numbers[FAULTS] = {FOX_REFUSED_CIPHER, FOX_REFUSED_ROUNDS,
 /* Buffers of any length that is tried here. */
 static uint8_t key[SETTING_ROOM], block[SETTING_ROOM], out[SETTING_ROOM];
 
-/* One that is served, from any round to any other. */
+/* One that is served, and has rounds to do. */
 static struct part_call some_call(uint32_t sealing, uint32_t cipher)
 {
     const size_t b = block_of(cipher);
+    const uint32_t from = (uint32_t)below(FOX_LEAST_ROUNDS), until = from + 1 + (uint32_t)below(FOX_LEAST_ROUNDS);
     fill(key, sizeof key);
     fill(block, sizeof block);
     return (struct part_call){sealing, cipher, FOX_LEAST_ROUNDS + (uint32_t)below(30), key, below(FOX_MOST_KEY + 1),
-                              (uint32_t)below(20), (uint32_t)below(20), (uint32_t)any_number(), block, b, out, b};
+                              from, until, (uint32_t)any_number(), block, b, out, b};
 }
 
 /* By the bits of a number: cipher, rounds, key, block and output. A wrong output may have the cipher's own length, where the
