@@ -52,7 +52,7 @@ made_for() ( # PROCESSOR
 # The bench program is the kit's x86-64 program on every machine, and is tested once.
 host_tests() { # PROCESSOR
     export PROCESSOR="$1"
-    for test in instructions measure trace wipe run session tag file second sheets product; do
+    for test in instructions measure trace wipe run part session tag file second sheets product; do
         [ "$test" != sheets ] || [ "$1" = "$MACHINE" ] || continue
         part "$test, $1" sh "tests/$test.sh"
     done

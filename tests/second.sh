@@ -9,8 +9,8 @@ trap 'rm -f "$log" "$log.status"' EXIT
 
 # Where nothing of the library can be found.
 alone() {
-    check="$s/vectors.c $s/session_vectors.c $s/tag_vectors.c $s/file_vectors.c $s/check.c $s/aes.c"
-    $CC_HOST -std=c11 -O1 -Wall -Wextra -Werror -I$c -o "$OUT/vectors" $check $s/sheet.c $s/session.c $s/file.c $second $helpers ||
+    check="$s/vectors.c $s/part_vectors.c $s/session_vectors.c $s/tag_vectors.c $s/file_vectors.c $s/check.c $s/aes.c"
+    $CC_HOST -std=c11 -O1 -Wall -Wextra -Werror -I$c -o "$OUT/vectors" $check $s/sheet.c $s/part.c $s/session.c $s/file.c $second $helpers ||
         failed_to second "tests/second/vectors.c was not built"
     "./$OUT/vectors" tests/vectors/block.csv tests/vectors/run.csv tests/vectors/tag.csv tests/vectors/files
 }

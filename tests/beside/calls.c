@@ -2,10 +2,7 @@
 #include "calls.h"
 #include "beside.h"
 #include "chance.h"
-#include "count.h"
 #include "fox.h"
-
-#define ONE_OF(a) ((a)[below(COUNT(a))])
 
 struct given given;
 

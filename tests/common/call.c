@@ -54,24 +54,17 @@ const uint8_t *went_in(enum verb verb, const struct call *c)
     return verb == RUN ? c->data : c->first;
 }
 
-static void show_buffer(const char *name, const uint8_t *bytes, size_t len)
-{
-    printf(", %s of %zu bytes ", name, len);
-    hex_print(bytes, len < SHOWN ? len : SHOWN);
-    printf("%s", len > SHOWN ? ".." : "");
-}
-
 void show_call(enum verb verb, const struct call *c)
 {
     const struct verb_kind *kind = &verbs[verb];
     printf("cipher %" PRIu32 ", rounds %" PRIu32, c->cipher, c->rounds);
-    show_buffer("key", c->key, c->key_len);
+    hex_show("key", c->key, c->key_len, SHOWN);
     if (kind->first != NULL)
-        show_buffer(kind->first, c->first, c->first_len);
+        hex_show(kind->first, c->first, c->first_len, SHOWN);
     if (kind->at_offset)
         printf(", offset %" PRIu64, c->offset);
     if (kind->data != NULL)
-        show_buffer(kind->data, c->data, c->data_len);
+        hex_show(kind->data, c->data, c->data_len, SHOWN);
     if (kind->out != NULL)
         printf(", %s of %zu bytes", kind->out, c->out_len);
 }

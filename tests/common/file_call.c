@@ -16,13 +16,6 @@ const struct file_verb_kind file_verbs[FILE_VERBS] = {
     [FILE_SKIP] = {"file_skip", HAS_FILE | HAS_PLACE},
 };
 
-static void show_buffer(const char *name, const uint8_t *bytes, size_t len)
-{
-    printf(", %s of %zu bytes ", name, len);
-    hex_print(bytes, len < SHOWN ? len : SHOWN);
-    printf("%s", len > SHOWN ? ".." : "");
-}
-
 /* A file as its text, where all bytes but letters, digits, `=` and line feeds stand as hex digits. */
 static void show_file(const uint8_t *bytes, size_t len)
 {
@@ -50,10 +43,10 @@ void show_file_call(enum file_verb verb, const struct file_call *c)
     unsigned has = file_verbs[verb].has;
     printf("fox_%s: cipher %" PRIu32 ", rounds %" PRIu32, file_verbs[verb].name, c->cipher, c->rounds);
     if (has & HAS_KEY)
-        show_buffer("key", c->key, c->key_len);
+        hex_show("key", c->key, c->key_len, SHOWN);
     if (has & HAS_DATA) {
-        show_buffer("counter", c->counter, c->counter_len);
-        show_buffer("data", c->data, c->data_len);
+        hex_show("counter", c->counter, c->counter_len, SHOWN);
+        hex_show("data", c->data, c->data_len, SHOWN);
     }
     if (has & HAS_SCANS)
         show_lengths(c->lengths, c->scans);

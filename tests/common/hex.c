@@ -33,3 +33,10 @@ void hex_print(const uint8_t *bytes, size_t len)
     for (size_t i = 0; i < len; i++)
         printf("%02X", bytes[i]);
 }
+
+void hex_show(const char *name, const uint8_t *bytes, size_t len, size_t most)
+{
+    printf(", %s of %zu bytes ", name, len);
+    hex_print(bytes, len < most ? len : most);
+    printf("%s", len > most ? ".." : "");
+}

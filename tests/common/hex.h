@@ -14,4 +14,7 @@ int hex_read_all(const char *text, uint8_t *bytes, size_t room, size_t *len);
 
 void hex_print(const uint8_t *bytes, size_t len);
 
+/* Prints a buffer as one more of a call: its name, its length, and its bytes up to the first `most`. */
+void hex_show(const char *name, const uint8_t *bytes, size_t len, size_t most);
+
 #endif

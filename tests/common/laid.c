@@ -17,14 +17,6 @@ static struct room rooms[] = {
     [OUTPUT] = {"output or tag", NULL},
 };
 
-static const char *beside_which(const uint8_t *place)
-{
-    for (size_t i = 0; i < COUNT(rooms); i++)
-        if (room_has(&rooms[i], place))
-            return rooms[i].name;
-    return "nothing that it was lent";
-}
-
 static void put_output_words(char *words, size_t room, const uint8_t *found, const uint8_t *answer, size_t len)
 {
     size_t i = 0;
@@ -56,7 +48,7 @@ const char *laid_wrong(const struct engine *engine, enum verb verb, const struct
     uint32_t found = make_caught(engine, verb, &laid);
     if (found == FAULTED)
         snprintf(what, sizeof what, "faults at %p, beside %s", (const void *)fault_place(),
-                 beside_which(fault_place()));
+                 room_beside(rooms, COUNT(rooms), fault_place()));
     else if (found != right)
         snprintf(what, sizeof what, "answers %" PRIu32 " and not %" PRIu32, found, right);
     else if (!room_holds(&rooms[OUTPUT], answer, c->out_len, at_end))

@@ -51,3 +51,17 @@ int room_has(const struct room *room, const uint8_t *address)
 {
     return room->first != NULL && address >= room->first - GUARD && address < room->first + ROOM + GUARD;
 }
+
+const char *room_beside(const struct room *rooms, size_t count, const uint8_t *address)
+{
+    for (size_t i = 0; i < count; i++)
+        if (room_has(&rooms[i], address))
+            return rooms[i].name;
+    return "nothing that it was lent";
+}
+
+const uint8_t *no_room(size_t len)
+{
+    void *all = mmap(NULL, len, PROT_NONE, MAP_PRIVATE | MAP_ANONYMOUS | MAP_NORESERVE, -1, 0);
+    return all == MAP_FAILED ? NULL : all;
+}

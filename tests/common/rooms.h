@@ -24,4 +24,10 @@ int room_holds(const struct room *room, const void *bytes, size_t len, int at_en
 /* Whether an address is in the room, or in the pages beside it. */
 int room_has(const struct room *room, const uint8_t *address);
 
+/* The name of the one of these rooms that has the address; "nothing that it was lent" where none has. */
+const char *room_beside(const struct room *rooms, size_t count, const uint8_t *address);
+
+/* Addresses for so many bytes, with no memory behind them; NULL where the machine gives none. */
+const uint8_t *no_room(size_t len);
+
 #endif

@@ -13,24 +13,17 @@ const char *const session_verbs[SESSION_VERBS] = {
     [SESSION_MOVE] = "session_move",
 };
 
-static void show_buffer(const char *name, const uint8_t *bytes, size_t len)
-{
-    printf(", %s of %zu bytes ", name, len);
-    hex_print(bytes, len < SHOWN ? len : SHOWN);
-    printf("%s", len > SHOWN ? ".." : "");
-}
-
 void show_session_call(enum session_verb verb, const struct session_call *c)
 {
     printf("fox_%s", session_verbs[verb]);
     switch (verb) {
     case SESSION_START:
         printf(": cipher %" PRIu32 ", rounds %" PRIu32, c->cipher, c->rounds);
-        show_buffer("key", c->key, c->key_len);
-        show_buffer("counter", c->counter, c->counter_len);
+        hex_show("key", c->key, c->key_len, SHOWN);
+        hex_show("counter", c->counter, c->counter_len, SHOWN);
         break;
     case SESSION_ADVANCE:
-        show_buffer("input", c->input, c->input_len);
+        hex_show("input", c->input, c->input_len, SHOWN);
         printf(", output of %zu bytes", c->out_len);
         break;
     default:

@@ -6,6 +6,7 @@
 #include "faults.h"
 #include "file.h"
 #include "groups.h"
+#include "rooms.h"
 #include "sample.h"
 #include "tally.h"
 #include "text.h"
@@ -141,11 +142,10 @@ static const uint8_t *nowhere;
 
 static void make_nowhere(void)
 {
-    const size_t size = (size_t)FOX_MOST_FILE + 2 * MARGIN;
-    void *all = mmap(NULL, size, PROT_NONE, MAP_PRIVATE | MAP_ANONYMOUS | MAP_NORESERVE, -1, 0);
-    if (all == MAP_FAILED)
+    const uint8_t *all = no_room((size_t)FOX_MOST_FILE + 2 * MARGIN);
+    if (all == NULL)
         abort();
-    nowhere = (const uint8_t *)all + PAGE;
+    nowhere = all + PAGE;
 }
 
 static void answered(enum file_verb verb, const struct file_call *c, uint64_t right)

@@ -12,8 +12,6 @@
 
 enum { TIMES = 5, MORE = 64 };
 
-#define ONE_OF(a) ((a)[below(COUNT(a))])
-
 /* What the call at hand is lent, where spoils change it. */
 static const struct sample *sample;
 static struct text text;

@@ -82,14 +82,6 @@ static int lent_kept(enum file_verb verb, const struct file_call *c, int at_end)
     return !(has & HAS_FILE) || room_holds(&rooms[FILE_ROOM], c->file, c->file_len, at_end);
 }
 
-static const char *beside_which(const uint8_t *place)
-{
-    for (size_t i = 0; i < COUNT(rooms); i++)
-        if (room_has(&rooms[i], place))
-            return rooms[i].name;
-    return "nothing that it was lent";
-}
-
 /* Before a call every byte that is to be written is another one than it has to become, and all after them are
  * painted. */
 static void paint(const uint8_t *bytes, size_t count, size_t out_len)
@@ -109,7 +101,7 @@ static const char *wrong_call(enum file_verb verb, const struct file_call *c, co
     uint64_t found = caught_call(verb, &laid);
     if (found == NO_ANSWER)
         snprintf(words, sizeof words, "faults at %p, beside %s", (const void *)fault_place(),
-                 beside_which(fault_place()));
+                 room_beside(rooms, COUNT(rooms), fault_place()));
     else if (found != right->answer)
         snprintf(words, sizeof words, "answers %" PRIu64 " and not %" PRIu64, found, right->answer);
     else if ((has & HAS_COUNT) && !room_holds(&rooms[COUNTED], &right->count, sizeof right->count, at_end))

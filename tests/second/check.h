@@ -1,5 +1,5 @@
-/* What the parts of the self-check have in common: cases that compare, rows of a file, and the groups about sessions,
- * tags and run files, which vectors.c calls. */
+/* What the parts of the self-check have in common: cases that compare, rows of a file, and the groups about stopped
+ * blocks, sessions, tags and run files, which vectors.c calls. */
 #ifndef SECOND_CHECK_H
 #define SECOND_CHECK_H
 
@@ -17,6 +17,9 @@ uint32_t number(const char *text);
 /* One group: each row of the file, cut at its commas. `expected` is the number of rows, so that a file cut short is
  * noticed; the row that names the fields is not counted. */
 void rows(const char *path, size_t width, uint32_t expected, void (*check_row)(char **fields));
+
+/* part_vectors.c; the path is that of the rows of blocks. */
+void check_parts(const char *path);
 
 /* session_vectors.c; the path is that of the rows of runs. */
 void check_sessions(const char *path);

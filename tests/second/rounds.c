@@ -54,7 +54,7 @@ static void one_round(uint8_t *x, size_t block, const uint8_t *key)
         x[i] ^= f[i / PAIR * WORD + i % WORD];
 }
 
-static void each_left_word(uint8_t *x, size_t block, void (*turn)(uint8_t *word))
+void second_each_left_word(uint8_t *x, size_t block, void (*turn)(uint8_t *word))
 {
     for (size_t i = 0; i < block; i += PAIR)
         turn(x + i);
@@ -65,7 +65,7 @@ void second_seal_rounds(uint8_t *x, size_t block, const uint8_t *keys, size_t ro
     for (size_t i = 0; i < rounds; i++) {
         one_round(x, block, keys + i * block);
         if (i + 1 < rounds)
-            each_left_word(x, block, second_or);
+            second_each_left_word(x, block, second_or);
     }
 }
 
@@ -74,6 +74,6 @@ void second_open_rounds(uint8_t *x, size_t block, const uint8_t *keys, size_t ro
     for (size_t i = rounds; i-- > 0;) {
         one_round(x, block, keys + i * block);
         if (i > 0)
-            each_left_word(x, block, second_io);
+            second_each_left_word(x, block, second_io);
     }
 }

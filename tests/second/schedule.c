@@ -29,7 +29,15 @@ void second_mixed_key(uint8_t *mixed, size_t ek, const uint8_t *key, size_t key_
     }
 }
 
-/* §2.3.9: one step of the register, three bytes with the highest first. */
+/* §2.3.9: what the register begins with, three bytes with the highest first. */
+void second_seed(uint8_t *reg, size_t rounds)
+{
+    reg[0] = 0x6A;
+    reg[1] = (uint8_t)rounds;
+    reg[2] = (uint8_t)~rounds;
+}
+
+/* §2.3.9: one step of the register. */
 void second_step(uint8_t *reg)
 {
     uint8_t top = reg[0] >> 7;
@@ -38,6 +46,18 @@ void second_step(uint8_t *reg)
     reg[2] = (uint8_t)(reg[2] << 1);
     if (top)
         reg[2] ^= 0x1B;
+}
+
+/* A step undone. The lowest bit is set by a step that has dropped the highest one, and by no other, since the bits 1B that it
+ * then adds have the lowest among them. */
+void second_step_back(uint8_t *reg)
+{
+    uint8_t dropped = reg[2] & 1;
+    if (dropped)
+        reg[2] ^= 0x1B;
+    reg[2] = (uint8_t)(reg[1] << 7 | reg[2] >> 1);
+    reg[1] = (uint8_t)(reg[0] << 7 | reg[1] >> 1);
+    reg[0] = (uint8_t)(dropped << 7 | reg[0] >> 1);
 }
 
 /* §2.3.8: D. Each group of three bytes meets the register once, the last group being cut short, and the register is
@@ -94,14 +114,20 @@ static void one_round_key(uint8_t *round_key, size_t block, const uint8_t *dkey,
     memcpy(round_key, x, block);
 }
 
-void second_round_keys(uint8_t *keys, size_t block, size_t rounds, const uint8_t *key, size_t key_len)
+void second_keys_from(uint8_t *keys, size_t block, size_t count, const uint8_t *key, size_t key_len, uint8_t *reg)
 {
     uint8_t mixed[MOST_KEY], dkey[MOST_KEY];
-    uint8_t reg[3] = {0x6A, (uint8_t)rounds, (uint8_t)~rounds};
     size_t ek = second_ek(block, key_len);
     second_mixed_key(mixed, ek, key, key_len);
-    for (size_t i = 0; i < rounds; i++) {
+    for (size_t i = 0; i < count; i++) {
         diversify(dkey, mixed, ek, reg);
         one_round_key(keys + i * block, block, dkey, ek, key_len == ek);
     }
+}
+
+void second_round_keys(uint8_t *keys, size_t block, size_t rounds, const uint8_t *key, size_t key_len)
+{
+    uint8_t reg[3];
+    second_seed(reg, rounds);
+    second_keys_from(keys, block, rounds, key, key_len, reg);
 }

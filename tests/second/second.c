@@ -40,13 +40,19 @@ static uint32_t run_refusal(size_t data_len, size_t out_len, uint64_t offset)
     return offset > RUN_END || data_len > RUN_END - offset ? 7 : 0;
 }
 
+uint32_t second_block_refusal(uint32_t cipher, uint32_t rounds, size_t key_len, size_t block_len, size_t out_len)
+{
+    uint32_t refusal = early_refusal(cipher, rounds, key_len, block_len);
+    if (refusal != 0)
+        return refusal;
+    return out_len != block_len ? 6 : 0;
+}
+
 uint32_t second_block(int opening, uint32_t cipher, uint32_t rounds, const uint8_t *key, size_t key_len,
                       const uint8_t *block, size_t block_len, uint8_t *out, size_t out_len)
 {
     uint8_t keys[MOST_ROUNDS * MOST_BLOCK];
-    uint32_t refusal = early_refusal(cipher, rounds, key_len, block_len);
-    if (refusal == 0 && out_len != block_len)
-        refusal = 6;
+    uint32_t refusal = second_block_refusal(cipher, rounds, key_len, block_len, out_len);
     if (refusal != 0)
         return refusal;
     second_round_keys(keys, block_len, rounds, key, key_len);

@@ -10,6 +10,9 @@
 /* Refusals 1 to 3, which all calls with a key have in common. */
 uint32_t second_key_refusal(uint32_t cipher, uint32_t rounds, size_t key_len);
 
+/* Refusals 1 to 4 and 6, in this order, which calls on a block have in common. */
+uint32_t second_block_refusal(uint32_t cipher, uint32_t rounds, size_t key_len, size_t block_len, size_t out_len);
+
 /* One block, sealed, or opened where `opening` is not 0. */
 uint32_t second_block(int opening, uint32_t cipher, uint32_t rounds, const uint8_t *key, size_t key_len,
                       const uint8_t *block, size_t block_len, uint8_t *out, size_t out_len);

@@ -1,6 +1,6 @@
-/* The second implementation by itself: 001's vectors, 01's known values and sheet, sessions, tags, run files, and the
- * rows of three files. Usage: vectors BLOCKS RUNS TAGS FILES. Last line: 'N passed, M failed', where each group of cases
- * counts as one. */
+/* The second implementation by itself: 001's vectors, 01's known values and sheet, stopped blocks, sessions, tags,
+ * run files, and the rows of three files. Usage: vectors BLOCKS RUNS TAGS FILES. Last line: 'N passed, M failed', where
+ * each group of cases counts as one. */
 #include "check.h"
 #include "count.h"
 #include "hex.h"
@@ -103,7 +103,8 @@ static void known_schedule(void)
     static const uint8_t registers[4][3] = {
         {0x6A, 0x10, 0xEF}, {0xD4, 0x21, 0xDE}, {0xA8, 0x43, 0xA7}, {0x50, 0x87, 0x55}};
     static const uint8_t short_key[8] = {0x00, 0x11, 0x22, 0x33, 0x44, 0x55, 0x66, 0x77};
-    uint8_t reg[3] = {0x6A, 16, (uint8_t)~16u}, mixed[MOST_KEY];
+    uint8_t reg[3], mixed[MOST_KEY];
+    second_seed(reg, 16);
     group_begin("known values of 01: register, mixed key, ek");
     for (size_t i = 0; i < COUNT(registers); i++) {
         same_bytes(reg, registers[i], 3, "register");
@@ -258,6 +259,7 @@ int main(int count, char **words)
     sheets();
     rows(words[1], 5, 252, block_row);
     rows(words[2], 7, 112, run_row);
+    check_parts(words[1]);
     check_sessions(words[2]);
     check_tags(words[3]);
     check_files(words[4]);

@@ -3,7 +3,6 @@
  * caller can rely on it. */
 #include "answers.h"
 #include "chance.h"
-#include "count.h"
 #include "faults.h"
 #include "groups.h"
 #include "pair.h"
@@ -13,8 +12,6 @@
 #include <inttypes.h>
 #include <stdio.h>
 #include <string.h>
-
-#define ONE_OF(a) ((a)[below(COUNT(a))])
 
 /* Which word is what. */
 enum { CIPHER = 510, ROUNDS = 511, KEY_LEN = 512, POSITION = 515 };

@@ -50,15 +50,11 @@ static struct session_call lay(enum session_verb verb, const struct session_call
     return laid;
 }
 
-static const char *beside_which(const uint8_t *place)
+static const char *fault_words(void)
 {
     static char words[64];
-    for (size_t i = 0; i < COUNT(rooms); i++)
-        if (room_has(&rooms[i], place)) {
-            snprintf(words, sizeof words, "faults beside the %s", rooms[i].name);
-            return words;
-        }
-    return "faults at nothing that it was lent";
+    snprintf(words, sizeof words, "faults, beside %s", room_beside(rooms, COUNT(rooms), fault_place()));
+    return words;
 }
 
 /* The words are by now as the call has left them. */
@@ -81,7 +77,7 @@ uint32_t laid_call(enum session_verb verb, const struct session_call *c, const u
     struct session_call laid = lay(verb, c, at_end);
     uint32_t answer = caught_call(verb, &laid);
     if (answer == FAULTED) {
-        *kept = beside_which(fault_place());
+        *kept = fault_words();
         return FAULTED;
     }
     memcpy(c->session, laid.session, words_size);

@@ -6,8 +6,6 @@
 #include "pair.h"
 #include "tally.h"
 
-#define ONE_OF(a) ((a)[below(COUNT(a))])
-
 static struct pair pairs[2];
 
 static size_t some_length(size_t b)

@@ -1,19 +1,16 @@
 /* Spoilt calls: of all that is wrong with one, what is looked for first is answered, and nothing is changed. */
-#define _GNU_SOURCE
 #include "call.h"
 #include "chance.h"
-#include "count.h"
 #include "faults.h"
 #include "groups.h"
 #include "pair.h"
+#include "rooms.h"
 #include "tally.h"
 
 #include <inttypes.h>
 #include <stdio.h>
 #include <string.h>
-#include <sys/mman.h>
 
-#define ONE_OF(a) ((a)[below(COUNT(a))])
 #define FOUR_GIB (1ull << 32)
 
 enum { MARGIN = 1 << 20 };
@@ -133,13 +130,12 @@ static void large_of(uint32_t cipher)
 
 void large_lengths(void)
 {
-    const size_t size = (size_t)FOUR_GIB + 2 * MARGIN;
-    void *all = mmap(NULL, size, PROT_NONE, MAP_PRIVATE | MAP_ANONYMOUS | MAP_NORESERVE, -1, 0);
+    const uint8_t *all = no_room((size_t)FOUR_GIB + 2 * MARGIN);
     group_begin("lengths of 4 GiB and more, with no memory there");
-    if (all == MAP_FAILED && case_wrong(0))
+    if (all == NULL && case_wrong(0))
         printf("this machine gives no addresses for 4 GiB\n");
-    nowhere = (const uint8_t *)all + MARGIN;
-    for (uint32_t cipher = FOX64; all != MAP_FAILED && cipher <= FOX128; cipher += FOX64)
+    nowhere = all != NULL ? all + MARGIN : NULL;
+    for (uint32_t cipher = FOX64; all != NULL && cipher <= FOX128; cipher += FOX64)
         large_of(cipher);
     group_end();
 }

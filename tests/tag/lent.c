@@ -1,26 +1,23 @@
 /* What the calls here are lent. */
-#define _GNU_SOURCE
 #include "lent.h"
 #include "chance.h"
 #include "check.h"
 #include "faults.h"
+#include "rooms.h"
 #include "tally.h"
 
 #include <stdio.h>
 #include <stdlib.h>
 #include <string.h>
-#include <sys/mman.h>
 
 struct lent lent, before;
 const uint8_t *nowhere;
 
 void prepare_lent(void)
 {
-    const size_t size = (size_t)FOX_MOST_MESSAGE + (1 << 20);
-    void *all = mmap(NULL, size, PROT_NONE, MAP_PRIVATE | MAP_ANONYMOUS | MAP_NORESERVE, -1, 0);
-    if (all == MAP_FAILED)
+    nowhere = no_room((size_t)FOX_MOST_MESSAGE + (1 << 20));
+    if (nowhere == NULL)
         abort();
-    nowhere = all;
     fill((uint8_t *)&lent, sizeof lent);
 }
 

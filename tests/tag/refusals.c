@@ -8,8 +8,6 @@
 
 #include <stdint.h>
 
-#define ONE_OF(a) ((a)[below(COUNT(a))])
-
 static void spoil_cipher(struct call *c)
 {
     static const uint32_t ciphers[] = {0, FOX64 - 1, FOX64 + 1, FOX128 - 1, FOX128 + 1, 256 + FOX64, UINT32_MAX};

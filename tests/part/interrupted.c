@@ -1,0 +1,96 @@
+/* A card that is interrupted: of a block only its state, register and number of rounds are kept, and other work comes
+ * between its parts, on the same stack. */
+#include "chance.h"
+#include "groups.h"
+#include "painted.h"
+#include "tally.h"
+#include "try.h"
+
+#include <stdio.h>
+#include <string.h>
+
+/* Another block under another key, sealed and opened whole. */
+static struct {
+    struct setting setting;
+    uint8_t sealed[FOX128_BLOCK], opened[FOX128_BLOCK];
+    uint32_t refusals;
+} other;
+
+static void other_block(void)
+{
+    const struct setting *s = &other.setting;
+    const size_t b = s->block_len;
+    other.refusals = fox_card_seal_block(s->cipher, s->rounds, s->key, s->key_len, s->block, b, other.sealed, b);
+    other.refusals |= fox_card_open_block(s->cipher, s->rounds, s->key, s->key_len, other.sealed, b, other.opened, b);
+}
+
+static uint32_t some_cipher(void)
+{
+    return below(2) == 0 ? FOX64 : FOX128;
+}
+
+/* Any other, or one that has the same cipher, rounds and length of key as the block that is interrupted. */
+static struct setting another(const struct setting *s)
+{
+    struct setting t = some_setting((uint32_t)below(2), some_cipher());
+    if (below(2) == 0) {
+        t = *s;
+        fill(t.key, sizeof t.key);
+        fill(t.block, sizeof t.block);
+    }
+    return t;
+}
+
+/* Whole blocks, and a block that is stopped itself. */
+static void other_work(const struct setting *interrupted_one)
+{
+    for (size_t times = 1 + below(3); times > 0; times--) {
+        other.setting = another(interrupted_one);
+        on_painted_stack(other_block);
+        if (case_wrong(other.refusals == 0 &&
+                       memcmp(other.opened, other.setting.block, other.setting.block_len) == 0))
+            printf("a block between two parts of another does not come back\n");
+    }
+    const struct setting s = another(interrupted_one);
+    struct kept k = begun(&s);
+    go_on(&s, &k, 1 + (uint32_t)below(s.rounds));
+}
+
+static void with_interruptions(const struct setting *s)
+{
+    const struct second_stops *stops = stops_of(s);
+    struct kept k = begun(s);
+    while (k.done < s->rounds) {
+        go_on(s, &k, k.done + 1 + (uint32_t)below(6));
+        same_stop(s, &k, stops, k.done);
+        other_work(s);
+    }
+}
+
+/* Two blocks, each of which interrupts the other. */
+static void in_turns(const struct setting *s, const struct setting *t)
+{
+    struct kept k = begun(s), l = begun(t);
+    while (k.done < s->rounds || l.done < t->rounds) {
+        go_on(s, &k, k.done + (uint32_t)below(4));
+        go_on(t, &l, l.done + (uint32_t)below(4));
+    }
+    same_stop(s, &k, stops_of(s), s->rounds);
+    same_stop(t, &l, stops_of(t), t->rounds);
+}
+
+void interrupted(void)
+{
+    enum { TIMES = 60 };
+    group_begin("other blocks under other keys between the parts, and two blocks in turns, on a painted stack");
+    for (uint32_t i = 0; i < TIMES; i++) {
+        const struct setting s = some_setting(i % 2, i % 4 < 2 ? FOX64 : FOX128);
+        struct setting t = another(&s);
+        with_interruptions(&s);
+        in_turns(&s, &t);
+        t = s;
+        t.sealing = !s.sealing;
+        in_turns(&s, &t);
+    }
+    group_end();
+}
