@@ -1,9 +1,10 @@
-// Part of a block's rounds, from the block's bytes, or those of its state between two rounds, and the register's value in hand. A card that is interrupted
-// keeps the state, the register and the number of rounds done, and goes on from them. Every input is answered.
+// Part of a block's rounds by the card engine, and a block in two parts. A card that is interrupted keeps the bytes of the state, the register and the number of
+// rounds done, and goes on from them. Every input is answered.
+// A state is a block with fewer rounds than a key asks for, and tells of the key: it is to be kept as secret as the key, unchanged, and wiped.
 ghost use mathlib.Core.Path.{_≡_};
 ghost use Prim.Native.Nat.{_≤_, _<_, _^_};
 ghost use Rattle.fox_key_schedule.specs.Step.{steps};
-ghost use Rattle.fox_card_block.specs.Part.{inHand, TurnsPart};
+ghost use Rattle.fox_card_block.specs.Part.{inHand, TurnsPart, TurnsInTwo};
 use crate::rounds::Hold;
 use crate::rounds::least;
 use crate::rounds::rounds_on;
@@ -14,13 +15,13 @@ use fox_refusals::answer::Answer;
 use fox_refusals::refusals::for_block;
 
 // What a call on part of a block's rounds returns: the answer, and the register's value for the next round, 0 where the call is refused.
-pub struct Part {
+pub struct PartAnswer {
     pub answer: Answer,
     pub reg: u32,
 }
 
-// The register's value for round number `from`. For the first round it follows from the number of rounds; for a later one it is the value handed in, of which
-// 24 bits count.
+// The register's value for round number `from`. For the first round it is the schedule's, whatever is handed in; for a later one it is the value handed in, of
+// which 24 bits count.
 fn in_hand(sealing: bool, s: Schedule, rounds: u8, from: u32, reg: u32) -> u32
     requires { ⌜ 1 ≤ rounds ⌝ }
     ensures { λ r. ⌜ (r ≡ inHand sealing (steps s) rounds from reg) × (r < 2 ^ 24) ⌝ }
@@ -42,13 +43,13 @@ pub fn turn_part(
     reg: u32,
     block: &[u8],
     out: &mut [u8],
-) -> Part
+) -> PartAnswer
     ensures { λ p. ⌜ TurnsPart sealing cipher rounds (now (key .entry)) from until reg (now (block .entry)) (now (out .entry)) (now (out .exit)) p ⌝ }
 {
     let refusal = for_block(sealing, cipher, rounds, key.len(), block.len(), out.len());
     if refusal != 0 {
         let answer = Answer::refused(refusal);
-        return Part { answer, reg: 0 };
+        return PartAnswer { answer, reg: 0 };
     }
     let s = Schedule::of(cipher, key);
     let state = read(cipher, block);
@@ -64,8 +65,41 @@ pub fn turn_part(
     let y = done.state;
     write(out, y);
     let answer = Answer::served(out.len());
-    Part {
+    PartAnswer {
         answer,
         reg: done.reg,
     }
+}
+
+// A block in two parts, as a card does it that is interrupted after `stop` rounds, or after the last: between the parts it has the state, in `held`, and the
+// register.
+pub fn turn_in_two(
+    sealing: bool,
+    cipher: u32,
+    rounds: u32,
+    key: &[u8],
+    stop: u32,
+    block: &[u8],
+    held: &mut [u8],
+    out: &mut [u8],
+) -> Answer
+    ensures { λ r. ⌜ TurnsInTwo sealing cipher rounds (now (key .entry)) stop (now (block .entry)) (now (held .entry)) (now (held .exit)) (now (out .entry))
+        (now (out .exit)) r ⌝ }
+{
+    let first = turn_part(sealing, cipher, rounds, key, 0, stop, 0, block, held);
+    if first.answer.refusal != 0 {
+        return first.answer;
+    }
+    let rest = turn_part(
+        sealing,
+        cipher,
+        rounds,
+        key,
+        stop,
+        rounds,
+        first.reg,
+        held,
+        out,
+    );
+    rest.answer
 }

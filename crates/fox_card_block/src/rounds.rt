@@ -8,14 +8,14 @@ ghost use Rattle.fox_card_block.specs.Hold.{least, led, roundOn, roundsO
 use fox_key_schedule::schedule::Schedule;
 use fox_rounds::state::State;
 
-// A block between two rounds: its state, and the register's value for the next round.
+// A block between two rounds: its state as the last round left it, before "or" or "io", and the register's value for the next round.
 pub struct Hold {
     pub state: State,
     pub reg: u32,
 }
 
 // The smaller of two numbers, which fits a byte since one of them does.
-pub fn least(a: u32, b: u8) -> u8
+pub(crate) fn least(a: u32, b: u8) -> u8
     ensures { λ r. ⌜ r ≡ least a b ⌝ }
 {
     if a < b as u32 {
@@ -49,7 +49,7 @@ fn round_on(sealing: bool, s: Schedule, i: u8, h: Hold) -> Hold
 }
 
 // The rounds from number `from` on, up to the one before number `until`.
-pub fn rounds_on(sealing: bool, s: Schedule, from: u8, until: u8, h: Hold) -> Hold
+pub(crate) fn rounds_on(sealing: bool, s: Schedule, from: u8, until: u8, h: Hold) -> Hold
     requires { ⌜ h .reg < 2 ^ 24 ⌝ }
     ensures { λ r. ⌜ r ≡ roundsOn sealing (roundKeyAt s) (steps s) from (until - from) h ⌝ }
 {
@@ -66,17 +66,5 @@ pub fn turned(sealing: bool, s: Schedule, rounds: u8, x: State) -> State
 {
     let reg = s.first(sealing, rounds);
     let done = rounds_on(sealing, s, 0, rounds, Hold { state: x, reg });
-    done.state
-}
-
-// The same in two parts: stopped after `stop` rounds, or after the last, with state and register in hand, and gone on with from there.
-pub fn turned_in_two(sealing: bool, s: Schedule, rounds: u8, stop: u32, x: State) -> State
-    requires { ⌜ 1 ≤ rounds ⌝ }
-    ensures { λ y. ⌜ y ≡ turned sealing (roundKeysOf s rounds) x ⌝ }
-{
-    let reg = s.first(sealing, rounds);
-    let at = least(stop, rounds);
-    let held = rounds_on(sealing, s, 0, at, Hold { state: x, reg });
-    let done = rounds_on(sealing, s, at, rounds, held);
     done.state
 }

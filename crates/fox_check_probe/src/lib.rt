@@ -8,8 +8,10 @@ ghost use Rattle.fox_rounds.specs.Skeleton.{seal64, seal128};
 ghost use Rattle.fox_rounds.specs.RoundKeys.{roundKeysIn64, roundKeysIn128};
 ghost use Rattle.fox_key_register.specs.Register.{iterate};
 ghost use Rattle.fox_sheet.specs.Answer.{Answers};
-ghost use Rattle.fox_card_block.specs.Part.{TurnsPart};
-ghost use Rattle.fox_check_probe.specs.Unpacked.{chosen, unpacked};
+ghost use Rattle.fox_refusals.specs.Handed.{answer as handed};
+ghost use Rattle.fox_card_block.specs.Part.{TurnsPart, TurnsInTwo};
+ghost use Rattle.fox_check_probe.specs.Unpacked.{asksToSeal, unpacked};
+use fox_card_block::part::turn_in_two;
 use fox_card_block::part::turn_part;
 use fox_rounds::fox64::Fox64;
 use fox_rounds::fox128::Fox128;
@@ -88,7 +90,7 @@ pub extern "C" fn fox_probe_part(
     block: &[u8],
     out: &mut [u8],
 ) -> u64
-    ensures { λ r. ⌜ TurnsPart (chosen sealing) cipher rounds (now (key .entry)) from until reg (now (block .entry)) (now (out .entry)) (now (out .exit))
+    ensures { λ r. ⌜ TurnsPart (asksToSeal sealing) cipher rounds (now (key .entry)) from until reg (now (block .entry)) (now (out .entry)) (now (out .exit))
         (unpacked r (length (now (out .entry)))) ⌝ }
 {
     let part = turn_part(
@@ -103,4 +105,23 @@ pub extern "C" fn fox_probe_part(
         out,
     );
     (part.answer.refusal as u64) * 0x1_0000_0000 + part.reg as u64
+}
+
+// A block in two parts by the card engine, with the state kept in `held` between them: the refusal number.
+#[no_mangle]
+pub extern "C" fn fox_probe_in_two(
+    sealing: u32,
+    cipher: u32,
+    rounds: u32,
+    key: &[u8],
+    stop: u32,
+    block: &[u8],
+    held: &mut [u8],
+    out: &mut [u8],
+) -> u32
+    ensures { λ r. ⌜ TurnsInTwo (asksToSeal sealing) cipher rounds (now (key .entry)) stop (now (block .entry)) (now (held .entry)) (now (held .exit))
+        (now (out .entry)) (now (out .exit)) (handed r (length (now (out .entry)))) ⌝ }
+{
+    let answer = turn_in_two(sealing != 0, cipher, rounds, key, stop, block, held, out);
+    answer.refusal
 }

@@ -1,5 +1,6 @@
--- What a made round key hands on, on calls: made where round key number i stands, for i of 1 to the rounds, it is that round key; `next` is where the next one
--- stands and `before` where the one before stands, one step block beyond either end included; and `before` of `next` is where it was.
+-- What a made round key hands on, on calls. Made where round key number i stands, counted from 1, it is that round key; `next` is where number i + 1 stands, and
+-- `before` where number i - 1 stands, for every i, so for 1 to the rounds and for the places beyond either end. From any register `before` of `next` is where
+-- it was, and so is `next` of `before`.
 -- Assumes nothing.
 use mathlib.Core.Path.{_≡_, sym, ap, _∙_}
 use mathlib.Core.Bool.{true, false}
@@ -9,29 +10,36 @@ use Rattle.fox_key_schedule.specs.Schedule.{roundKey, stepBlock}
 use Rattle.fox_key_schedule.specs.Step.{Scheduled, steps, stepped, roundKeyAt, roundKeyOf, RoundKeyAt, stands}
 use Rattle.fox_key_schedule.specs.declared.schedule.RoundKey.{RoundKey}
 use Rattle.fox_key_schedule.specs.declared.schedule.Schedule.{Schedule}
-use Rattle.fox_key_schedule.proofs.Laws.RegisterAt.{stepped-back, stands-at, stands-next, stands-before}
+use Rattle.fox_key_schedule.proofs.Laws.RegisterAt.{stepped-back, stepped-on, stands-at, stands-next, stands-before}
 use Rattle.fox_key_schedule.proofs.Laws.Schedules.{scheduled-key, scheduled-steps}
 
 -- by the schedule of a key, for r rounds
-module _ (c r : ℕ) (key : List ℕ) (s : Schedule) (is : Scheduled c key s) (few : r < 256) (i : ℕ) {k : RoundKey} (some : 1 ≤ i) (most : i ≤ r)
+module _ (c r : ℕ) (key : List ℕ) (s : Schedule) (is : Scheduled c key s) (few : r < 256) (i : ℕ) {k : RoundKey}
     (made : RoundKeyAt s (stands (stepBlock c key) r i) k) where
-  same : stepBlock c key ≡ steps s
+  abbrev g : ℕ
+  g = stepBlock c key
+
+  same : g ≡ steps s
   same = sym (scheduled-steps c key s is)
 
   -- round keys of the definition are counted from 0
-  pub key-stands : k .key .left * 2 ^ 64 + k .key .right ≡ roundKey c r key (i - 1)
+  pub key-stands : 1 ≤ i → k .key .left * 2 ^ 64 + k .key .right ≡ roundKey c r key (i - 1)
   unfolding roundKeyOf
-  key-stands =
+  key-stands some =
       made .key .whole
-      ∙ ap (roundKeyAt s) (ap (λ (g : ℕ). stands g r i) same ∙ stands-at (steps s) r i some)
+      ∙ ap (roundKeyAt s) (ap (λ (n : ℕ). stands n r i) same ∙ stands-at (steps s) r i some)
       ∙ sym (scheduled-key c r key s is (i - 1))
 
-  pub next-stands : k .next ≡ stands (stepBlock c key) r (i + 1)
-  next-stands = made .next ∙ ap (λ (g : ℕ). stepped true g (stands (stepBlock c key) r i)) (sym same) ∙ stands-next (stepBlock c key) r i some
+  pub next-stands : k .next ≡ stands g r (i + 1)
+  next-stands = made .next ∙ ap (λ (n : ℕ). stepped true n (stands g r i)) (sym same) ∙ stands-next g r few i
 
-  pub before-stands : k .before ≡ stands (stepBlock c key) r (i - 1)
-  before-stands = made .before ∙ ap (λ (g : ℕ). stepped false g (stands (stepBlock c key) r i)) (sym same) ∙ stands-before (stepBlock c key) r few i some
+  pub before-stands : 1 ≤ i → k .before ≡ stands g r (i - 1)
+  before-stands some = made .before ∙ ap (λ (n : ℕ). stepped false n (stands g r i)) (sym same) ∙ stands-before g r few i some
 
--- from any register value
-pub before-of-next : (s : Schedule) (reg : ℕ) {k l : RoundKey} → reg < 2 ^ 24 → RoundKeyAt s reg k → RoundKeyAt s (k .next) l → l .before ≡ reg
-before-of-next s reg small k l = l .before ∙ ap (stepped false (steps s)) (k .next) ∙ stepped-back (steps s) reg small
+-- from any register
+module _ (s : Schedule) (reg : ℕ) {k l : RoundKey} (small : reg < 2 ^ 24) (made : RoundKeyAt s reg k) where
+  pub before-of-next : RoundKeyAt s (k .next) l → l .before ≡ reg
+  before-of-next again = again .before ∙ ap (stepped false (steps s)) (made .next) ∙ stepped-back (steps s) reg small
+
+  pub next-of-before : RoundKeyAt s (k .before) l → l .next ≡ reg
+  next-of-before again = again .next ∙ ap (stepped true (steps s)) (made .before) ∙ stepped-on (steps s) reg small

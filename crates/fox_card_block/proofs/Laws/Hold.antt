@@ -100,18 +100,9 @@ module _ (d : Bool) (at : ℕ → ℕ) (g : ℕ) where
       ∙ ap (λ (j : ℕ). roundOn d at g j (roundsOn d at g i (m + n) h)) here
       ∙ ap (λ (k : ℕ). roundsOn d at g i k h) more
 
-  -- n of m rounds, and then the others
-  pub roundsOn-two : (n m : ℕ) (h : Hold) → n ≤ m → roundsOn d at g n (m - n) (roundsOn d at g 0 (n - 0) h) ≡ roundsOn d at g 0 (m - 0) h
-  roundsOn-two n m h le =
-      let here : n ≡ 0 + (n - 0) = omega arith in
-      let all : n - 0 + (m - n) ≡ m - 0 = omega arith in
-      ap (λ (i : ℕ). roundsOn d at g i (m - n) (roundsOn d at g 0 (n - 0) h)) here
-      ∙ roundsOn-cut 0 (n - 0) (m - n) h
-      ∙ ap (λ (k : ℕ). roundsOn d at g 0 k h) all
-
 -- with the round keys at the register's values for m rounds
 module _ (d : Bool) (at : ℕ → ℕ) (g m : ℕ) (x : State) (few : m < 256) where
-  abbrev keys : ℕ → ℕ
+  abbrev pub keys : ℕ → ℕ
   keys i = at (LFSR (i * g) m)
 
   -- a block in hand after i rounds of x
@@ -142,10 +133,16 @@ module _ (d : Bool) (at : ℕ → ℕ) (g m : ℕ) (x : State) (few : m < 256) w
       subst (λ (j : ℕ). Held (suc n) (roundOn d at g j now)) here
       (subst (λ (j : ℕ). Held j (roundOn d at g n now)) next (held-next n now (omega arith) (held-all n h (omega arith) held)))
 
+  -- stopped after n rounds: the register stands where the next round key does, and the state is that of the rounds with the first n round keys
+  pub stopped-on : {reg : ℕ} (n : ℕ) → n ≤ m → RegisterAt g d m 0 reg → let h = roundsOn d at g 0 n (record { state = x; reg = reg }) in
+      RegisterAt g d m n (h .reg) × TurnDone d keys m x n (h .state)
+  stopped-on {reg} n le first =
+      let begun : Held 0 (record { state = x; reg = reg }) = record { stands = first; done = turnDone-none d keys m x } in
+      let held = held-all n (record { state = x; reg = reg }) le begun in
+      (held .stands, held .done)
+
   pub turned-on : {reg : ℕ} → 1 ≤ m → RegisterAt g d m 0 reg
       → roundsOn d at g 0 (m - 0) (record { state = x; reg = reg }) .state ≡ turned d (numbered (λ (i : ℕ). at (LFSR (i * g) m)) m 0) x
   turned-on {reg} some first =
-      let h : Hold = record { state = x; reg = reg } in
-      let begun : Held 0 h = record { stands = first; done = turnDone-none d keys m x } in
       let all : m - 0 ≡ m = omega arith in
-      turnDone-all d keys m x (roundsOn d at g 0 (m - 0) h .state) some all (held-all (m - 0) h (omega arith) begun .done)
+      turnDone-all d keys m x (roundsOn d at g 0 (m - 0) (record { state = x; reg = reg }) .state) some all (stopped-on (m - 0) (omega arith) first .1)

@@ -10,7 +10,7 @@ use native.Mathlib.Omega.{arith}
 use lib.Dec.{eqb}
 use Rattle.fox_layers.specs.Lists.{numbered}
 use Rattle.fox_layers.proofs.Laws.Lists.{numbered-same}
-use Rattle.fox_rounds.specs.Skeleton.{size, turned}
+use Rattle.fox_rounds.specs.Skeleton.{through, size, round, between, place, turned}
 use Rattle.fox_rounds.specs.declared.state.State.{State}
 use Rattle.fox_rounds.proofs.Laws.Undoing.{Fits}
 use Rattle.fox_key_register.specs.Register.{LFSR}
@@ -26,7 +26,7 @@ use Rattle.fox_block.proofs.Laws.States.{state-bytes, state-fits}
 use Rattle.fox_card_block.specs.Hold.{least, roundsOn}
 use Rattle.fox_card_block.specs.Part.{inHand, parted}
 use Rattle.fox_card_block.specs.declared.rounds.Hold.{Hold}
-use Rattle.fox_card_block.proofs.Laws.Hold.{least-below, least-above, least-le, roundsOn-lt, roundsOn-fits, roundsOn-size, roundsOn-cut, turned-on}
+use Rattle.fox_card_block.proofs.Laws.Hold.{least-below, least-above, least-most, least-le, roundsOn-lt, roundsOn-fits, roundsOn-size, roundsOn-cut, stopped-on, turned-on}
 
 module _ (d : Bool) (g r : ℕ) where
   pub inHand-first : (i reg : ℕ) → i ≡ 0 → inHand d g r i reg ≡ stands g r (number d r 0)
@@ -99,17 +99,43 @@ module _ (d : Bool) (c r : ℕ) (key : List ℕ) where
       ∙ roundsOn-cut d at g (least i r) (least j r - least i r) (least k r - least j r) h
       ∙ ap (λ (n : ℕ). roundsOn d at g (least i r) n h) all
 
-  -- all rounds are the block sealed or opened
-  pub parted-all : (reg : ℕ) (block : List ℕ) → 1 ≤ r → r < 256 → parted d c r key 0 r reg block .state ≡ turned d (roundKeys c r key) (state c block)
-  unfolding parted inHand roundKeys
-  parted-all reg block some few =
-      let at = keyAt c key in
-      let g = stepBlock c key in
-      let h : Hold = record { state = state c block; reg = stands g r (number d r 0) } in
-      let first : RegisterAt g d r 0 (stands g r (number d r 0)) = record { here = refl; small = stands-lt g r few (number d r 0) } in
-      let none : least 0 r ≡ 0 = least-below 0 r some in
-      let all : least r r - least 0 r ≡ r - 0 = rw (none, least-above r r (omega arith)) in
-      ap₂ (λ (i n : ℕ). roundsOn d at g i n h .state) none all
-      ∙ turned-on d at g r (state c block) few some first
-      ∙ ap (λ (ks : List ℕ). turned d ks (state c block))
-      (numbered-same (λ (i : ℕ). at (LFSR (i * g) r)) (roundKey c r key) r 0 (λ i below. sym (roundKey-at c r key i)))
+  module _ (reg : ℕ) (block : List ℕ) (some : 1 ≤ r) (few : r < 256) where
+    abbrev g : ℕ
+    g = stepBlock c key
+
+    abbrev begun : Hold
+    begun = record { state = state c block; reg = stands g r (number d r 0) }
+
+    begins : RegisterAt g d r 0 (stands g r (number d r 0))
+    begins = record { here = refl; small = stands-lt g r few (number d r 0) }
+
+    parted-first : (n : ℕ) → parted d c r key 0 n reg block ≡ roundsOn d (keyAt c key) g 0 (least n r) begun
+    unfolding parted inHand
+    parted-first n =
+        let none : least 0 r ≡ 0 = least-below 0 r some in
+        let all : least n r - least 0 r ≡ least n r = rw none (omega arith) in
+        ap₂ (λ (i m : ℕ). roundsOn d (keyAt c key) g i m begun) none all
+
+    -- stopped after n rounds: the register stands where the next round key does, and the state is that of the rounds with the first n round keys
+    pub parted-stopped : (n : ℕ) → let h = parted d c r key 0 n reg block in
+        (h .reg ≡ stands g r (number d r (least n r)))
+        × (h .state ≡ through round (between d) (numbered (λ (j : ℕ). roundKey c r key (place d r j)) (least n r) 0) (state c block))
+    parted-stopped n =
+        let m = least n r in
+        let held = stopped-on d (keyAt c key) g r (state c block) few m (least-most n r) begins in
+        let keys = numbered-same (λ (j : ℕ). keyAt c key (LFSR (place d r j * g) r)) (λ (j : ℕ). roundKey c r key (place d r j)) m 0
+        (λ j below. sym (roundKey-at c r key (place d r j))) in (
+          ap (λ (h : Hold). h .reg) (parted-first n) ∙ held .0 .here,
+          ap (λ (h : Hold). h .state) (parted-first n) ∙ held .1 ∙ ap (λ (ks : List ℕ). through round (between d) ks (state c block)) keys,
+        )
+
+    -- all rounds are the block sealed or opened
+    pub parted-all : parted d c r key 0 r reg block .state ≡ turned d (roundKeys c r key) (state c block)
+    unfolding roundKeys
+    parted-all =
+        let at = keyAt c key in
+        let all : least r r ≡ r - 0 = rw (least-above r r (omega arith)) (omega arith) in
+        ap (λ (h : Hold). h .state) (parted-first r ∙ ap (λ (m : ℕ). roundsOn d at g 0 m begun) all)
+        ∙ turned-on d at g r (state c block) few some begins
+        ∙ ap (λ (ks : List ℕ). turned d ks (state c block))
+        (numbered-same (λ (i : ℕ). at (LFSR (i * g) r)) (roundKey c r key) r 0 (λ i below. sym (roundKey-at c r key i)))

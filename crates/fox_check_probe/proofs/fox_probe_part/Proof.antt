@@ -10,12 +10,12 @@ use Rattle.fox_refusals.specs.Refusals.{Refusal}
 use Rattle.fox_refusals.proofs.Laws.Reply.{handed-reply}
 use Rattle.fox_card_block.specs.Part.{HandsBack}
 use Rattle.fox_card_block.specs.declared.rounds.Hold.{Hold}
-use Rattle.fox_card_block.specs.declared.part.Part.{Part}
-use Rattle.fox_check_probe.specs.Unpacked.{chosen, unpacked}
+use Rattle.fox_card_block.specs.declared.part.PartAnswer.{PartAnswer}
+use Rattle.fox_check_probe.specs.Unpacked.{asksToSeal, unpacked}
 use Rattle.fox_check_probe.proofs.fox_probe_part.Statement.{statement}
 use Rattle.fox_check_probe.proofs.fox_probe_part.Tie as tie
 
-unpacks : {rs : List Refusal} {h : Hold} {before after : List ℕ} (p : Part) → p .reg < 2 ^ 32 → HandsBack rs h before after p
+unpacks : {rs : List Refusal} {h : Hold} {before after : List ℕ} (p : PartAnswer) → p .reg < 2 ^ 32 → HandsBack rs h before after p
     → HandsBack rs h before after (unpacked (p .answer .refusal * 2 ^ 32 + p .reg) (length before))
 unfolding unpacked
 unpacks p small back =
@@ -27,7 +27,7 @@ unpacks p small back =
     }
 
 returns : tie.Need-returns
-unfolding chosen
+unfolding asksToSeal
 returns c = let call = c .before .before .before .before .turn-part in unpacks (call .result) (search needs) (call .ensures)
 
 pub fox-probe-part-spec : {M : Type 1} → statement M

@@ -1,4 +1,4 @@
--- The register stays within 24 bits, and a step back undoes a step. So the register stepped back is the register stepped forward fewer times.
+-- The register stays within 24 bits; a step back undoes a step, and a step undoes a step back. So the register stepped back is the register stepped forward fewer times.
 -- Assumes nothing.
 use mathlib.Core.Path.{_≡_, refl, sym, ap, _∙_}
 use Prim.Native.Nat.{ℕ, zero, suc, _+_, _-_, _*_, _/_, _%_, _^_, _≤_, _<_}
@@ -7,9 +7,9 @@ use native.Mathlib.Numerals.{add-one}
 use native.Mathlib.Omega.{arith}
 use lib.Dec.{ltb, eqb}
 use lib.Bits.{xor-shr, xor-mod, xor-comm, xor-lt, xor-shifted}
-use borrow.Author.Tests.{ltb-true, ltb-false, lt-ltb, le-ltb, eq-eqb, ne-eqb}
+use borrow.Author.Tests.{ltb-true, ltb-false, lt-ltb, le-ltb, eq-eqb, ne-eqb, eqb-true, eqb-false}
 use Rattle.fox_layers.specs.Words.{_⊕_, joined}
-use Rattle.fox_layers.proofs.Laws.Xor.{xor-assoc}
+use Rattle.fox_layers.proofs.Laws.Xor.{xor-assoc, xor-cancel-right}
 use Rattle.fox_layers.proofs.Laws.Lists.{by-test}
 use Rattle.fox_key_register.specs.Register.{seed, clocked, clockedBack, iterate, LFSR}
 
@@ -79,6 +79,26 @@ back-clocked x h =
     let moved : x * 2 - 2 ^ 24 ≡ (x - 2 ^ 23) * 2 = omega arith in
     rw (clocked-above x above, moved) (back-above x (x - 2 ^ 23) (omega arith) (omega arith)))
 
+-- An odd register has z as its half: a step back gives z ⊕ 80000D, which is 2 ^ 23 + (z ⊕ 0D). A step on from there gives (z ⊕ 0D) * 2 ⊕ 1B, which is odd and has
+-- z as its half again.
+on-odd : (x z : ℕ) → x ≡ z * 2 + 1 → z < 2 ^ 23 → clocked (z ⊕ 0x80000D) ≡ x
+on-odd x z e h =
+    let small : (z ⊕ 0xD) < 2 ^ 23 = xor-lt 23 z 0xD h (omega arith) in
+    let y : z ⊕ 0x80000D ≡ 0x800000 + (z ⊕ 0xD) = sym (xor-assoc z 0xD 0x800000) ∙ with-top 23 0x800000 (z ⊕ 0xD) refl small in
+    let above : 2 ^ 23 ≤ z ⊕ 0x80000D = rw y (omega arith) in
+    let moved : (z ⊕ 0x80000D) * 2 - 2 ^ 24 ≡ (z ⊕ 0xD) * 2 = rw y (omega arith) in
+    let odd = odd-after (z ⊕ 0xD) in
+    let half = half-after (z ⊕ 0xD) ∙ xor-cancel-right z 0xD in
+    rw (clocked-above (z ⊕ 0x80000D) above, moved) (omega (arith, odd, half, e))
+
+on-even : (x : ℕ) → x % 2 ≡ 0 → x < 2 ^ 24 → clocked (clockedBack x) ≡ x
+on-even x even h = rw (clockedBack-even x even, clocked-below (x / 2) (omega arith)) (omega arith)
+
+pub clocked-back : (x : ℕ) → x < 2 ^ 24 → clocked (clockedBack x) ≡ x
+clocked-back x h =
+    by-test (eqb (x % 2) 0) (λ t. on-even x (eqb-true (x % 2) 0 t) h)
+    (λ t. rw (clockedBack-odd x (eqb-false (x % 2) 0 t)) (on-odd x (x / 2) (omega (arith, eqb-false (x % 2) 0 t)) (omega arith)))
+
 -- one step more, taken last or first
 pub iterate-suc : {A : Type 0} (n : ℕ) (f : A → A) (x : A) → iterate (n + 1) f x ≡ f (iterate n f x)
 unfolding iterate
@@ -106,12 +126,21 @@ iterate-lt n x h = iterate-keeps (λ (y : ℕ). y < 2 ^ 24) clocked clocked-lt n
 pub back-lt : (n x : ℕ) → x < 2 ^ 24 → iterate n clockedBack x < 2 ^ 24
 back-lt n x h = iterate-keeps (λ (y : ℕ). y < 2 ^ 24) clockedBack clockedBack-lt n x h
 
-pub back-iterate : (n x : ℕ) → x < 2 ^ 24 → iterate n clockedBack (iterate n clocked x) ≡ x
+-- where one step undoes another on registers, n of them undo n
+undo-iterate : (f g : ℕ → ℕ) → ((x : ℕ) → x < 2 ^ 24 → f x < 2 ^ 24) → ((x : ℕ) → x < 2 ^ 24 → g (f x) ≡ x) → (n x : ℕ) → x < 2 ^ 24
+    → iterate n g (iterate n f x) ≡ x
 unfolding iterate
-back-iterate zero x h = refl
-back-iterate (suc n) x h =
-    let y = iterate n clocked x in
-    cc (iterate-first n clockedBack (clocked y), back-clocked y (iterate-lt n x h), back-iterate n x h)
+undo-iterate f g keeps undoes zero x h = refl
+undo-iterate f g keeps undoes (suc n) x h =
+    let y = iterate n f x in
+    let small = iterate-keeps (λ (z : ℕ). z < 2 ^ 24) f keeps n x h in
+    cc (iterate-first n g (f y), undoes y small, undo-iterate f g keeps undoes n x h)
+
+pub back-iterate : (n x : ℕ) → x < 2 ^ 24 → iterate n clockedBack (iterate n clocked x) ≡ x
+back-iterate n x h = undo-iterate clocked clockedBack clocked-lt back-clocked n x h
+
+pub on-iterate : (n x : ℕ) → x < 2 ^ 24 → iterate n clocked (iterate n clockedBack x) ≡ x
+on-iterate n x h = undo-iterate clockedBack clocked clockedBack-lt clocked-back n x h
 
 pub seed-lt : (r : ℕ) → r < 256 → seed r < 2 ^ 24
 unfolding seed joined

@@ -8,7 +8,7 @@ use native.Mathlib.Nat.{zero-mul, add-mul, one-mul, mul-le-mul-left, not-suc-le-
 use native.Mathlib.Omega.{arith}
 use lib.Dec.{lit≤}
 use Rattle.fox_key_register.specs.Register.{seed, clocked, clockedBack, iterate, LFSR}
-use Rattle.fox_key_register.proofs.Laws.Register.{iterate-lt, back-lt, back-iterate, seed-lt, LFSR-lt, LFSR-forward, LFSR-back}
+use Rattle.fox_key_register.proofs.Laws.Register.{iterate-lt, back-lt, back-iterate, on-iterate, seed-lt, LFSR-lt, LFSR-forward, LFSR-back}
 use Rattle.fox_rounds.specs.Skeleton.{place}
 use Rattle.fox_key_schedule.specs.Step.{steps, stepped, RoundKeyAt, onward, stands, number, RegisterAt}
 use Rattle.fox_key_schedule.specs.declared.schedule.RoundKey.{RoundKey}
@@ -38,6 +38,11 @@ pub stepped-back : (n reg : ℕ) → reg < 2 ^ 24 → stepped false n (stepped t
 unfolding stepped
 stepped-back n reg h = back-iterate n reg h
 
+-- and the other way about
+pub stepped-on : (n reg : ℕ) → reg < 2 ^ 24 → stepped true n (stepped false n reg) ≡ reg
+unfolding stepped
+stepped-on n reg h = on-iterate n reg h
+
 -- the register that a round key hands on
 pub onward-stepped : (d : Bool) {s : Schedule} {reg : ℕ} {k : RoundKey} → RoundKeyAt s reg k → onward d k ≡ stepped d (steps s) reg
 unfolding onward
@@ -60,9 +65,9 @@ module _ (g r : ℕ) where
       let here : i ≡ suc i - 1 = omega arith in
       ap (λ (n : ℕ). LFSR (n * g) r) here
 
-  pub stands-next : (i : ℕ) → 1 ≤ i → stepped true g (stands g r i) ≡ stands g r (i + 1)
+  next-inside : (i : ℕ) → 1 ≤ i → stepped true g (stands g r i) ≡ stands g r (i + 1)
   unfolding stepped
-  stands-next i some =
+  next-inside i some =
       let same : i - 1 + 1 ≡ i + 1 - 1 = omega arith in
       ap (iterate g clocked) (stands-at i some)
       ∙ LFSR-forward ((i - 1) * g) g r
@@ -70,6 +75,14 @@ module _ (g r : ℕ) where
       ∙ sym (stands-at (i + 1) (omega arith))
 
   module _ (few : r < 256) where
+    -- from the place before the first round key too
+    pub stands-next : (i : ℕ) → stepped true g (stands g r i) ≡ stands g r (i + 1)
+    unfolding stands
+    stands-next zero =
+        let one : 1 ≡ zero + 1 = omega arith in
+        stepped-on g (seed r) (seed-lt r few) ∙ sym stands-first ∙ ap (stands g r) one
+    stands-next (suc i) = next-inside (suc i) (omega arith)
+
     pub stands-before : (i : ℕ) → 1 ≤ i → stepped false g (stands g r i) ≡ stands g r (i - 1)
     unfolding stands stepped
     stands-before zero some = absurd (not-suc-le-zero some)
@@ -92,7 +105,7 @@ module _ (g r : ℕ) where
     registerAt-next true i h at =
         let same : suc i + 1 ≡ suc (i + 1) = omega arith in
         record {
-          here = ap (stepped true g) (at .here) ∙ stands-next (suc i) (omega arith) ∙ ap (stands g r) same;
+          here = ap (stepped true g) (at .here) ∙ stands-next (suc i) ∙ ap (stands g r) same;
           small = stepped-lt true g _ (at .small);
         }
     registerAt-next false i h at =
