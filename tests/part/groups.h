@@ -6,6 +6,10 @@
 void two_calls(void);
 void two_calls_of_most_rounds(void);
 
+/* in_two.c: both parts by one call, with the state in a room of the caller's. */
+void in_two(void);
+void in_two_refused(void);
+
 /* cuts.c: one round at a time, and cuts by chance. */
 void single_rounds(void);
 void cuts(void);

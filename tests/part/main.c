@@ -23,9 +23,10 @@ static void every_answer(void)
 int main(int count, char **words)
 {
     static void (*const groups[])(void) = {
-        two_calls,    two_calls_of_most_rounds, single_rounds,  cuts,      interrupted,     other_processes,
-        steps_of_rounds, steps_undone,          any_register,   high_registers, no_rounds,  past_rounds,
-        sealing_numbers, any_numbers,           refusals,       limits,    large_lengths,   every_answer,
+        two_calls,       two_calls_of_most_rounds, in_two,         in_two_refused, single_rounds,
+        cuts,            interrupted,              other_processes, steps_of_rounds, steps_undone,
+        any_register,    high_registers,           no_rounds,      past_rounds,    sealing_numbers,
+        any_numbers,     refusals,                 limits,         large_lengths,  every_answer,
     };
     if (count > 2) {
         fprintf(stderr, "usage: part [SEED]\n");
