@@ -5,7 +5,7 @@ use mathlib.Core.Bool.{Bool, cond}
 use lib.Dec.{ltb}
 use Rattle.fox_rounds.specs.Skeleton.{round, between}
 use Rattle.fox_rounds.specs.declared.state.State.{State}
-use Rattle.fox_key_schedule.specs.Step.{stepped}
+use Rattle.fox_key_register.specs.Register.{stepped}
 use Rattle.fox_card_block.specs.declared.rounds.Hold.{Hold}
 
 -- the smaller of two numbers

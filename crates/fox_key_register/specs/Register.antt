@@ -2,7 +2,7 @@
 -- Assumes nothing.
 use Prim.Native.Nat.{ℕ, zero, suc, _-_, _*_, _/_, _%_, _^_}
 use mathlib.Core.List.{[], _∷_}
-use mathlib.Core.Bool.{cond}
+use mathlib.Core.Bool.{Bool, true, false, cond}
 use lib.Dec.{ltb, eqb}
 use Rattle.fox_layers.specs.Words.{_⊕_, joined}
 
@@ -25,3 +25,12 @@ iterate (suc n) f x = f (iterate n f x)
 -- §2.3.9: LFSR (c, r): the seed for r rounds after c steps
 unfoldable pub LFSR : ℕ → ℕ → ℕ
 LFSR c r = iterate c clocked (seed r)
+
+-- one step on, or back
+unfoldable pub step : Bool → ℕ → ℕ
+step true = clocked
+step false = clockedBack
+
+-- the register n steps on, or n steps back
+unfoldable pub stepped : Bool → ℕ → ℕ → ℕ
+stepped on n reg = iterate n (step on) reg

@@ -1,7 +1,7 @@
 // The register of 24 bits (001 §2.3.9): its first value, and its steps forward and back.
 ghost use mathlib.Core.Path.{_≡_};
 ghost use Prim.Native.Nat.{_<_, _^_};
-ghost use Rattle.fox_key_register.specs.Register.{seed, clocked, clockedBack, iterate};
+ghost use Rattle.fox_key_register.specs.Register.{seed, clocked, clockedBack, step, stepped};
 use fox_layers::words::join4;
 
 // The register's first value.
@@ -35,24 +35,25 @@ pub fn clocked_back(reg: u32) -> u32
     }
 }
 
-pub fn forward(reg: u32, steps: u32) -> u32
+// One step on, or back.
+fn step(on: bool, reg: u32) -> u32
     requires { ⌜ reg < 2 ^ 24 ⌝ }
-    ensures { λ r. ⌜ (r ≡ iterate steps clocked reg) × (r < 2 ^ 24) ⌝ }
+    ensures { λ r. ⌜ (r ≡ step on reg) × (r < 2 ^ 24) ⌝ }
+{
+    if on {
+        return clocked(reg);
+    }
+    clocked_back(reg)
+}
+
+// So many steps on, or back.
+pub fn stepped(on: bool, reg: u32, steps: u32) -> u32
+    requires { ⌜ reg < 2 ^ 24 ⌝ }
+    ensures { λ r. ⌜ (r ≡ stepped on steps reg) × (r < 2 ^ 24) ⌝ }
 {
     let mut now = reg;
     for done in 0..steps {
-        now = clocked(now);
-    }
-    now
-}
-
-pub fn back(reg: u32, steps: u32) -> u32
-    requires { ⌜ reg < 2 ^ 24 ⌝ }
-    ensures { λ r. ⌜ (r ≡ iterate steps clockedBack reg) × (r < 2 ^ 24) ⌝ }
-{
-    let mut now = reg;
-    for undone in 0..steps {
-        now = clocked_back(now);
+        now = step(on, now);
     }
     now
 }

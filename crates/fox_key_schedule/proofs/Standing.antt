@@ -6,11 +6,13 @@ use mathlib.Core.Path.{_≡_, sym, ap, _∙_}
 use mathlib.Core.Bool.{true, false}
 use mathlib.Core.List.{List}
 use Prim.Native.Nat.{ℕ, _+_, _-_, _*_, _^_, _<_, _≤_}
+use Rattle.fox_key_register.specs.Register.{stepped}
+use Rattle.fox_key_register.proofs.Laws.Register.{stepped-undone}
 use Rattle.fox_key_schedule.specs.Schedule.{roundKey, stepBlock}
-use Rattle.fox_key_schedule.specs.Step.{Scheduled, steps, stepped, roundKeyAt, roundKeyOf, RoundKeyAt, stands}
+use Rattle.fox_key_schedule.specs.Step.{Scheduled, steps, roundKeyAt, roundKeyOf, RoundKeyAt, stands}
 use Rattle.fox_key_schedule.specs.declared.schedule.RoundKey.{RoundKey}
 use Rattle.fox_key_schedule.specs.declared.schedule.Schedule.{Schedule}
-use Rattle.fox_key_schedule.proofs.Laws.RegisterAt.{stepped-back, stepped-on, stands-at, stands-next, stands-before}
+use Rattle.fox_key_schedule.proofs.Laws.RegisterAt.{stands-at, stands-next, stands-before}
 use Rattle.fox_key_schedule.proofs.Laws.Schedules.{scheduled-key, scheduled-steps}
 
 -- by the schedule of a key, for r rounds
@@ -39,7 +41,7 @@ module _ (c r : ℕ) (key : List ℕ) (s : Schedule) (is : Scheduled c key s) (f
 -- from any register
 module _ (s : Schedule) (reg : ℕ) {k l : RoundKey} (small : reg < 2 ^ 24) (made : RoundKeyAt s reg k) where
   pub before-of-next : RoundKeyAt s (k .next) l → l .before ≡ reg
-  before-of-next again = again .before ∙ ap (stepped false (steps s)) (made .next) ∙ stepped-back (steps s) reg small
+  before-of-next again = again .before ∙ ap (stepped false (steps s)) (made .next) ∙ stepped-undone true (steps s) reg small
 
   pub next-of-before : RoundKeyAt s (k .before) l → l .next ≡ reg
-  next-of-before again = again .next ∙ ap (stepped true (steps s)) (made .before) ∙ stepped-on (steps s) reg small
+  next-of-before again = again .next ∙ ap (stepped true (steps s)) (made .before) ∙ stepped-undone false (steps s) reg small

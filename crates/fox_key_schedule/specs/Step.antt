@@ -8,7 +8,7 @@ use lib.Dec.{eqb}
 use lib.ListN.{length}
 use Rattle.fox_layers.specs.Lists.{numbered}
 use Rattle.fox_key_mixing.specs.Padding.{mkey}
-use Rattle.fox_key_register.specs.Register.{seed, LFSR, clocked, clockedBack, iterate}
+use Rattle.fox_key_register.specs.Register.{seed, LFSR, stepped}
 use Rattle.fox_key_mixing.specs.Diversification.{dkey}
 use Rattle.fox_key_mixing.specs.KeyBytes.{bytes16, bytes32}
 use Rattle.fox_key_nonlinear.specs.Nonlinear.{NL64, NL64h, NL128}
@@ -38,11 +38,6 @@ unfoldable pub steps : Schedule → ℕ
 steps (Ks64 m flip) = 6
 steps (Ks64h m flip) = 11
 steps (Ks128 m flip) = 11
-
--- the register n steps on, or n steps back
-unfoldable pub stepped : Bool → ℕ → ℕ → ℕ
-stepped true n reg = iterate n clocked reg
-stepped false n reg = iterate n clockedBack reg
 
 -- what making the round key at the register value reg hands back, whole: the key, and the register one step block on and one step block back
 pub record RoundKeyAt (s : Schedule) (reg : ℕ) (k : RoundKey) : Type 0 where

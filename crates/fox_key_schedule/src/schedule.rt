@@ -3,7 +3,8 @@
 ghost use mathlib.Core.Path.{_≡_};
 ghost use Prim.Native.Nat.{_*_, _^_, _<_, _≤_};
 ghost use lib.ListN.{length};
-ghost use Rattle.fox_key_schedule.specs.Step.{KeyAt, RoundKeyAt, onward, steps, stepped, Scheduled, RegisterAt};
+ghost use Rattle.fox_key_register.specs.Register.{stepped};
+ghost use Rattle.fox_key_schedule.specs.Step.{KeyAt, RoundKeyAt, onward, steps, Scheduled, RegisterAt};
 use fox_key_mixing::diversification::dkey16;
 use fox_key_mixing::diversification::dkey32;
 use fox_key_mixing::key_bytes::Key16;
@@ -14,9 +15,8 @@ use fox_key_nonlinear::nl64::nl64;
 use fox_key_nonlinear::nl64h::nl64h;
 use fox_key_nonlinear::nl128::Key128;
 use fox_key_nonlinear::nl128::nl128;
-use fox_key_register::register::back;
-use fox_key_register::register::forward;
 use fox_key_register::register::seed;
+use fox_key_register::register::stepped;
 use fox_rounds::fox64::Fox64;
 use fox_rounds::fox128::Fox128;
 
@@ -77,11 +77,7 @@ impl Schedule {
         requires { ⌜ reg < 2 ^ 24 ⌝ }
         ensures { λ r. ⌜ (r ≡ stepped on (blocks * steps self) reg) × (r < 2 ^ 24) ⌝ }
     {
-        let steps = (blocks as u32) * self.steps();
-        if on {
-            return forward(reg, steps);
-        }
-        back(reg, steps)
+        stepped(on, reg, (blocks as u32) * self.steps())
     }
 
     // The round key's words at the register value reg; for FOX64 it is the right word, and the left word is 0.

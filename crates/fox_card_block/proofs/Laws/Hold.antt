@@ -13,8 +13,9 @@ use Rattle.fox_rounds.specs.declared.state.State.{State}
 use Rattle.fox_rounds.proofs.Laws.Skeleton.{TurnDone, turnDone-none, turnDone-one, turnDone-more, turnDone-all}
 use Rattle.fox_rounds.proofs.Laws.Undoing.{Fits, round-fits, between-fits}
 use Rattle.fox_key_register.specs.Register.{LFSR}
-use Rattle.fox_key_schedule.specs.Step.{stepped, RegisterAt}
-use Rattle.fox_key_schedule.proofs.Laws.RegisterAt.{stepped-lt, registerAt-next, registerAt-place}
+use Rattle.fox_key_register.proofs.Laws.Register.{stepped-lt}
+use Rattle.fox_key_schedule.specs.Step.{RegisterAt}
+use Rattle.fox_key_schedule.proofs.Laws.RegisterAt.{registerAt-next, registerAt-place}
 use Rattle.fox_block.proofs.Laws.Block.{round-size, between-size}
 use Rattle.fox_card_block.specs.Hold.{least, led, roundOn, roundsOn}
 use Rattle.fox_card_block.specs.declared.rounds.Hold.{Hold}

@@ -1,6 +1,7 @@
 -- The register stays within 24 bits; a step back undoes a step, and a step undoes a step back. So the register stepped back is the register stepped forward fewer times.
 -- Assumes nothing.
 use mathlib.Core.Path.{_≡_, refl, sym, ap, _∙_}
+use mathlib.Core.Bool.{Bool, true, false, not}
 use Prim.Native.Nat.{ℕ, zero, suc, _+_, _-_, _*_, _/_, _%_, _^_, _≤_, _<_}
 use native.Mathlib.Nat.{zero-add, suc-add, add-comm, one-mul}
 use native.Mathlib.Numerals.{add-one}
@@ -11,7 +12,7 @@ use borrow.Author.Tests.{ltb-true, ltb-false, lt-ltb, le-ltb, eq-eqb, ne-eqb, eq
 use Rattle.fox_layers.specs.Words.{_⊕_, joined}
 use Rattle.fox_layers.proofs.Laws.Xor.{xor-assoc, xor-cancel-right}
 use Rattle.fox_layers.proofs.Laws.Lists.{by-test}
-use Rattle.fox_key_register.specs.Register.{seed, clocked, clockedBack, iterate, LFSR}
+use Rattle.fox_key_register.specs.Register.{seed, clocked, clockedBack, iterate, LFSR, step, stepped}
 
 -- the four branches of the two steps
 pub clocked-below : (x : ℕ) → x < 2 ^ 23 → clocked x ≡ x * 2
@@ -120,39 +121,41 @@ unfolding iterate
 iterate-keeps P f keeps zero x h = h
 iterate-keeps P f keeps (suc n) x h = keeps (iterate n f x) (iterate-keeps P f keeps n x h)
 
-pub iterate-lt : (n x : ℕ) → x < 2 ^ 24 → iterate n clocked x < 2 ^ 24
-iterate-lt n x h = iterate-keeps (λ (y : ℕ). y < 2 ^ 24) clocked clocked-lt n x h
+-- a step on or back keeps within 24 bits, and the other undoes it
+pub step-lt : (on : Bool) (x : ℕ) → x < 2 ^ 24 → step on x < 2 ^ 24
+unfolding step
+step-lt true x h = clocked-lt x h
+step-lt false x h = clockedBack-lt x h
 
-pub back-lt : (n x : ℕ) → x < 2 ^ 24 → iterate n clockedBack x < 2 ^ 24
-back-lt n x h = iterate-keeps (λ (y : ℕ). y < 2 ^ 24) clockedBack clockedBack-lt n x h
+pub step-undone : (on : Bool) (x : ℕ) → x < 2 ^ 24 → step (not on) (step on x) ≡ x
+unfolding step
+step-undone true x h = back-clocked x h
+step-undone false x h = clocked-back x h
 
--- where one step undoes another on registers, n of them undo n
-undo-iterate : (f g : ℕ → ℕ) → ((x : ℕ) → x < 2 ^ 24 → f x < 2 ^ 24) → ((x : ℕ) → x < 2 ^ 24 → g (f x) ≡ x) → (n x : ℕ) → x < 2 ^ 24
-    → iterate n g (iterate n f x) ≡ x
-unfolding iterate
-undo-iterate f g keeps undoes zero x h = refl
-undo-iterate f g keeps undoes (suc n) x h =
-    let y = iterate n f x in
-    let small = iterate-keeps (λ (z : ℕ). z < 2 ^ 24) f keeps n x h in
-    cc (iterate-first n g (f y), undoes y small, undo-iterate f g keeps undoes n x h)
+-- and so n steps
+pub stepped-lt : (on : Bool) (n x : ℕ) → x < 2 ^ 24 → stepped on n x < 2 ^ 24
+unfolding stepped
+stepped-lt on n x h = iterate-keeps (λ (y : ℕ). y < 2 ^ 24) (step on) (step-lt on) n x h
 
-pub back-iterate : (n x : ℕ) → x < 2 ^ 24 → iterate n clockedBack (iterate n clocked x) ≡ x
-back-iterate n x h = undo-iterate clocked clockedBack clocked-lt back-clocked n x h
-
-pub on-iterate : (n x : ℕ) → x < 2 ^ 24 → iterate n clocked (iterate n clockedBack x) ≡ x
-on-iterate n x h = undo-iterate clockedBack clocked clockedBack-lt clocked-back n x h
+pub stepped-undone : (on : Bool) (n x : ℕ) → x < 2 ^ 24 → stepped (not on) n (stepped on n x) ≡ x
+unfolding stepped iterate
+stepped-undone on zero x h = refl
+stepped-undone on (suc n) x h =
+    let y = iterate n (step on) x in
+    cc (iterate-first n (step (not on)) (step on y), step-undone on y (stepped-lt on n x h), stepped-undone on n x h)
 
 pub seed-lt : (r : ℕ) → r < 256 → seed r < 2 ^ 24
 unfolding seed joined
 seed-lt r h = omega (arith, xor-lt 8 r 0xFF h (omega arith))
 
 pub LFSR-lt : (c r : ℕ) → r < 256 → LFSR c r < 2 ^ 24
-unfolding LFSR
-LFSR-lt c r h = iterate-lt c (seed r) (seed-lt r h)
+unfolding LFSR stepped step
+LFSR-lt c r h = stepped-lt true c (seed r) (seed-lt r h)
 
-pub LFSR-forward : (m n r : ℕ) → iterate n clocked (LFSR m r) ≡ LFSR (m + n) r
-unfolding LFSR
-LFSR-forward m n r = cc (iterate-add n m clocked (seed r), add-comm n m)
+-- the register of 001 n steps on, and n steps back
+pub LFSR-on : (m n r : ℕ) → stepped true n (LFSR m r) ≡ LFSR (m + n) r
+unfolding LFSR stepped step
+LFSR-on m n r = cc (iterate-add n m clocked (seed r), add-comm n m)
 
-pub LFSR-back : (m n r : ℕ) → r < 256 → iterate n clockedBack (LFSR (m + n) r) ≡ LFSR m r
-LFSR-back m n r h = rw (← (LFSR-forward m n r)) (back-iterate n (LFSR m r) (LFSR-lt m r h))
+pub LFSR-back : (m n r : ℕ) → r < 256 → stepped false n (LFSR (m + n) r) ≡ LFSR m r
+LFSR-back m n r h = rw (← (LFSR-on m n r)) (stepped-undone true n (LFSR m r) (LFSR-lt m r h))

@@ -7,10 +7,10 @@ use Prim.Native.Nat.{ℕ, zero, suc, _+_, _-_, _*_, _^_, _<_, _≤_}
 use native.Mathlib.Nat.{zero-mul, add-mul, one-mul, mul-le-mul-left, not-suc-le-zero}
 use native.Mathlib.Omega.{arith}
 use lib.Dec.{lit≤}
-use Rattle.fox_key_register.specs.Register.{seed, clocked, clockedBack, iterate, LFSR}
-use Rattle.fox_key_register.proofs.Laws.Register.{iterate-lt, back-lt, back-iterate, on-iterate, seed-lt, LFSR-lt, LFSR-forward, LFSR-back}
+use Rattle.fox_key_register.specs.Register.{seed, clocked, iterate, LFSR, step, stepped}
+use Rattle.fox_key_register.proofs.Laws.Register.{seed-lt, LFSR-lt, LFSR-on, LFSR-back, stepped-lt, stepped-undone}
 use Rattle.fox_rounds.specs.Skeleton.{place}
-use Rattle.fox_key_schedule.specs.Step.{steps, stepped, RoundKeyAt, onward, stands, number, RegisterAt}
+use Rattle.fox_key_schedule.specs.Step.{steps, RoundKeyAt, onward, stands, number, RegisterAt}
 use Rattle.fox_key_schedule.specs.declared.schedule.RoundKey.{RoundKey}
 use Rattle.fox_key_schedule.specs.declared.schedule.Schedule.{Schedule}
 use Rattle.fox_key_schedule.specs.declared.schedule.Schedule.the-variants.{Ks64, Ks64h, Ks128}
@@ -27,21 +27,6 @@ few-steps n s {k} h e =
     let bound : k ≤ 11 = rw e (steps-few s) in
     let most : n * k ≤ n * 11 = mul-le-mul-left n bound in
     omega arith
-
-pub stepped-lt : (d : Bool) (n reg : ℕ) → reg < 2 ^ 24 → stepped d n reg < 2 ^ 24
-unfolding stepped
-stepped-lt true n reg h = iterate-lt n reg h
-stepped-lt false n reg h = back-lt n reg h
-
--- n steps back undo n steps on
-pub stepped-back : (n reg : ℕ) → reg < 2 ^ 24 → stepped false n (stepped true n reg) ≡ reg
-unfolding stepped
-stepped-back n reg h = back-iterate n reg h
-
--- and the other way about
-pub stepped-on : (n reg : ℕ) → reg < 2 ^ 24 → stepped true n (stepped false n reg) ≡ reg
-unfolding stepped
-stepped-on n reg h = on-iterate n reg h
 
 -- the register that a round key hands on
 pub onward-stepped : (d : Bool) {s : Schedule} {reg : ℕ} {k : RoundKey} → RoundKeyAt s reg k → onward d k ≡ stepped d (steps s) reg
@@ -66,11 +51,10 @@ module _ (g r : ℕ) where
       ap (λ (n : ℕ). LFSR (n * g) r) here
 
   next-inside : (i : ℕ) → 1 ≤ i → stepped true g (stands g r i) ≡ stands g r (i + 1)
-  unfolding stepped
   next-inside i some =
       let same : i - 1 + 1 ≡ i + 1 - 1 = omega arith in
-      ap (iterate g clocked) (stands-at i some)
-      ∙ LFSR-forward ((i - 1) * g) g r
+      ap (stepped true g) (stands-at i some)
+      ∙ LFSR-on ((i - 1) * g) g r
       ∙ ap (λ (n : ℕ). LFSR n r) (one-more (i - 1) g ∙ ap (λ (n : ℕ). n * g) same)
       ∙ sym (stands-at (i + 1) (omega arith))
 
@@ -80,17 +64,17 @@ module _ (g r : ℕ) where
     unfolding stands
     stands-next zero =
         let one : 1 ≡ zero + 1 = omega arith in
-        stepped-on g (seed r) (seed-lt r few) ∙ sym stands-first ∙ ap (stands g r) one
+        stepped-undone false g (seed r) (seed-lt r few) ∙ sym stands-first ∙ ap (stands g r) one
     stands-next (suc i) = next-inside (suc i) (omega arith)
 
     pub stands-before : (i : ℕ) → 1 ≤ i → stepped false g (stands g r i) ≡ stands g r (i - 1)
-    unfolding stands stepped
+    unfolding stands
     stands-before zero some = absurd (not-suc-le-zero some)
-    stands-before (suc zero) some = ap (iterate g clockedBack) stands-first
+    stands-before (suc zero) some = ap (stepped false g) stands-first
     stands-before (suc (suc i)) some =
         let next : suc i ≡ i + 1 = omega arith in
         let here : suc i ≡ suc (suc i) - 1 = omega arith in
-        ap (λ (n : ℕ). iterate g clockedBack (LFSR n r)) (ap (λ (n : ℕ). n * g) next ∙ sym (one-more i g))
+        ap (λ (n : ℕ). stepped false g (LFSR n r)) (ap (λ (n : ℕ). n * g) next ∙ sym (one-more i g))
         ∙ LFSR-back (i * g) g r few
         ∙ ap (stands g r) here
 
@@ -122,7 +106,7 @@ module _ (g r : ℕ) where
 
   -- and that of opening the one for the last round key
   pub registerAt-last : {reg to : ℕ} → 1 ≤ r → reg ≡ seed r → to ≡ stepped true ((r - 1) * g) reg → to < 2 ^ 24 → RegisterAt g false r 0 to
-  unfolding number stepped LFSR
+  unfolding number stepped step LFSR
   registerAt-last some at moved h =
       let all : r ≡ r - 0 = omega arith in
       record { here = moved ∙ ap (iterate ((r - 1) * g) clocked) at ∙ sym (stands-at r some) ∙ ap (stands g r) all; small = h }

@@ -5,7 +5,8 @@ use mathlib.Core.Path.{ap, _∙_}
 use mathlib.Core.Bool.{true, false}
 use Prim.Native.Nat.{ℕ}
 use native.Mathlib.Nat.{one-mul}
-use Rattle.fox_key_schedule.specs.Step.{steps, stepped}
+use Rattle.fox_key_register.specs.Register.{stepped}
+use Rattle.fox_key_schedule.specs.Step.{steps}
 use Rattle.fox_key_schedule.proofs.schedule.Schedule.round_key.Statement.{statement}
 use Rattle.fox_key_schedule.proofs.schedule.Schedule.round_key.Tie as tie
 
