@@ -24,11 +24,6 @@ static void other_block(void)
     other.refusals |= fox_card_open_block(s->cipher, s->rounds, s->key, s->key_len, other.sealed, b, other.opened, b);
 }
 
-static uint32_t some_cipher(void)
-{
-    return below(2) == 0 ? FOX64 : FOX128;
-}
-
 /* Any other, or one that has the same cipher, rounds and length of key as the block that is interrupted. */
 static struct setting another(const struct setting *s)
 {

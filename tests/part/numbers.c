@@ -17,10 +17,10 @@ static struct kept stopped(const struct setting *s)
     return k;
 }
 
-/* Goes on from what is kept, with two numbers in the place of two others. */
-static struct kept gone_on(const struct setting *s, struct kept k, uint32_t from, uint32_t until, uint32_t reg)
+/* Goes on from what is kept, with another register. */
+static struct kept gone_on(const struct setting *s, struct kept k, uint32_t until, uint32_t reg)
 {
-    k.done = from, k.reg = reg;
+    k.reg = reg;
     go_on(s, &k, until);
     return k;
 }
@@ -41,8 +41,8 @@ void high_registers(void)
         const uint32_t untils[] = {0, k.done, k.done + 1, k.done + 2, s.rounds, UINT32_MAX};
         for (uint32_t high = 0; high < 256; high++) {
             const uint32_t until = untils[high % COUNT(untils)];
-            const struct kept found = gone_on(&s, k, k.done, until, high << 24 | k.reg);
-            const struct kept right = gone_on(&s, k, k.done, until, k.reg);
+            const struct kept found = gone_on(&s, k, until, high << 24 | k.reg);
+            const struct kept right = gone_on(&s, k, until, k.reg);
             same_kept(&s, &found, &right, "bits above the 24th change what is handed back");
         }
     }
@@ -55,9 +55,9 @@ static void nothing_done(const struct setting *s, const struct second_stops *sto
 {
     struct kept k = begun(s);
     k.done = from;
-    const struct kept right = gone_on(s, k, from, until, k.reg);
+    const struct kept found = gone_on(s, k, until, k.reg);
     k.reg = from == 0 ? stops->reg[0] : k.reg & 0xFFFFFF;
-    same_kept(s, &right, &k, "a part of no rounds changes something");
+    same_kept(s, &found, &k, "a part of no rounds changes something");
 }
 
 void no_rounds(void)
@@ -96,7 +96,7 @@ void past_rounds(void)
             struct kept k = {.done = from, .reg = stops->reg[from]};
             memcpy(k.state, stops->state[from], s.block_len);
             for (size_t j = 0; j < COUNT(untils); j++) {
-                const struct kept found = gone_on(&s, k, from, untils[j], k.reg);
+                const struct kept found = gone_on(&s, k, untils[j], k.reg);
                 same_stop(&s, &found, stops, s.rounds);
             }
         }
@@ -127,7 +127,7 @@ void any_numbers(void)
     enum { TIMES = 2000 };
     group_begin("any state, register and rounds by chance");
     for (uint32_t i = 0; i < TIMES; i++) {
-        const struct setting s = some_setting((uint32_t)below(2), below(2) == 0 ? FOX64 : FOX128);
+        const struct setting s = some_setting((uint32_t)below(2), some_cipher());
         const uint32_t near = (uint32_t)below(s.rounds + 2), froms[] = {0, 1, near, near, (uint32_t)any_number()};
         struct kept k = begun(&s);
         k.done = ONE_OF(froms);

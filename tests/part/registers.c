@@ -73,11 +73,11 @@ static void each_step(const struct setting *s)
 
 void steps_of_rounds(void)
 {
-    group_begin("the register of each round, from its beginning past its end: keys of 0 to 32 bytes, 12 to 255 rounds");
+    group_begin("the register of each round, from its beginning past its end: keys of 0 to 32 bytes, 12 to 17 rounds and 255");
     for (uint32_t i = 0; i < 4 * (FOX_MOST_KEY + 1); i++) {
         struct setting s = some_setting(i % 2, i % 4 < 2 ? FOX64 : FOX128);
         s.key_len = i / 4;
-        s.rounds = i / 4 == 16 ? FOX_MOST_ROUNDS : s.rounds;
+        s.rounds = i / 4 == 16 || i / 4 == 17 ? FOX_MOST_ROUNDS : s.rounds;
         each_step(&s);
     }
     group_end();

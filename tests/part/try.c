@@ -19,6 +19,11 @@ enum { KEY, BLOCK, OUTPUT };
 
 static struct room rooms[] = {[KEY] = {"key", NULL}, [BLOCK] = {"block", NULL}, [OUTPUT] = {"output", NULL}};
 
+uint32_t some_cipher(void)
+{
+    return below(2) == 0 ? FOX64 : FOX128;
+}
+
 struct setting some_setting(uint32_t sealing, uint32_t cipher)
 {
     struct setting s = {.sealing = sealing, .cipher = cipher, .rounds = FOX_LEAST_ROUNDS + (uint32_t)below(6)};

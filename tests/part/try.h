@@ -1,6 +1,6 @@
-/* Part of a block's rounds by the card, beside the second implementation. Every call here is made by both. The card's has a
- * stack that was painted just before, and all that it is lent lies beside pages that may not be touched, at one end of a
- * room or the other by chance. */
+/* Part of a block's rounds by the card, beside the second implementation. A case here is a call that both make. The card's
+ * has a stack that was painted just before, and all that it is lent lies beside pages that may not be touched, at one end of
+ * a room or the other by chance. */
 #ifndef PART_TRY_H
 #define PART_TRY_H
 
@@ -20,6 +20,8 @@ struct setting {
     uint8_t key[SETTING_ROOM], block[SETTING_ROOM];
     size_t key_len, block_len;
 };
+
+uint32_t some_cipher(void);
 
 /* One that is served, with few rounds and a key of any length. */
 struct setting some_setting(uint32_t sealing, uint32_t cipher);

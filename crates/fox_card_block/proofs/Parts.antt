@@ -1,6 +1,6 @@
--- A block in parts, on calls: a call on part of the rounds, and a call that goes on from its output and its register, answer as one call on both parts; and where
--- the first part begins with the first round and the second ends with the last, as a call on the whole block, for every round to stop at, in sealing and in
--- opening; and what is in hand in between.
+-- A block in parts, on calls: a call on part of the rounds, and a call that goes on from its output and its register, answer as one call on both parts; where
+-- the first begins with the first round and the second ends with the last, as a call on the whole block, for every round to stop at, in sealing and in opening;
+-- and what is in hand in between.
 -- Assumes nothing.
 use mathlib.Core.Path.{_≡_, refl, sym, ap, ap₂, _∙_, subst}
 use mathlib.Core.Bool.{Bool, cond}
@@ -20,12 +20,10 @@ use Rattle.fox_refusals.proofs.Laws.Reply.{served, refused, refused-reply, repl
 use Rattle.fox_block.specs.Block.{state, bytes, turnWith, turnBlock, BlockOf}
 use Rattle.fox_block.specs.Promise.{Turns}
 use Rattle.fox_block.proofs.Laws.Block.{length-bytes}
-use Rattle.fox_card_block.specs.Hold.{least}
-use Rattle.fox_card_block.specs.Part.{parted, TurnsPart, forTwo, TurnsInTwo}
+use Rattle.fox_card_block.specs.Part.{least, parted, TurnsPart, forTwo, TurnsInTwo}
 use Rattle.fox_card_block.specs.declared.rounds.Hold.{Hold}
 use Rattle.fox_card_block.specs.declared.part.PartAnswer.{PartAnswer}
-use Rattle.fox_card_block.proofs.Laws.Hold.{least-most, least-above}
-use Rattle.fox_card_block.proofs.Laws.Part.{parted-size, parted-joined, parted-stopped, parted-all}
+use Rattle.fox_card_block.proofs.Laws.Part.{least-most, least-above, parted-size, parted-joined, parted-stopped, parted-all}
 
 -- a call on all rounds is a call on the block
 pub whole-part : (d : Bool) (c r : ℕ) (key : List ℕ) (reg : ℕ) (block : List ℕ) {before after : List ℕ} {p : PartAnswer}
@@ -103,8 +101,8 @@ two-served d c r key block b n {room} {held} {before} {after} {q = q} first went
       kept = first .reply .output;
     }
 
--- what a card has in hand that stops after n rounds, or after the last: the register where the next round key of that direction stands, and the bytes of the state
--- after the rounds with the first n round keys of that direction
+-- what a card has in hand that stops after n rounds, or after the last: the register where the next round key of that direction stands, and the bytes of the
+-- state after the rounds with the first n round keys of that direction
 pub stopped : (d : Bool) (c r : ℕ) (key block : List ℕ) (n reg : ℕ) {before mid : List ℕ} {p : PartAnswer} → TurnsPart d c r key 0 n reg block before mid p
     → p .answer .refusal ≡ 0
     → (p .reg ≡ stands (stepBlock c key) r (number d r (least n r)))

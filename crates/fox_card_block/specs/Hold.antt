@@ -1,16 +1,11 @@
 -- A block stopped between two rounds, in the card's hand: its state and the register's value for the next round; and the rounds that go on from there.
 -- Assumes nothing.
 use Prim.Native.Nat.{ℕ, zero, suc, _+_}
-use mathlib.Core.Bool.{Bool, cond}
-use lib.Dec.{ltb}
+use mathlib.Core.Bool.{Bool}
 use Rattle.fox_rounds.specs.Skeleton.{round, between}
 use Rattle.fox_rounds.specs.declared.state.State.{State}
 use Rattle.fox_key_register.specs.Register.{stepped}
 use Rattle.fox_card_block.specs.declared.rounds.Hold.{Hold}
-
--- the smaller of two numbers
-unfoldable pub least : ℕ → ℕ → ℕ
-least a b = cond (ltb a b) a b
 
 -- what comes before round number i, counted from 0: nothing before the first, and "or" in sealing or "io" in opening before every other
 unfoldable pub led : Bool → ℕ → State → State

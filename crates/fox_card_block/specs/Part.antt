@@ -4,7 +4,7 @@ use mathlib.Core.Path.{_≡_}
 use Prim.Native.Nat.{ℕ, zero, suc, _-_, _%_, _^_}
 use mathlib.Core.Bool.{Bool, cond}
 use mathlib.Core.List.{List}
-use lib.Dec.{eqb}
+use lib.Dec.{ltb, eqb}
 use lib.ListN.{length}
 use Rattle.fox_key_schedule.specs.Schedule.{keyAt, stepBlock}
 use Rattle.fox_key_schedule.specs.Step.{stands, number}
@@ -12,9 +12,13 @@ use Rattle.fox_refusals.specs.Refusals.{Refusal, refusalOf, forBlock}
 use Rattle.fox_refusals.specs.Reply.{Reply}
 use Rattle.fox_refusals.specs.declared.answer.Answer.{Answer}
 use Rattle.fox_block.specs.Block.{state, bytes, turnBlock}
-use Rattle.fox_card_block.specs.Hold.{least, roundsOn}
+use Rattle.fox_card_block.specs.Hold.{roundsOn}
 use Rattle.fox_card_block.specs.declared.rounds.Hold.{Hold}
 use Rattle.fox_card_block.specs.declared.part.PartAnswer.{PartAnswer}
+
+-- the smaller of two numbers
+unfoldable pub least : ℕ → ℕ → ℕ
+least a b = cond (ltb a b) a b
 
 -- the register's value for round number i of r, with step blocks of g steps: for the first round that of the direction, and for a later one the 24 lowest bits
 -- of what is handed in
@@ -46,9 +50,10 @@ forTwo sealing cipher r keyLen blockLen roomLen outLen =
     let first = forBlock sealing cipher r keyLen blockLen roomLen in
     cond (eqb (refusalOf first) 0) (forBlock sealing cipher r keyLen blockLen outLen) first
 
--- a block stopped after n rounds and gone on with, with the room for the state, and the output, before and after: the output has the bytes of the block turned at
--- once, and the room those of the state after n rounds, where it is as long as the block
+-- a block stopped after n rounds and gone on with, with the room for the state, and the output, before and after. The output has the bytes of the block turned
+-- at once. The room has those of the state after n rounds where a call with the room as its output is served, so also where the output's length is then
+-- refused; else it stays as it was
 pub record TurnsInTwo (sealing : Bool) (cipher r : ℕ) (key : List ℕ) (n : ℕ) (block room held before after : List ℕ) (a : Answer) : Type 0 where
   pub reply : Reply (forTwo sealing cipher r (length key) (length block) (length room) (length before)) (turnBlock sealing cipher r key block) before after a
-  pub kept : held
-      ≡ cond (eqb (refusalOf (forBlock sealing cipher r (length key) (length block) (length room))) 0) (bytes (parted sealing cipher r key 0 n 0 block .state)) room
+  pub kept : let first = forBlock sealing cipher r (length key) (length block) (length room) in
+      held ≡ cond (eqb (refusalOf first) 0) (bytes (parted sealing cipher r key 0 n 0 block .state)) room

@@ -1,12 +1,11 @@
-// Part of a block's rounds by the card engine, and a block in two parts. A card that is interrupted keeps the bytes of the state, the register and the number of
-// rounds done, and goes on from them. Every input is answered.
-// A state is a block with fewer rounds than a key asks for, and tells of the key: it is to be kept as secret as the key, unchanged, and wiped.
+// Part of a block's rounds by the card engine, and a block in two parts. A card that is interrupted keeps the bytes of the state, the register and the number
+// of rounds done, and goes on from them. Every input is answered.
+// A state after a few rounds tells of the key: keep it as secret as the key, unchanged, and wipe it.
 ghost use mathlib.Core.Path.{_≡_};
 ghost use Prim.Native.Nat.{_≤_, _<_, _^_};
 ghost use Rattle.fox_key_schedule.specs.Step.{steps};
-ghost use Rattle.fox_card_block.specs.Part.{inHand, TurnsPart, TurnsInTwo};
+ghost use Rattle.fox_card_block.specs.Part.{least, inHand, TurnsPart, TurnsInTwo};
 use crate::rounds::Hold;
-use crate::rounds::least;
 use crate::rounds::rounds_on;
 use fox_engine_block::blocks::read;
 use fox_engine_block::blocks::write;
@@ -18,6 +17,16 @@ use fox_refusals::refusals::for_block;
 pub struct PartAnswer {
     pub answer: Answer,
     pub reg: u32,
+}
+
+// The smaller of two numbers, which fits a byte since one of them does.
+fn least(a: u32, b: u8) -> u8
+    ensures { λ r. ⌜ r ≡ least a b ⌝ }
+{
+    if a < b as u32 {
+        return (a % 256) as u8;
+    }
+    b
 }
 
 // The register's value for round number `from`. For the first round it is the schedule's, whatever is handed in; for a later one it is the value handed in, of
@@ -72,7 +81,7 @@ pub fn turn_part(
 }
 
 // A block in two parts, as a card does it that is interrupted after `stop` rounds, or after the last: between the parts it has the state, in `held`, and the
-// register.
+// register. The state stays in `held`, also where `out` has the wrong length: wipe it.
 pub fn turn_in_two(
     sealing: bool,
     cipher: u32,

@@ -4,7 +4,7 @@ ghost use mathlib.Core.Path.{_≡_};
 ghost use Prim.Native.Nat.{_-_, _≤_, _<_, _^_};
 ghost use Rattle.fox_rounds.specs.Skeleton.{turned};
 ghost use Rattle.fox_key_schedule.specs.Step.{roundKeyAt, steps, roundKeysOf};
-ghost use Rattle.fox_card_block.specs.Hold.{least, led, roundOn, roundsOn};
+ghost use Rattle.fox_card_block.specs.Hold.{led, roundOn, roundsOn};
 use fox_key_schedule::schedule::Schedule;
 use fox_rounds::state::State;
 
@@ -12,16 +12,6 @@ use fox_rounds::state::State;
 pub struct Hold {
     pub state: State,
     pub reg: u32,
-}
-
-// The smaller of two numbers, which fits a byte since one of them does.
-pub(crate) fn least(a: u32, b: u8) -> u8
-    ensures { λ r. ⌜ r ≡ least a b ⌝ }
-{
-    if a < b as u32 {
-        return (a % 256) as u8;
-    }
-    b
 }
 
 // The state as round number i takes it, with "or" or "io" before every round but the first.

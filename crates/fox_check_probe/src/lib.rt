@@ -1,5 +1,5 @@
-// Exported functions whose instructions the gate counts (tests/instructions.sh, tests/measure.sh), part of a block's rounds (tests/part.sh), and the bench sheet
-// for a fuzzer to call (tests/fuzz.sh).
+// Exported functions whose instructions the gate counts (tests/instructions.sh, tests/measure.sh), part of a block's rounds (tests/part.sh), and the bench
+// sheet for a fuzzer to call (tests/fuzz.sh).
 // No product uses this crate.
 ghost use mathlib.Core.Path.{_≡_};
 ghost use lib.ListN.{length};

@@ -24,7 +24,7 @@ pub fn clocked(reg: u32) -> u32
 }
 
 // One step back: halving modulo 100001B.
-pub fn clocked_back(reg: u32) -> u32
+fn clocked_back(reg: u32) -> u32
     requires { ⌜ reg < 2 ^ 24 ⌝ }
     ensures { λ r. ⌜ (r ≡ clockedBack reg) × (r < 2 ^ 24) ⌝ }
 {

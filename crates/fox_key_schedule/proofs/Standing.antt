@@ -1,6 +1,6 @@
--- What a made round key hands on, on calls. Made where round key number i stands, counted from 1, it is that round key; `next` is where number i + 1 stands, and
--- `before` where number i - 1 stands, for every i, so for 1 to the rounds and for the places beyond either end. From any register `before` of `next` is where
--- it was, and so is `next` of `before`.
+-- What a made round key hands on, on calls. Made where round key number i stands, counted from 1, it is that round key; `next` is where number i + 1 stands,
+-- for every i from 0 on, and `before` where number i - 1 stands, for every i from 1 on, so that the places beyond either end are among them. From any
+-- register `before` of `next` is where it was, and so is `next` of `before`.
 -- Assumes nothing.
 use mathlib.Core.Path.{_≡_, sym, ap, _∙_}
 use mathlib.Core.Bool.{true, false}

@@ -1,5 +1,5 @@
 // The key schedule of either cipher (001 §2.3.1 to §2.3.4): the mixed key, with whether the key has ek bytes. The card engine and the prepared key both take
-// round keys from here, and with each of them the register's value for the next.
+// round keys from here, and with each of them the register's value for the next and for the one before.
 ghost use mathlib.Core.Path.{_≡_};
 ghost use Prim.Native.Nat.{_*_, _^_, _<_, _≤_};
 ghost use lib.ListN.{length};
@@ -20,7 +20,8 @@ use fox_key_register::register::stepped;
 use fox_rounds::fox64::Fox64;
 use fox_rounds::fox128::Fox128;
 
-// A round key, and the register's value for the next one and for the one before.
+// A round key, as two words of 64 bits, of which FOX64 takes the right one and has 0 in the left, and the register's value for the next round key and for the
+// one before.
 pub struct RoundKey {
     pub key: Key128,
     pub next: u32,
@@ -28,7 +29,7 @@ pub struct RoundKey {
 }
 
 impl RoundKey {
-    // The register's value for the next round.
+    // The register's value for the next round: `next` in sealing, `before` in opening.
     pub fn onward(self, sealing: bool) -> u32
         ensures { λ r. ⌜ r ≡ onward sealing self ⌝ }
     {
@@ -80,7 +81,7 @@ impl Schedule {
         stepped(on, reg, (blocks as u32) * self.steps())
     }
 
-    // The round key's words at the register value reg; for FOX64 it is the right word, and the left word is 0.
+    // The round key's words at the register value reg.
     fn key_at(self, reg: u32) -> Key128
         requires { ⌜ reg < 2 ^ 24 ⌝ }
         ensures { λ k. ⌜ KeyAt self reg k ⌝ }

@@ -4,10 +4,7 @@ use mathlib.Core.Path.{_≡_, refl, sym, ap, _∙_, subst}
 use mathlib.Core.Bool.{Bool}
 use Prim.Native.Nat.{ℕ, zero, suc, _+_, _-_, _*_, _^_, _<_, _≤_}
 use native.Mathlib.Omega.{arith}
-use lib.Dec.{ltb}
-use borrow.Author.Tests.{lt-ltb, le-ltb, ltb-true, ltb-false}
 use Rattle.fox_layers.specs.Lists.{numbered}
-use Rattle.fox_layers.proofs.Laws.Lists.{by-test}
 use Rattle.fox_rounds.specs.Skeleton.{size, round, between, place, turned}
 use Rattle.fox_rounds.specs.declared.state.State.{State}
 use Rattle.fox_rounds.proofs.Laws.Skeleton.{TurnDone, turnDone-none, turnDone-one, turnDone-more, turnDone-all}
@@ -17,27 +14,8 @@ use Rattle.fox_key_register.proofs.Laws.Register.{stepped-lt}
 use Rattle.fox_key_schedule.specs.Step.{RegisterAt}
 use Rattle.fox_key_schedule.proofs.Laws.RegisterAt.{registerAt-next, registerAt-place}
 use Rattle.fox_block.proofs.Laws.Block.{round-size, between-size}
-use Rattle.fox_card_block.specs.Hold.{least, led, roundOn, roundsOn}
+use Rattle.fox_card_block.specs.Hold.{led, roundOn, roundsOn}
 use Rattle.fox_card_block.specs.declared.rounds.Hold.{Hold}
-
-pub least-below : (a b : ℕ) → a < b → least a b ≡ a
-unfolding least
-least-below a b h = simp (lt-ltb a b h)
-
-pub least-above : (a b : ℕ) → b ≤ a → least a b ≡ b
-unfolding least
-least-above a b h = simp (le-ltb a b h)
-
-pub least-most : (a b : ℕ) → least a b ≤ b
-unfolding least
-least-most a b = by-test (ltb a b) (λ t. rw t (omega (arith, ltb-true a b t))) (λ t. rw t (omega arith))
-
-pub least-le : (a b r : ℕ) → a ≤ b → least a r ≤ least b r
-unfolding least
-least-le a b r h =
-    by-test (ltb a r)
-    (λ t. by-test (ltb b r) (λ u. rw (t, u) h) (λ u. rw (t, u) (omega (arith, ltb-true a r t))))
-    (λ t. by-test (ltb b r) (λ u. absurd (omega (arith, ltb-false a r t, ltb-true b r u))) (λ u. rw (t, u) (omega arith)))
 
 pub led-first : (d : Bool) (i : ℕ) (y : State) → i ≡ 0 → led d i y ≡ y
 unfolding led

@@ -7,9 +7,10 @@ use mathlib.Core.List.{List}
 use Prim.Native.Nat.{ℕ, zero, suc, _+_, _-_, _*_, _%_, _^_, _<_, _≤_}
 use native.Mathlib.Nat.{not-suc-le-zero}
 use native.Mathlib.Omega.{arith}
-use lib.Dec.{eqb}
+use lib.Dec.{ltb, eqb}
+use borrow.Author.Tests.{lt-ltb, le-ltb, ltb-true, ltb-false}
 use Rattle.fox_layers.specs.Lists.{numbered}
-use Rattle.fox_layers.proofs.Laws.Lists.{numbered-same}
+use Rattle.fox_layers.proofs.Laws.Lists.{by-test, numbered-same}
 use Rattle.fox_rounds.specs.Skeleton.{through, size, round, between, place, turned}
 use Rattle.fox_rounds.specs.declared.state.State.{State}
 use Rattle.fox_rounds.proofs.Laws.Undoing.{Fits}
@@ -23,10 +24,29 @@ use Rattle.fox_refusals.specs.Refusals.{blockSize}
 use Rattle.fox_block.specs.Block.{state, bytes, BlockOf}
 use Rattle.fox_block.proofs.Laws.Block.{state-size}
 use Rattle.fox_block.proofs.Laws.States.{state-bytes, state-fits}
-use Rattle.fox_card_block.specs.Hold.{least, roundsOn}
-use Rattle.fox_card_block.specs.Part.{inHand, parted}
+use Rattle.fox_card_block.specs.Hold.{roundsOn}
+use Rattle.fox_card_block.specs.Part.{least, inHand, parted}
 use Rattle.fox_card_block.specs.declared.rounds.Hold.{Hold}
-use Rattle.fox_card_block.proofs.Laws.Hold.{least-below, least-above, least-most, least-le, roundsOn-lt, roundsOn-fits, roundsOn-size, roundsOn-cut, stopped-on, turned-on}
+use Rattle.fox_card_block.proofs.Laws.Hold.{roundsOn-lt, roundsOn-fits, roundsOn-size, roundsOn-cut, stopped-on, turned-on}
+
+pub least-below : (a b : ℕ) → a < b → least a b ≡ a
+unfolding least
+least-below a b h = simp (lt-ltb a b h)
+
+pub least-above : (a b : ℕ) → b ≤ a → least a b ≡ b
+unfolding least
+least-above a b h = simp (le-ltb a b h)
+
+pub least-most : (a b : ℕ) → least a b ≤ b
+unfolding least
+least-most a b = by-test (ltb a b) (λ t. rw t (omega (arith, ltb-true a b t))) (λ t. rw t (omega arith))
+
+pub least-le : (a b r : ℕ) → a ≤ b → least a r ≤ least b r
+unfolding least
+least-le a b r h =
+    by-test (ltb a r)
+    (λ t. by-test (ltb b r) (λ u. rw (t, u) h) (λ u. rw (t, u) (omega (arith, ltb-true a r t))))
+    (λ t. by-test (ltb b r) (λ u. absurd (omega (arith, ltb-false a r t, ltb-true b r u))) (λ u. rw (t, u) (omega arith)))
 
 module _ (d : Bool) (g r : ℕ) where
   pub inHand-first : (i reg : ℕ) → i ≡ 0 → inHand d g r i reg ≡ stands g r (number d r 0)

@@ -31,4 +31,5 @@ unfolding asksToSeal
 returns c = let call = c .before .before .before .before .turn-part in unpacks (call .result) (search needs) (call .ensures)
 
 pub fox-probe-part-spec : {M : Type 1} → statement M
-fox-probe-part-spec = tie.close (tie.spec (λ c κs. search needs) (λ c. search needs) (λ c. search needs) (λ c. search needs) (λ c. search needs) (λ c. search needs) returns)
+fox-probe-part-spec =
+    tie.close (tie.spec (λ c κs. search needs) (λ c. search needs) (λ c. search needs) (λ c. search needs) (λ c. search needs) (λ c. search needs) returns)

@@ -1,4 +1,4 @@
--- The register stays within 24 bits; a step back undoes a step, and a step undoes a step back. So the register stepped back is the register stepped forward fewer times.
+-- The register stays within 24 bits; a step back undoes a step, and a step undoes a step back. So 001's register stepped back is that of fewer steps.
 -- Assumes nothing.
 use mathlib.Core.Path.{_≡_, refl, sym, ap, _∙_}
 use mathlib.Core.Bool.{Bool, true, false, not}
@@ -80,8 +80,8 @@ back-clocked x h =
     let moved : x * 2 - 2 ^ 24 ≡ (x - 2 ^ 23) * 2 = omega arith in
     rw (clocked-above x above, moved) (back-above x (x - 2 ^ 23) (omega arith) (omega arith)))
 
--- An odd register has z as its half: a step back gives z ⊕ 80000D, which is 2 ^ 23 + (z ⊕ 0D). A step on from there gives (z ⊕ 0D) * 2 ⊕ 1B, which is odd and has
--- z as its half again.
+-- An odd register has z as its half: a step back gives z ⊕ 80000D, which is 2 ^ 23 + (z ⊕ 0D). A step on from there gives (z ⊕ 0D) * 2 ⊕ 1B, which is odd and
+-- has z as its half again.
 on-odd : (x z : ℕ) → x ≡ z * 2 + 1 → z < 2 ^ 23 → clocked (z ⊕ 0x80000D) ≡ x
 on-odd x z e h =
     let small : (z ⊕ 0xD) < 2 ^ 23 = xor-lt 23 z 0xD h (omega arith) in

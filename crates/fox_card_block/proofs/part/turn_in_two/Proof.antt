@@ -24,7 +24,8 @@ returns-2 c =
     let a = known .before .before .args in
     let went = first .turn-part .ensures in
     let zero = sym (went .reply .refusal) ∙ test .if1 .left in
-    let block : BlockOf (a .cipher) (a .block .now) = record { size = blocked _ _ _ _ _ _ zero .block; bytes = λ i. known .shared-slice-known2 .given i .fits } in
+    let size = blocked _ _ _ _ _ _ zero .block in
+    let block : BlockOf (a .cipher) (a .block .now) = record { size = size; bytes = λ i. known .shared-slice-known2 .given i .fits } in
     two-served (a .sealing) (a .cipher) (a .rounds) (a .key .now) (a .block .now) block (a .stop) went (test .if1 .left) (second .turn-part2 .ensures)
 
 pub turn-in-two-spec : {M : Type 1} → statement M

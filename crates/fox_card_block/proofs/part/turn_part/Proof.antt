@@ -1,5 +1,5 @@
--- `part::turn_part` meets its contract: a refused call returns the first refusal that applies and writes nothing; past the refusals the key's schedule gives the
--- round keys of the definition, and what is written and returned is the definition's block in hand.
+-- `part::turn_part` meets its contract: a refused call returns the first refusal that applies and writes nothing; past the refusals the key's schedule gives
+-- the round keys of the definition, and what is written and returned is the definition's block in hand.
 -- Assumes nothing.
 use borrow.Author.Needs.{needs}
 use mathlib.Core.Path.{_≡_, sym, ap, _∙_}
@@ -13,8 +13,7 @@ use Rattle.fox_refusals.proofs.Laws.Refusals.{blocked}
 use Rattle.fox_refusals.proofs.Laws.Reply.{served-reply, refused-reply, chosen, passed-over}
 use Rattle.fox_block.specs.Block.{bytes, state}
 use Rattle.fox_block.proofs.Laws.Block.{rounds-whole}
-use Rattle.fox_card_block.specs.Hold.{least}
-use Rattle.fox_card_block.specs.Part.{inHand, parted}
+use Rattle.fox_card_block.specs.Part.{least, inHand, parted}
 use Rattle.fox_card_block.specs.declared.rounds.Hold.{Hold}
 use Rattle.fox_card_block.proofs.Laws.Part.{parted-size, parted-scheduled}
 use Rattle.fox_card_block.proofs.part.turn_part.Statement.{statement}

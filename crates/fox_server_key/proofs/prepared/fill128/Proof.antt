@@ -18,7 +18,8 @@ use Rattle.fox_server_key.proofs.prepared.fill128.Statement.{statement}
 use Rattle.fox_server_key.proofs.prepared.fill128.Tie as tie
 
 abbrev Inv-loop : tie.InvT-loop
-Inv-loop s rounds keys₀ reg₀ i₀ keys reg i = (i ≤ rounds) × RegisterAt (steps s) true rounds i reg × (keys ≡ filled (inHalves (numbered (roundKeyOf s rounds) i 0)))
+Inv-loop s rounds keys₀ reg₀ i₀ keys reg i =
+    (i ≤ rounds) × RegisterAt (steps s) true rounds i reg × (keys ≡ filled (inHalves (numbered (roundKeyOf s rounds) i 0)))
 
 abbrev μ-loop : tie.MeasureT-loop
 μ-loop s rounds keys₀ reg₀ i₀ keys reg i = rounds - i

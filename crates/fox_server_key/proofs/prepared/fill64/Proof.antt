@@ -34,7 +34,8 @@ loop-again c =
       search needs,
       registerAt-on (a .s) (a .rounds) true (at .loop .i) (search needs) (search needs) (at .loop .inv .1) made,
       filled-64 (roundKeyOf (a .s) (a .rounds)) (at .loop .i) (c .round-key .result .key .right) (at .loop .keys) (search needs)
-          (right-roundKeyAt (made .key) (at .before .before .pre .0) ∙ registerAt-key (a .s) (a .rounds) true (at .loop .i) (search needs) (at .loop .inv .1)) (at .loop .inv .2),
+          (right-roundKeyAt (made .key) (at .before .before .pre .0) ∙ registerAt-key (a .s) (a .rounds) true (at .loop .i) (search needs) (at .loop .inv .1))
+          (at .loop .inv .2),
     )
 
 returns : tie.Need-returns Inv-loop μ-loop

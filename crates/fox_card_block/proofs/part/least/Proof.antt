@@ -1,11 +1,11 @@
--- `rounds::least` meets its contract: the smaller number fits a byte, since the other does.
+-- `part::least` meets its contract: the smaller number fits a byte, since the other does.
 -- Assumes nothing.
 use borrow.Author.Needs.{needs}
 use mathlib.Core.Path.{sym, _∙_}
 use native.Mathlib.Omega.{arith}
-use Rattle.fox_card_block.proofs.Laws.Hold.{least-below, least-above}
-use Rattle.fox_card_block.proofs.rounds.least.Statement.{statement}
-use Rattle.fox_card_block.proofs.rounds.least.Tie as tie
+use Rattle.fox_card_block.proofs.Laws.Part.{least-below, least-above}
+use Rattle.fox_card_block.proofs.part.least.Statement.{statement}
+use Rattle.fox_card_block.proofs.part.least.Tie as tie
 
 returns : tie.Need-returns
 returns c = let a = c .before .args in omega (arith, least-below (a .a) (a .b) (c .if1 .taken))
