@@ -1,6 +1,6 @@
 -- Rounds of a block in hand: cut anywhere they are the same rounds, and all of them, from the first on, are the block sealed or opened.
 -- Assumes nothing.
-use mathlib.Core.Path.{_≡_, refl, sym, ap, _∙_, subst}
+use mathlib.Core.Path.{_≡_, refl, sym, ap, ap₂, _∙_, subst}
 use mathlib.Core.Bool.{Bool}
 use Prim.Native.Nat.{ℕ, zero, suc, _+_, _-_, _*_, _^_, _<_, _≤_}
 use native.Mathlib.Omega.{arith}
@@ -11,8 +11,10 @@ use Rattle.fox_rounds.proofs.Laws.Skeleton.{TurnDone, turnDone-none, turnDone-o
 use Rattle.fox_rounds.proofs.Laws.Undoing.{Fits, round-fits, between-fits}
 use Rattle.fox_key_register.specs.Register.{LFSR}
 use Rattle.fox_key_register.proofs.Laws.Register.{stepped-lt}
-use Rattle.fox_key_schedule.specs.Step.{RegisterAt}
-use Rattle.fox_key_schedule.proofs.Laws.RegisterAt.{registerAt-next, registerAt-place}
+use Rattle.fox_key_schedule.specs.Step.{roundKeyAt, steps, RoundKeyAt, onward, RegisterAt}
+use Rattle.fox_key_schedule.specs.declared.schedule.RoundKey.{RoundKey}
+use Rattle.fox_key_schedule.specs.declared.schedule.Schedule.{Schedule}
+use Rattle.fox_key_schedule.proofs.Laws.RegisterAt.{onward-stepped, registerAt-next, registerAt-place}
 use Rattle.fox_block.proofs.Laws.Block.{round-size, between-size}
 use Rattle.fox_card_block.specs.Hold.{led, roundOn, roundsOn}
 use Rattle.fox_card_block.specs.declared.rounds.Hold.{Hold}
@@ -35,6 +37,15 @@ led-size : (d : Bool) (i : ℕ) (y : State) → size (led d i y) ≡ size y
 unfolding led
 led-size d zero y = refl
 led-size d (suc i) y = between-size d y
+
+-- a round as code does it, with the round key that was made at the register's value
+pub roundOn-made : (d : Bool) (s : Schedule) (i : ℕ) (h : Hold) {k : RoundKey} {x y : State} {to : ℕ} → RoundKeyAt s (h .reg) k → x ≡ led d i (h .state)
+    → y ≡ round (k .key .left * 2 ^ 64 + k .key .right) x → to ≡ onward d k → record { state = y; reg = to } ≡ roundOn d (roundKeyAt s) (steps s) i h
+unfolding roundOn
+roundOn-made d s i h made before done moved =
+    let state = done ∙ ap₂ (λ (n : ℕ) (z : State). round n z) (made .key .whole) before in
+    let reg = moved ∙ onward-stepped d made in
+    λ t. record { state = state t; reg = reg t }
 
 module _ (d : Bool) (at : ℕ → ℕ) (g : ℕ) where
   -- the register stays within 24 bits
