@@ -5,18 +5,18 @@
 use mathlib.Core.Path.{_≡_, sym, ap, _∙_}
 use mathlib.Core.Bool.{Bool, true, false, not}
 use mathlib.Core.List.{List}
-use Prim.Native.Nat.{ℕ}
+use Prim.Native.Nat.{ℕ, _≤_, _<_}
 use lib.Dec.{eqb}
 use lib.ListN.{length}
 use Rattle.fox_rounds.specs.Skeleton.{turned}
 use Rattle.fox_rounds.specs.declared.state.State.{State}
 use Rattle.fox_rounds.proofs.Laws.Undoing.{turned-fits, turned-back}
 use Rattle.fox_key_schedule.specs.Schedule.{roundKeys}
-use Rattle.fox_refusals.specs.Refusals.{blockSize, forBlock, Keyed}
-use Rattle.fox_refusals.specs.Reply.{Served, Same}
+use Rattle.fox_refusals.specs.Refusals.{blockSize, forBlock, Keyed, LongFor}
+use Rattle.fox_refusals.specs.Reply.{Served, Refused, Same}
 use Rattle.fox_refusals.specs.declared.answer.Answer.{Answer}
 use Rattle.fox_refusals.proofs.Laws.Refusals.{blocked-served}
-use Rattle.fox_refusals.proofs.Laws.Reply.{served, same}
+use Rattle.fox_refusals.proofs.Laws.Reply.{served, short-key-refused, same}
 use Rattle.fox_block.specs.Block.{state, bytes, turnWith, sealBlock, openBlock, BlockOf}
 use Rattle.fox_block.specs.Promise.{TurnsWith, TurnedBack}
 use Rattle.fox_block.proofs.Laws.Block.{length-turned}
@@ -41,13 +41,21 @@ module _ (c rounds : ℕ) (key block : List ℕ) (k : Keyed c rounds (length key
   pub seal-open : sealBlock c rounds key (openBlock c rounds key block) ≡ block
   seal-open = turn-back-with false c (roundKeys c rounds key) block b
 
--- A call on a block of the cipher's size, with an output as long, is served with the count B and gives the block sealed or opened.
-module _ (d : Bool) (c rounds keyLen : ℕ) (ks block : List ℕ) (k : Keyed c rounds keyLen) (size : length block ≡ blockSize c) where
+-- A call on a block of the cipher's size, with an output as long, is served with the count B and gives the block sealed or opened: opened with keys of every
+-- length from 0 to 32 bytes, and sealed with keys of 16 to 32.
+module _ (d : Bool) (c rounds keyLen : ℕ) (ks block : List ℕ) (k : Keyed c rounds keyLen) (long : LongFor d keyLen) (size : length block ≡ blockSize c) where
   pub block-served : {before after : List ℕ} {r : Answer} → length before ≡ blockSize c → TurnsWith d c rounds keyLen ks block before after r
       → Served (blockSize c) (turnWith d c ks block) after r
   block-served room call =
-      let s = served call (blocked-served d (record { keyed = k; block = size; output = room ∙ sym size })) in
+      let s = served call (blocked-served d (record { keyed = k; long = long; block = size; output = room ∙ sym size })) in
       record { refusal = s .refusal; count = s .count ∙ room; output = s .output }
+
+-- A call that seals a block with a key under 16 bytes is refused with 13, with nothing else wrong with the key, whatever block and output are.
+pub short-key-block : (c rounds keyLen : ℕ) (ks block : List ℕ) {before after : List ℕ} {r : Answer} → Keyed c rounds keyLen → keyLen < 16
+    → TurnsWith true c rounds keyLen ks block before after r
+    → Refused (forBlock true c rounds keyLen (length block) (length before)) before after r × (r .refusal ≡ 13)
+unfolding forBlock
+short-key-block c rounds keyLen ks block k short call = short-key-refused _ k short call
 
 -- Two calls that seal or open the same block, with outputs of one length, answer the same.
 pub blocks-same : (d : Bool) (c rounds keyLen : ℕ) (ks block : List ℕ) {before₁ before₂ after₁ after₂ : List ℕ} {r₁ r₂ : Answer}
@@ -55,15 +63,15 @@ pub blocks-same : (d : Bool) (c rounds keyLen : ℕ) (ks block : List ℕ) {befo
     → Same before₁ before₂ after₁ after₂ r₁ r₂
 blocks-same d c rounds keyLen ks block l a b = same (ap (forBlock d c rounds keyLen (length block)) l) l a b
 
--- A call that seals or opens a block, and the inverse call on its output with the same round keys: both are served, and the second gives the block back. With
--- the round keys of a key this is any two engines from key bytes; with those that a prepared key holds, whoever filled it, any two engines that use that
--- prepared key.
-module _ (d : Bool) (c rounds keyLen : ℕ) (ks block : List ℕ) (k : Keyed c rounds keyLen) (b : BlockOf c block) where
+-- A call that seals or opens a block, and the inverse call on its output with the same round keys: with a key of 16 to 32 bytes both are served, and the second
+-- gives the block back. With the round keys of a key this is any two engines from key bytes; with those that a prepared key holds, whoever filled it, any two
+-- engines that use that prepared key.
+module _ (d : Bool) (c rounds keyLen : ℕ) (ks block : List ℕ) (k : Keyed c rounds keyLen) (long : 16 ≤ keyLen) (b : BlockOf c block) where
   pub turned-back-calls : {before mid before-back after : List ℕ} {r s : Answer} → length before ≡ blockSize c → length before-back ≡ blockSize c
       → TurnsWith d c rounds keyLen ks block before mid r → TurnsWith (not d) c rounds keyLen ks mid before-back after s → TurnedBack c block after r s
   turned-back-calls room room-back first second =
-      let there = block-served d c rounds keyLen ks block k (b .size) room first in
-      let back = block-served (not d) c rounds keyLen ks _ k (ap length (there .output) ∙ length-turned d c ks block) room-back second in
+      let there = block-served d c rounds keyLen ks block k (λ _. long) (b .size) room first in
+      let back = block-served (not d) c rounds keyLen ks _ k (λ _. long) (ap length (there .output) ∙ length-turned d c ks block) room-back second in
       record {
         served = there .refusal;
         count = there .count;

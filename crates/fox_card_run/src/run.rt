@@ -1,4 +1,4 @@
-// A stretch of a run by the card engine, from cipher, rounds, key bytes, counter block, offset and input: every input is answered.
+// A stretch of a run, sealed or opened, by the card engine, from cipher, rounds, key bytes, counter block, offset and input: every input is answered.
 ghost use Rattle.fox_run.specs.Promise.{Runs};
 use crate::stretch::stretch;
 use fox_engine_block::blocks::read;
@@ -7,6 +7,7 @@ use fox_refusals::answer::Answer;
 use fox_refusals::stretch::for_run;
 
 pub fn run(
+    sealing: bool,
     cipher: u32,
     rounds: u32,
     key: &[u8],
@@ -15,9 +16,10 @@ pub fn run(
     input: &[u8],
     out: &mut [u8],
 ) -> Answer
-    ensures { λ r. ⌜ Runs cipher rounds (now (key .entry)) (now (counter .entry)) offset (now (input .entry)) (now (out .entry)) (now (out .exit)) r ⌝ }
+    ensures { λ r. ⌜ Runs sealing cipher rounds (now (key .entry)) (now (counter .entry)) offset (now (input .entry)) (now (out .entry)) (now (out .exit)) r ⌝ }
 {
     let refusal = for_run(
+        sealing,
         cipher,
         rounds,
         key.len(),

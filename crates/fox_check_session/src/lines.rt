@@ -6,8 +6,12 @@ pub(crate) fn print_malformed() {
     io::write_all(1, b"malformed\n");
 }
 
-pub(crate) fn print_start(cipher: u32, rounds: u32, key_len: usize) {
-    io::write_all(1, b"start ");
+pub(crate) fn print_start(sealing: bool, cipher: u32, rounds: u32, key_len: usize) {
+    if sealing {
+        io::write_all(1, b"start seal ");
+    } else {
+        io::write_all(1, b"start open ");
+    }
     io::print_decimal(1, cipher as u64);
     io::write_all(1, b" ");
     io::print_decimal(1, rounds as u64);

@@ -1,5 +1,5 @@
-// Plays the calls on sessions that its input lists, and prints what each told. A session begins with four lines, `cipher`, `rounds`, `key` and `counter`; a line
-// `advance` has the next bytes, and a line `move` a position. What is printed for the file `stdin` is compared with the file `stdout`, which was written by the
+// Plays the calls on sessions that its input lists, and prints what each told. A session begins with five lines, `way` (`seal` or `open`), `cipher`, `rounds`,
+// `key` and `counter`; a line `advance` has the next bytes, and a line `move` a position. What is printed for the file `stdin` is compared with the file `stdout`, which was written by the
 // plain machine of the second implementation.
 ghost use Prim.Native.Nat.{_-_, _≤_};
 ghost use lib.ListN.{length};
@@ -22,7 +22,7 @@ mod lines;
 fn main() {
     let mut text = io::large_buffer();
     let n = io::read_full(0, &mut text);
-    let none = start_from_key(0, 0, b"", b"");
+    let none = start_from_key(false, 0, 0, b"", b"");
     play(none.session, &text[..n]);
 }
 
@@ -42,15 +42,16 @@ fn left_after(t: &[u8]) -> usize
     ensures { λ r. ⌜ r ≤ length (now (t .entry)) - 1 ⌝ }
 {
     let second = after_line(t);
-    if starts_with(b"cipher=", t) {
-        return after_line(after_line(after_line(second))).len();
+    if starts_with(b"way=", t) {
+        let fourth = after_line(after_line(second));
+        return after_line(after_line(fourth)).len();
     }
     second.len()
 }
 
 // The session after the text's first call.
 fn play_line(s: Session, t: &[u8]) -> Session {
-    if starts_with(b"cipher=", t) {
+    if starts_with(b"way=", t) {
         return play_start(t);
     }
     if starts_with(b"move=", t) {
@@ -60,33 +61,36 @@ fn play_line(s: Session, t: &[u8]) -> Session {
 }
 
 // From a prepared key, or where that is refused, from key bytes.
-fn begin(cipher: u32, rounds: u32, key: &[u8], counter: &[u8]) -> Started {
+fn begin(sealing: bool, cipher: u32, rounds: u32, key: &[u8], counter: &[u8]) -> Started {
     let made = prepare(cipher, rounds, key);
     let answer = made.answer;
     if answer.refusal != 0 {
-        return start_from_key(cipher, rounds, key, counter);
+        return start_from_key(sealing, cipher, rounds, key, counter);
     }
-    start(made.key, counter)
+    start(sealing, made.key, counter)
 }
 
 fn play_start(t: &[u8]) -> Session {
     let second = after_line(t);
     let third = after_line(second);
     let fourth = after_line(third);
+    let fifth = after_line(fourth);
+    let sealing = starts_with(b"way=seal\n", t);
     let mut key = [0; 64];
     let mut counter = [0; 64];
-    let c = decimal_line(t, b"cipher=", 65535);
-    let r = decimal_line(second, b"rounds=", 65535);
-    let k = pairs_line(third, b"key=", 64, &mut key);
-    let b = pairs_line(fourth, b"counter=", 64, &mut counter);
-    if !(c.right & r.right & k.right & b.right) {
+    let c = decimal_line(second, b"cipher=", 65535);
+    let r = decimal_line(third, b"rounds=", 65535);
+    let k = pairs_line(fourth, b"key=", 64, &mut key);
+    let b = pairs_line(fifth, b"counter=", 64, &mut counter);
+    let known = sealing | starts_with(b"way=open\n", t);
+    if !(known & c.right & r.right & k.right & b.right) {
         lines::print_malformed();
     }
     let size = k.count;
     let width = b.count;
-    let started = begin(c.value, r.value, &key[..size], &counter[..width]);
+    let started = begin(sealing, c.value, r.value, &key[..size], &counter[..width]);
     let session = started.session;
-    lines::print_start(c.value, r.value, size);
+    lines::print_start(sealing, c.value, r.value, size);
     lines::print_told(started.answer, session.here);
     io::write_all(1, b"\n");
     session
@@ -131,5 +135,10 @@ fn after(s: Session, step: Step) -> Session {
     let key = s.key;
     let counter = s.counter;
     let here = step.here;
-    Session { key, counter, here }
+    Session {
+        key,
+        counter,
+        here,
+        sealing: s.sealing,
+    }
 }

@@ -1,5 +1,5 @@
--- Sheets whose block is served, and what the bench program prints for them, computed by the definitions: 01's own sheet, its answer opened again, and a sheet
--- with an empty key.
+-- Sheets whose block is served, and what the bench program prints for them, computed by the definitions: 01's own sheet, its answer opened again, and a block
+-- opened with an empty key.
 -- Assumes nothing.
 use mathlib.Core.Path.{refl}
 use Rattle.fox_layers.specs.Words.{joined, split, xorEach, xorOver}
@@ -14,7 +14,8 @@ use Rattle.fox_key_register.specs.Register.{seed, clocked, iterate, LFSR}
 use Rattle.fox_key_mixing.specs.Diversification.{stream, groups, dkey}
 use Rattle.fox_key_nonlinear.specs.Nonlinear.{words, mix64, flipped, layers, number64, NL64}
 use Rattle.fox_key_schedule.specs.Schedule.{ek64, roundKeyAt64, roundKey64, roundKey, roundKeys}
-use Rattle.fox_refusals.specs.Refusals.{refusalOf, blockSize, wrongCipher, wrongRounds, longKey, wrongBlockLength, wrongOutputLength, forKey, forBlock}
+use Rattle.fox_refusals.specs.Refusals.{refusalOf, blockSize, wrongCipher, wrongRounds, longKey, shortKey, wrongBlockLength, wrongOutputLength}
+use Rattle.fox_refusals.specs.Refusals.{forKey, forTurn, forBlock}
 use Rattle.fox_block.specs.Block.{state64, bytes64, state, bytes, turnWith}
 use Rattle.fox_text.specs.Ascii.{codes, ascii, startsWith}
 use Rattle.fox_text.specs.Lines.{lineEnd, afterLine, lines}
@@ -32,9 +33,8 @@ pub served-printed : Printed served
 unfolding served joined split xorEach xorOver polynomial rest product S₁ S₂ S₃ halves whole or4 lmid4 lmor4 sbox sigma dot times mu4Rows diffused
     mu4 left right or io f f32 lmid64 or64 io64 numbered through round between inOrder turnedState seal64 pad padded mixed mkey seed clocked iterate
     LFSR stream groups
-    dkey words mix64 flipped layers number64 NL64 ek64 roundKeyAt64 roundKey64 refusalOf blockSize wrongCipher wrongRounds longKey wrongBlockLength
-    wrongOutputLength
-    forKey forBlock state64 bytes64 state bytes turnWith roundKey roundKeys codes ascii startsWith lineEnd afterLine lines
+    dkey words mix64 flipped layers number64 NL64 ek64 roundKeyAt64 roundKey64 refusalOf blockSize wrongCipher wrongRounds longKey shortKey wrongBlockLength
+    wrongOutputLength forKey forTurn forBlock state64 bytes64 state bytes turnWith roundKey roundKeys codes ascii startsWith lineEnd afterLine lines
     isLine brokenFrom allDigits onward begins inRange isDecimal digitsText allHex nibble pairsOf digit hexText isDecimalLine isPairsLine
     decimalIn pairsIn decimalLineText pairsLineText cipherName roundsName keyName sealWay openWay blockName isWayLine settingTests taskTests
     brokenLine said valuesOf refusalName lineName keybitsName brokenText servedText refusal blockText answerOf

@@ -11,7 +11,7 @@ use fox_text_lines::lines::starts_with;
 
 const PAINT: u8 = 0xA5;
 
-// What a row asks of an engine (`engine` 0: the card, 1: the server from key bytes, 2: the server from a prepared key), and the refusal that is due.
+// What a row asks of an engine (`engine` 0: the card, 1: the server from key bytes, 2: the server from a prepared key), and the refusal that is due, or 0.
 struct Call {
     engine: u32,
     seals: bool,
@@ -24,26 +24,28 @@ struct Call {
 pub(crate) fn agree(
     cipher: u32,
     rounds: u32,
-    refusal: u32,
+    seal: u32,
+    open: u32,
     key: &[u8],
     block: &[u8],
     sealed: &[u8],
 ) -> bool
     requires { ⌜ (length (now block) ≤ 64) × (length (now sealed) ≤ 64) ⌝ }
 {
-    let card = undoes(0, cipher, rounds, refusal, key, block, sealed);
-    let server = undoes(1, cipher, rounds, refusal, key, block, sealed);
-    let prepared = undoes(2, cipher, rounds, refusal, key, block, sealed);
+    let card = undoes(0, cipher, rounds, seal, open, key, block, sealed);
+    let server = undoes(1, cipher, rounds, seal, open, key, block, sealed);
+    let prepared = undoes(2, cipher, rounds, seal, open, key, block, sealed);
     card & server & prepared
 }
 
-// Whether sealing gives the sealed block, and opening gives the block back. A refused row has nothing sealed to open: there both calls get the block, and
-// `sealed` has only the output's length.
+// Whether sealing gives the sealed block, and opening gives the block back, or each is refused as is due. Where opening is refused there is nothing sealed to
+// open: it gets the block, and `sealed` has only the output's length.
 fn undoes(
     engine: u32,
     cipher: u32,
     rounds: u32,
-    refusal: u32,
+    seal: u32,
+    open: u32,
     key: &[u8],
     block: &[u8],
     sealed: &[u8],
@@ -55,16 +57,16 @@ fn undoes(
         seals: true,
         cipher: cipher,
         rounds: rounds,
-        refusal: refusal,
+        refusal: seal,
     };
     let opens = Call {
         engine: engine,
         seals: false,
         cipher: cipher,
         rounds: rounds,
-        refusal: refusal,
+        refusal: open,
     };
-    if refusal != 0 {
+    if open != 0 {
         return tries(seals, key, block, sealed) & tries(opens, key, block, sealed);
     }
     tries(seals, key, block, sealed) & tries(opens, key, sealed, block)

@@ -1,16 +1,22 @@
-// The lines that are printed: one for each row, `cipher rounds key-length`, its refusal where there is one, and whether every engine agrees; and at the end
-// how many rows there were and how many differ.
+// The lines that are printed: one for each row, `cipher rounds key-length`, the refusals that are due, and whether every engine agrees; and at the end how many
+// rows there were and how many differ.
 ghost use Prim.Native.Nat.{_≤_};
 
 // The start of a row's line.
-pub(crate) fn print_head(cipher: u32, rounds: u32, key_len: usize, refusal: u32) {
+pub(crate) fn print_head(cipher: u32, rounds: u32, key_len: usize, seal: u32, open: u32) {
     io::print_decimal(1, cipher as u64);
     io::write_all(1, b" ");
     io::print_decimal(1, rounds as u64);
     io::write_all(1, b" ");
     io::print_decimal(1, key_len as u64);
+    print_due(b" sealing refused ", seal);
+    print_due(b" opening refused ", open);
+}
+
+// The refusal that is due in one direction.
+fn print_due(name: &[u8], refusal: u32) {
     if refusal != 0 {
-        io::write_all(1, b" refused ");
+        io::write_all(1, name);
         io::print_decimal(1, refusal as u64);
     }
 }

@@ -1,4 +1,5 @@
--- The refusals of 01, "Numbers handed back", and those of tags, of 02: each is a number and the test of when it is given; the first that applies is taken.
+-- The refusals of 01, "Numbers handed back", and those of tags and short keys, of 02: each is a number and the test of when it is given; the first that
+-- applies is taken. `sealing` says whether a call seals or opens.
 -- Assumes nothing.
 use Prim.Native.Nat.{ℕ, _+_, _≤_}
 use mathlib.Core.Path.{_≡_}
@@ -45,6 +46,10 @@ wrongRounds rounds = record { number = 2; applies = cond (ltb rounds 12) true (l
 unfoldable pub longKey : ℕ → Refusal
 longKey keyLen = record { number = 3; applies = above 32 keyLen }
 
+-- 13: sealing with a key under 16 bytes
+unfoldable pub shortKey : Bool → ℕ → Refusal
+shortKey sealing keyLen = record { number = 13; applies = cond sealing (ltb keyLen 16) false }
+
 -- 4: input block or counter block is not B bytes
 unfoldable pub wrongBlockLength : ℕ → ℕ → Refusal
 wrongBlockLength cipher blockLen = record { number = 4; applies = differs blockLen (blockSize cipher) }
@@ -88,19 +93,24 @@ orElse refusal applies number = cond (eqb refusal 0) (cond applies number 0) ref
 unfoldable pub forKey : ℕ → ℕ → ℕ → List Refusal
 forKey cipher rounds keyLen = wrongCipher cipher ∷ wrongRounds rounds ∷ longKey keyLen ∷ []
 
--- the refusals of a call on one block, sealed or opened
+-- the refusals of a key that is to seal or to open
+unfoldable pub forTurn : Bool → ℕ → ℕ → ℕ → List Refusal
+forTurn sealing cipher rounds keyLen = forKey cipher rounds keyLen ++ (shortKey sealing keyLen ∷ [])
+
+-- the refusals of a call on one block
 unfoldable pub forBlock : Bool → ℕ → ℕ → ℕ → ℕ → ℕ → List Refusal
 forBlock sealing cipher rounds keyLen blockLen outLen =
-    forKey cipher rounds keyLen ++ (wrongBlockLength cipher blockLen ∷ wrongOutputLength blockLen outLen ∷ [])
+    forTurn sealing cipher rounds keyLen ++ (wrongBlockLength cipher blockLen ∷ wrongOutputLength blockLen outLen ∷ [])
 
 -- the refusals of a stretch that come after those of the key
 unfoldable pub forStretch : ℕ → ℕ → ℕ → ℕ → ℕ → List Refusal
 forStretch cipher counterLen offset inputLen outLen =
     wrongBlockLength cipher counterLen ∷ longData inputLen ∷ wrongOutputLength inputLen outLen ∷ pastEnd offset inputLen ∷ []
 
--- the refusals of a call on a stretch of a run: 1 to 7
-unfoldable pub forRun : ℕ → ℕ → ℕ → ℕ → ℕ → ℕ → ℕ → List Refusal
-forRun cipher rounds keyLen counterLen offset inputLen outLen = forKey cipher rounds keyLen ++ forStretch cipher counterLen offset inputLen outLen
+-- the refusals of a call on a stretch of a run: 1 to 7, with 13 after 3
+unfoldable pub forRun : Bool → ℕ → ℕ → ℕ → ℕ → ℕ → ℕ → ℕ → List Refusal
+forRun sealing cipher rounds keyLen counterLen offset inputLen outLen =
+    forTurn sealing cipher rounds keyLen ++ forStretch cipher counterLen offset inputLen outLen
 
 -- the refusals of a call that makes a run's first counter block from the run's number
 unfoldable pub forCounter : ℕ → ℕ → List Refusal
@@ -123,15 +133,21 @@ pub record Keyed (c r k : ℕ) : Type 0 where
   pub high : r ≤ 255
   pub key : k ≤ 32
 
+-- a key to seal with has at least 16 bytes; to open with, any number
+abbrev pub LongFor : Bool → ℕ → Type 0
+LongFor sealing k = sealing ≡ true → 16 ≤ k
+
 -- what holds where a call on one block meets no refusal
-pub record Blocked (c r k b o : ℕ) : Type 0 where
+pub record Blocked (sealing : Bool) (c r k b o : ℕ) : Type 0 where
   pub keyed : Keyed c r k
+  pub long : LongFor sealing k
   pub block : b ≡ blockSize c
   pub output : o ≡ b
 
 -- what holds where a call on a stretch of a run meets no refusal
-pub record Stretched (c r k b n d o : ℕ) : Type 0 where
+pub record Stretched (sealing : Bool) (c r k b n d o : ℕ) : Type 0 where
   pub keyed : Keyed c r k
+  pub long : LongFor sealing k
   pub counter : b ≡ blockSize c
   pub short : d ≤ 65536
   pub output : o ≡ d

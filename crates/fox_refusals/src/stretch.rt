@@ -2,7 +2,7 @@
 ghost use mathlib.Core.Path.{_≡_};
 ghost use Rattle.fox_refusals.specs.Refusals.{refusalOf, pastEnd, forRun};
 use crate::refusals::block_size;
-use crate::refusals::for_key;
+use crate::refusals::for_turn;
 use crate::refusals::or_else;
 use std::num::wrapping_add_u64;
 
@@ -18,6 +18,7 @@ fn past_end(offset: u64, input_len: u64) -> bool
 }
 
 pub fn for_run(
+    sealing: bool,
     cipher: u32,
     rounds: u32,
     key_len: usize,
@@ -26,9 +27,9 @@ pub fn for_run(
     input_len: usize,
     out_len: usize,
 ) -> u32
-    ensures { λ r. ⌜ r ≡ refusalOf (forRun cipher rounds «key_len» «counter_len» offset «input_len» «out_len») ⌝ }
+    ensures { λ r. ⌜ r ≡ refusalOf (forRun sealing cipher rounds «key_len» «counter_len» offset «input_len» «out_len») ⌝ }
 {
-    let of_key = for_key(cipher, rounds, key_len);
+    let of_key = for_turn(sealing, cipher, rounds, key_len);
     let size = block_size(cipher);
     let of_counter = or_else(of_key, counter_len != size, 4);
     let of_input = or_else(of_counter, input_len > 65_536, 5);

@@ -2,6 +2,7 @@
 -- definition, and on what a served call wrote, by any engine.
 -- Assumes nothing.
 use mathlib.Core.Path.{_≡_, ap, _∙_}
+use mathlib.Core.Bool.{Bool}
 use mathlib.Core.List.{List}
 use Prim.Native.Nat.{ℕ, _+_, _/_, _%_, _<_}
 use lib.ListN.{length, getD}
@@ -21,7 +22,7 @@ module _ (c : ℕ) (rks counter : List ℕ) (n : ℕ) (ds : List ℕ) (i : ℕ) 
   unfolding streamed keyStream runWith
   run-byte = xorFrom-at _ n ds i within
 
-  pub call-byte : (rounds keyLen : ℕ) {before after : List ℕ} {r : Answer} → RunsWith c rounds keyLen rks counter n ds before after r → r .refusal ≡ 0
+  pub call-byte : (d : Bool) (rounds keyLen : ℕ) {before after : List ℕ} {r : Answer} → RunsWith d c rounds keyLen rks counter n ds before after r → r .refusal ≡ 0
       → getD after i 0 ≡ getD (sealWith c rks (counterBlock counter ((n + i) / blockSize c))) ((n + i) % blockSize c) 0 ⊕ getD ds i 0
-  call-byte rounds keyLen call served =
-      ap (λ (bytes : List ℕ). getD bytes i 0) (call-did c rounds keyLen rks counter n ds call served .output) ∙ run-byte
+  call-byte d rounds keyLen call served =
+      ap (λ (bytes : List ℕ). getD bytes i 0) (call-did d c rounds keyLen rks counter n ds call served .output) ∙ run-byte

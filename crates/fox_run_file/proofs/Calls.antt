@@ -10,7 +10,7 @@ use native.Mathlib.Omega.{arith}
 use lib.ListN.{length, take, drop, getD, drop-of-length-le}
 use borrow.Author.Tests.{ne-eqb}
 use Rattle.fox_refusals.specs.Refusals.{refusalOf, Keyed}
-use Rattle.fox_refusals.proofs.Laws.Refusals.{stretched-served, wrong-output}
+use Rattle.fox_refusals.proofs.Laws.Refusals.{stretched-served, wrong-output, to-open}
 use Rattle.fox_run.specs.Run.{runWith}
 use Rattle.fox_run.proofs.Laws.Served.{length-runWith}
 use Rattle.fox_tag.specs.Tag.{tagWith}
@@ -125,14 +125,15 @@ module _ (c r keyLen : ℕ) (rks file : List ℕ) {t : Taken} (taken : TakesUpWi
     may-not : (length before ≡ length (getD scans k []) → ⊥) → readRefusal c r keyLen file (stand k) (length before) ≡ 6
     unfolding readRefusal
     may-not other =
-        wrong-output (stand k .offset) (written .0) (written .1 .values .block) short (λ e. other (e ∙ before-scan k h .size))
+        wrong-output false (stand k .offset) (written .0) (to-open keyLen) (written .1 .values .block) short (λ e. other (e ∙ before-scan k h .size))
 
     may-read : length before ≡ length (getD scans k []) → readRefusal c r keyLen file (stand k) (length before) ≡ 0
     unfolding readRefusal
     may-read room =
         let s = before-scan k h in
-        stretched-served (record {
+        stretched-served false (record {
           keyed = written .0;
+          long = to-open keyLen;
           counter = written .1 .values .block;
           short = short;
           output = room ∙ sym (s .size);

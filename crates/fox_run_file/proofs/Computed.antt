@@ -7,7 +7,7 @@ use mathlib.Core.List.{List, [], _∷_, _++_}
 use Prim.Native.Nat.{ℕ}
 use Prim.Native.String.{String}
 use lib.ListN.{replicate}
-use Rattle.fox_refusals.specs.Refusals.{refusalOf, blockSize, wrongCipher, wrongRounds, longKey, wrongBlockLength, forKey}
+use Rattle.fox_refusals.specs.Refusals.{refusalOf, blockSize, wrongCipher, wrongRounds, longKey, shortKey, wrongBlockLength, forKey, forTurn}
 use Rattle.fox_text.specs.Ascii.{codes, ascii, startsWith}
 use Rattle.fox_text.specs.Lines.{lineEnd, afterLine}
 use Rattle.fox_text.specs.Rules.{isLine}
@@ -51,16 +51,18 @@ unfolding blockSize codes ascii startsWith lineEnd afterLine isLine allDigits on
 known-headers rks = refl
 
 pub known-written :
-    -- 1 before 2 before 3 before 4 before 12 before 6, and room for the file, of 87 bytes where it has no scan
+    -- 1 before 2 before 3 before 13 before 4 before 12 before 6, and room for the file, of 87 bytes where it has no scan
     (refusalOf (forWrite 65 11 32 8 0 [] 0) ∷ refusalOf (forWrite 64 256 33 8 0 [] 0) ∷ refusalOf (forWrite 64 12 33 7 0 [] 0) ∷ [])
+    ++ (refusalOf (forWrite 64 11 15 8 0 [] 87) ∷ refusalOf (forWrite 64 12 15 7 0 [] 87) ∷ refusalOf (forWrite 64 12 0 8 0 [] 87) ∷ [])
+    ++ (refusalOf (forWrite 64 12 15 8 0 [] 87) ∷ refusalOf (forWrite 64 12 16 8 0 [] 87) ∷ [])
     ++ (refusalOf (forWrite 64 12 32 7 1 [] 87) ∷ refusalOf (forWrite 64 12 32 8 1 [] 86) ∷ refusalOf (forWrite 64 12 32 8 0 [] 86) ∷ [])
     ++ (refusalOf (forWrite 64 12 32 8 0 [] 87) ∷ refusalOf (forWrite 64 12 32 8 0 [] 88) ∷ [])
     -- 12: lengths that do not add up, a scan of 65,537 bytes, 65,536 scans
     ++ (refusalOf (forWrite 64 12 32 8 2 (1 ∷ 2 ∷ []) 200) ∷ refusalOf (forWrite 64 12 32 8 3 (1 ∷ 2 ∷ []) 200) ∷ [])
     ++ (refusalOf (forSize 65 11 (65537 ∷ [])) ∷ refusalOf (forSize 64 11 (65537 ∷ [])) ∷ refusalOf (forSize 64 12 (65537 ∷ [])) ∷ [])
     ++ (refusalOf (forSize 64 12 (65536 ∷ [])) ∷ refusalOf (forSize 64 12 (replicate 65536 0)) ∷ [])
-    ≡ (1 ∷ 2 ∷ 3 ∷ []) ++ (4 ∷ 12 ∷ 6 ∷ []) ++ (0 ∷ 0 ∷ []) ++ (12 ∷ 0 ∷ []) ++ (1 ∷ 2 ∷ 12 ∷ []) ++ (0 ∷ 12 ∷ [])
+    ≡ (1 ∷ 2 ∷ 3 ∷ []) ++ (2 ∷ 13 ∷ 13 ∷ []) ++ (13 ∷ 0 ∷ []) ++ (4 ∷ 12 ∷ 6 ∷ []) ++ (0 ∷ 0 ∷ []) ++ (12 ∷ 0 ∷ []) ++ (1 ∷ 2 ∷ 12 ∷ []) ++ (0 ∷ 12 ∷ [])
 unfolding blockSize codes ascii digitsText decimalLineText cipherName roundsName formatText counterName scanName bytesName scansName closeName keyLines
     scanHead blockLineSize headerSize scanSize scansSize unclosedSize fileSize total anyAbove pastLimit refusalOf wrongCipher wrongRounds longKey
-    wrongBlockLength forKey largeFile wrongSizes smallOutput forSize forWrite
+    shortKey wrongBlockLength forKey forTurn largeFile wrongSizes smallOutput forSize forWrite
 known-written = refl

@@ -3,7 +3,7 @@
 -- Assumes nothing.
 use mathlib.Core.Path.{_≡_}
 use Prim.Native.Nat.{ℕ}
-use mathlib.Core.Bool.{cond, _&&_}
+use mathlib.Core.Bool.{false, cond, _&&_}
 use mathlib.Core.List.{List}
 use lib.Dec.{eqb}
 use lib.ListN.{length}
@@ -49,10 +49,10 @@ pub record TakesUpWith (cipher rounds keyLen : ℕ) (rks file : List ℕ) (r : T
 unfoldable pub nextAt : List ℕ → Place → Next
 nextAt file place = cond (atScan file place) (next.Scan (sizeAt file place)) next.End
 
--- the refusal of reading the scan at a place into a buffer of so many bytes: that of a call on its stretch of the run
+-- the refusal of reading the scan at a place into a buffer of so many bytes: that of a call that opens its stretch of the run
 unfoldable pub readRefusal : ℕ → ℕ → ℕ → List ℕ → Place → ℕ → ℕ
 readRefusal cipher rounds keyLen file place outLen =
-    refusalOf (forRun cipher rounds keyLen (length (counterIn cipher rounds file)) (place .offset) (sizeAt file place) outLen)
+    refusalOf (forRun false cipher rounds keyLen (length (counterIn cipher rounds file)) (place .offset) (sizeAt file place) outLen)
 
 unfoldable pub readAt : ℕ → ℕ → ℕ → List ℕ → Place → ℕ → Read
 readAt cipher rounds keyLen file place outLen =

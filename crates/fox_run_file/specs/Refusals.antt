@@ -1,4 +1,5 @@
--- The refusals of the run file's calls (02, order 4), in their order. 1 to 3 are those of the key, 4 of the counter block, 10 of a tag.
+-- The refusals of the run file's calls (02, order 4), in their order. 1 to 3 are those of the key, 13 that of a short key to seal with, 4 of the counter block,
+-- 10 of a tag.
 -- Assumes nothing.
 use mathlib.Core.Path.{_≡_}
 use mathlib.Core.Logic.{_⊎_}
@@ -6,7 +7,7 @@ use Prim.Native.Nat.{ℕ}
 use mathlib.Core.Bool.{true, not, _||_}
 use mathlib.Core.List.{List, [], _∷_, _++_}
 use lib.Dec.{ltb}
-use Rattle.fox_refusals.specs.Refusals.{Refusal, differs, wrongCipher, wrongRounds, wrongBlockLength, otherTag, forKey, Keyed}
+use Rattle.fox_refusals.specs.Refusals.{Refusal, differs, wrongCipher, wrongRounds, wrongBlockLength, otherTag, forKey, forTurn, Keyed}
 use Rattle.fox_tag.specs.Tag.{tagWith}
 use Rattle.fox_run_file.specs.Sizes.{total, fileSize, pastLimit}
 use Rattle.fox_run_file.specs.Says.{isHeader, isRest, beforeClose, closeIn}
@@ -34,10 +35,10 @@ brokenRest cipher rounds file = record { number = 12; applies = not (isRest ciph
 unfoldable pub forSize : ℕ → ℕ → List ℕ → List Refusal
 forSize cipher rounds sizes = wrongCipher cipher ∷ wrongRounds rounds ∷ largeFile cipher rounds sizes ∷ []
 
--- the refusals of a call that writes a file
+-- the refusals of a call that writes a file, which seals
 unfoldable pub forWrite : ℕ → ℕ → ℕ → ℕ → ℕ → List ℕ → ℕ → List Refusal
 forWrite cipher rounds keyLen counterLen inputLen sizes outLen =
-    forKey cipher rounds keyLen
+    forTurn true cipher rounds keyLen
     ++ (wrongBlockLength cipher counterLen ∷ wrongSizes cipher rounds sizes inputLen ∷ smallOutput cipher rounds sizes outLen ∷ [])
 
 -- the refusals of a call that takes up a file

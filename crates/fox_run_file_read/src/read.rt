@@ -26,6 +26,7 @@ pub fn read_at(p: Prepared, file: &[u8], place: Place, out: &mut [u8]) -> Read
     let first = place.at + s.head;
     let end = first + s.size;
     let answer = run(
+        false,
         p,
         &counter[..n],
         place.offset as u64,

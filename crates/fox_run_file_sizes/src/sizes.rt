@@ -11,6 +11,7 @@ ghost use Rattle.fox_run_file_sizes.specs.Added.{Added};
 use fox_refusals::answer::Answer;
 use fox_refusals::refusals::block_size;
 use fox_refusals::refusals::for_key;
+use fox_refusals::refusals::for_turn;
 use fox_refusals::refusals::or_else;
 use fox_run_file::sizes::Sizes;
 
@@ -139,7 +140,7 @@ pub fn for_write(
 ) -> Answer
     ensures { λ r. ⌜ MayWrite cipher rounds «key_len» «counter_len» «input_len» (now (sizes .entry)) «out_len» r ⌝ }
 {
-    let of_key = for_key(cipher, rounds, key_len);
+    let of_key = for_turn(true, cipher, rounds, key_len);
     let block = block_size(cipher);
     let of_counter = or_else(of_key, counter_len != block, 4);
     if of_counter != 0 {

@@ -6,7 +6,7 @@ use mathlib.Core.List.{List}
 use Prim.Native.Nat.{ℕ}
 use lib.ListN.{length}
 use Rattle.fox_key_schedule.specs.Schedule.{roundKeys}
-use Rattle.fox_refusals.specs.Refusals.{refusalOf, wrongCipher, forKey, Keyed}
+use Rattle.fox_refusals.specs.Refusals.{refusalOf, wrongCipher, forKey, forTurn, Keyed}
 use Rattle.fox_refusals.specs.declared.answer.Answer.{Answer}
 use Rattle.fox_server_key.specs.Prepared.{Prepares, roundKeysIn}
 use Rattle.fox_server_key.specs.declared.prepared.Preparation.{Preparation}
@@ -23,7 +23,7 @@ module _ (c rounds : ℕ) (key counter input sizes : List ℕ) (made : Preparati
       is call
 
   pub write-refused : (made .answer .refusal ≡ 0 → ⊥) → r .refusal ≡ 1
-  unfolding refusalOf forKey forWrite wrongCipher
+  unfolding refusalOf forKey forTurn forWrite wrongCipher
   write-refused isnt =
       call .refusal
       ∙ ap (λ (cipher : ℕ). refusalOf (forWrite cipher (made .key .rounds) (made .key .«key_len») (length counter) (length input) sizes (length before)))

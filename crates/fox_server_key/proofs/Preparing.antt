@@ -6,7 +6,7 @@ use mathlib.Core.Bool.{Bool}
 use mathlib.Core.List.{List}
 use Prim.Native.Nat.{ℕ, zero, suc, _*_}
 use lib.ListN.{length, getD, replicate}
-use Rattle.fox_refusals.specs.Refusals.{refusalOf, wrongCipher, forKey, forBlock, Keyed}
+use Rattle.fox_refusals.specs.Refusals.{refusalOf, wrongCipher, forKey, forTurn, forBlock, Keyed}
 use Rattle.fox_refusals.specs.declared.answer.Answer.{Answer}
 use Rattle.fox_refusals.proofs.Laws.Refusals.{keyed-served}
 use Rattle.fox_refusals.proofs.Laws.Reply.{chosen, passed-over}
@@ -60,7 +60,7 @@ module _ (c rounds : ℕ) (key : List ℕ) (r : Preparation) (is : Prepares c ro
     -- a block with it is refused with 1
     pub block-refused : (d : Bool) (block : List ℕ) {before after : List ℕ} {s : Answer}
         → TurnsWith d (r .key .cipher) (r .key .rounds) (r .key .«key_len») (roundKeysIn (r .key)) block before after s → s .refusal ≡ 1
-    unfolding refusalOf forKey forBlock wrongCipher
+    unfolding refusalOf forKey forTurn forBlock wrongCipher
     block-refused d block {before} call =
         call .refusal
         ∙ ap (λ (cipher : ℕ). refusalOf (forBlock d cipher (r .key .rounds) (r .key .«key_len») (length block) (length before))) (key-refused .cipher)

@@ -34,11 +34,19 @@ pub fn stretch(
 }
 
 // From a prepared key: the answer is that of the round keys it holds, also where the caller filled it.
-pub fn run(p: Prepared, counter: &[u8], offset: u64, input: &[u8], out: &mut [u8]) -> Answer
-    ensures { λ r. ⌜ RunsWith (p .cipher) (p .rounds) (p .«key_len») (roundKeysIn p) (now (counter .entry)) offset (now (input .entry))
+pub fn run(
+    sealing: bool,
+    p: Prepared,
+    counter: &[u8],
+    offset: u64,
+    input: &[u8],
+    out: &mut [u8],
+) -> Answer
+    ensures { λ r. ⌜ RunsWith sealing (p .cipher) (p .rounds) (p .«key_len») (roundKeysIn p) (now (counter .entry)) offset (now (input .entry))
         (now (out .entry)) (now (out .exit)) r ⌝ }
 {
     let refusal = for_run(
+        sealing,
         p.cipher,
         p.rounds,
         p.key_len,
@@ -59,6 +67,7 @@ pub fn run(p: Prepared, counter: &[u8], offset: u64, input: &[u8], out: &mut [u8
 
 // From key bytes; the key is prepared within the call.
 pub fn run_from_key(
+    sealing: bool,
     cipher: u32,
     rounds: u32,
     key: &[u8],
@@ -67,9 +76,10 @@ pub fn run_from_key(
     input: &[u8],
     out: &mut [u8],
 ) -> Answer
-    ensures { λ r. ⌜ Runs cipher rounds (now (key .entry)) (now (counter .entry)) offset (now (input .entry)) (now (out .entry)) (now (out .exit)) r ⌝ }
+    ensures { λ r. ⌜ Runs sealing cipher rounds (now (key .entry)) (now (counter .entry)) offset (now (input .entry)) (now (out .entry)) (now (out .exit)) r ⌝ }
 {
     let refusal = for_run(
+        sealing,
         cipher,
         rounds,
         key.len(),
@@ -83,5 +93,5 @@ pub fn run_from_key(
     }
     let made = prepare(cipher, rounds, key);
     let p = made.key;
-    run(p, counter, offset, input, out)
+    run(sealing, p, counter, offset, input, out)
 }

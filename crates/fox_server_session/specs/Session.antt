@@ -3,6 +3,7 @@
 -- Assumes nothing.
 use mathlib.Core.Path.{_≡_}
 use Prim.Native.Nat.{ℕ}
+use mathlib.Core.Bool.{Bool, false}
 use mathlib.Core.List.{List}
 use Rattle.fox_refusals.specs.declared.answer.Answer.{Answer}
 use Rattle.fox_session.specs.declared.Here.{Here}
@@ -16,7 +17,8 @@ use Rattle.fox_server_session.specs.declared.session.Session.{Session}
 
 -- what stays the same in a session
 abbrev pub basisOf : Session → Basis
-basisOf s = record { cipher = s .key .cipher; rounds = s .key .rounds; «key_len» = s .key .«key_len»; counter = s .counter }
+basisOf s =
+    record { sealing = s .sealing; cipher = s .key .cipher; rounds = s .key .rounds; «key_len» = s .key .«key_len»; counter = s .counter }
 
 abbrev pub machineOf : Session → Machine
 machineOf s = machineAt (basisOf s) (s .key .keys) (s .here)
@@ -26,20 +28,21 @@ TrueOf s = TrueAt (basisOf s) (s .key .keys) (s .here)
 
 -- the same session elsewhere
 abbrev pub sessionAt : Session → Here → Session
-sessionAt s here = record { key = s .key; counter = s .counter; here = here }
+sessionAt s here = record { key = s .key; counter = s .counter; here = here; sealing = s .sealing }
 
--- the session of a refused start: all zeros
+-- the session of a refused start: all zeros, which is for opening
 unfoldable pub noSession : Session
 noSession =
     record {
       key = noKey;
       counter = record { left = 0; right = 0 };
       here = record { position = 0; block = record { left = 0; right = 0 } };
+      sealing = false;
     }
 
 -- a start whose session, where it is served, holds this prepared key
-pub record Begins (p : Prepared) (cipher rounds keyLen : ℕ) (rks counter : List ℕ) (r : Answer) (s : Session) : Type 0 where
-  pub starts : Starts machineOf TrueOf noSession cipher rounds keyLen rks counter r s
+pub record Begins (sealing : Bool) (p : Prepared) (cipher rounds keyLen : ℕ) (rks counter : List ℕ) (r : Answer) (s : Session) : Type 0 where
+  pub starts : Starts machineOf TrueOf noSession sealing cipher rounds keyLen rks counter r s
   pub key : r .refusal ≡ 0 → s .key ≡ p
 
 -- a call on a session that is changed where the caller has it: it follows the plain machine, and nothing but where the session stands is changed

@@ -1,5 +1,5 @@
-// A session as one value: the prepared key, the first counter block, and where it stands. A call takes the session and returns where it then stands; in the
-// crate fox_session_in_place a call changes the session where the caller has it.
+// A session as one value: the prepared key, the first counter block, where it stands, and whether it was started for sealing or for opening. A call takes the
+// session and returns where it then stands; in the crate fox_session_in_place a call changes the session where the caller has it.
 ghost use mathlib.Core.Path.{_≡_};
 ghost use mathlib.Core.List.{[]};
 ghost use lib.ListN.{length};
@@ -26,6 +26,7 @@ pub struct Session {
     pub key: Prepared,
     pub counter: Pair,
     pub here: Here,
+    pub sealing: bool,
 }
 
 // What a start returns; the count is 0.
@@ -48,6 +49,7 @@ fn zeros() -> Session
         key: none,
         counter: nothing,
         here,
+        sealing: false,
     }
 }
 
@@ -61,10 +63,19 @@ fn refused(refusal: u32) -> Started
 }
 
 // From a prepared key: the session is that of the round keys it holds, also where the caller filled it.
-pub fn start(p: Prepared, counter: &[u8]) -> Started
-    ensures { λ r. ⌜ Begins p (p .cipher) (p .rounds) (p .«key_len») (roundKeysIn p) (now (counter .entry)) (r .answer) (r .session) ⌝ }
+pub fn start(sealing: bool, p: Prepared, counter: &[u8]) -> Started
+    ensures { λ r. ⌜ Begins sealing p (p .cipher) (p .rounds) (p .«key_len») (roundKeysIn p) (now (counter .entry)) (r .answer) (r .session) ⌝ }
 {
-    let refusal = for_run(p.cipher, p.rounds, p.key_len, counter.len(), 0, 0, 0);
+    let refusal = for_run(
+        sealing,
+        p.cipher,
+        p.rounds,
+        p.key_len,
+        counter.len(),
+        0,
+        0,
+        0,
+    );
     if refusal != 0 {
         return refused(refusal);
     }
@@ -76,23 +87,30 @@ pub fn start(p: Prepared, counter: &[u8]) -> Started
         key: p,
         counter: first,
         here,
+        sealing,
     };
     let answer = Answer::served(0);
     Started { answer, session }
 }
 
 // From key bytes; the key is prepared within the call.
-pub fn start_from_key(cipher: u32, rounds: u32, key: &[u8], counter: &[u8]) -> Started
-    ensures { λ r. ⌜ Begins (preparedKey cipher rounds (now (key .entry))) cipher rounds (length (now (key .entry)))
+pub fn start_from_key(
+    sealing: bool,
+    cipher: u32,
+    rounds: u32,
+    key: &[u8],
+    counter: &[u8],
+) -> Started
+    ensures { λ r. ⌜ Begins sealing (preparedKey cipher rounds (now (key .entry))) cipher rounds (length (now (key .entry)))
         (roundKeys cipher rounds (now (key .entry))) (now (counter .entry)) (r .answer) (r .session) ⌝ }
 {
-    let refusal = for_run(cipher, rounds, key.len(), counter.len(), 0, 0, 0);
+    let refusal = for_run(sealing, cipher, rounds, key.len(), counter.len(), 0, 0, 0);
     if refusal != 0 {
         return refused(refusal);
     }
     let made = prepare(cipher, rounds, key);
     let p = made.key;
-    start(p, counter)
+    start(sealing, p, counter)
 }
 
 fn basis_of(s: Session) -> Basis
@@ -101,6 +119,7 @@ fn basis_of(s: Session) -> Basis
     let key = s.key;
     let counter = s.counter;
     Basis {
+        sealing: s.sealing,
         cipher: key.cipher,
         rounds: key.rounds,
         key_len: key.key_len,

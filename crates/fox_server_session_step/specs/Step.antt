@@ -17,6 +17,7 @@ use Rattle.fox_server_session_step.specs.declared.step.Basis.{Basis}
 unfoldable pub machineAt : Basis → List ℕ → Here → Machine
 machineAt b keys here =
     record {
+      sealing = b .sealing;
       cipher = b .cipher;
       rounds = b .rounds;
       keyLen = b .«key_len»;

@@ -20,8 +20,9 @@ use fox_server_session_block::block::xor_block;
 use fox_session::Here;
 use fox_session::Pair;
 
-// What stays the same in a session, but for the round keys.
+// What stays the same in a session, but for the round keys: whether it seals or opens among it.
 pub struct Basis {
+    pub sealing: bool,
     pub cipher: u32,
     pub rounds: u32,
     pub key_len: usize,
@@ -133,6 +134,7 @@ pub fn advance(b: Basis, keys: &[u64], here: Here, input: &[u8], out: &mut [u8])
 {
     let size = block_size(b.cipher);
     let refusal = for_run(
+        b.sealing,
         b.cipher,
         b.rounds,
         b.key_len,
@@ -160,7 +162,7 @@ pub fn move_to(b: Basis, keys: &[u64], here: Here, to: u64) -> Step
         (r .answer) (r .here) ⌝ }
 {
     let size = block_size(b.cipher);
-    let refusal = for_run(b.cipher, b.rounds, b.key_len, size, to, 0, 0);
+    let refusal = for_run(b.sealing, b.cipher, b.rounds, b.key_len, size, to, 0, 0);
     if refusal != 0 {
         return refused(refusal, here);
     }

@@ -2,15 +2,16 @@
 -- Assumes nothing.
 use mathlib.Core.Path.{_≡_, refl}
 use Prim.Native.Nat.{ℕ}
+use mathlib.Core.Bool.{Bool, true, false}
 use mathlib.Core.List.{List, [], _∷_, _++_}
 use lib.ListN.{length, replicate}
-use Rattle.fox_refusals.specs.Refusals.{refusalOf, blockSize, wrongCipher, wrongRounds, longKey, wrongBlockLength, longData, wrongOutputLength, pastEnd}
-use Rattle.fox_refusals.specs.Refusals.{forKey, forStretch, forRun}
+use Rattle.fox_refusals.specs.Refusals.{refusalOf, blockSize, wrongCipher, wrongRounds, longKey, shortKey, wrongBlockLength, longData, wrongOutputLength}
+use Rattle.fox_refusals.specs.Refusals.{pastEnd, forKey, forTurn, forStretch, forRun}
 use Rattle.fox_session.specs.Machine.{Machine, Call, Advance, Move, tells, after}
 
--- a machine of FOX64 at a position
+-- a machine of FOX64 at a position, for sealing
 abbrev at : ℕ → Machine
-at position = record { cipher = 64; rounds = 16; keyLen = 16; rks = []; counter = replicate 8 0; position = position }
+at position = record { sealing = true; cipher = 64; rounds = 16; keyLen = 16; rks = []; counter = replicate 8 0; position = position }
 
 -- refusal, count and the next position of a call
 abbrev says : Machine → Call → List ℕ
@@ -30,30 +31,35 @@ pub known :
     ++ says (at 9) (Move 2) ++ says (at 2) (Move 9) ++ says (at 9) (Move 1073741824) ++ says (at 9) (Move 1073741825)
     ++ says (at 9) (Move 18446744073709551615) ++ says (at 1073741824) (Move 0)
     -- the machine of a refused start
-    ++ says (record { cipher = 0; rounds = 0; keyLen = 0; rks = []; counter = []; position = 0 }) (Move 0)
+    ++ says (record { sealing = false; cipher = 0; rounds = 0; keyLen = 0; rks = []; counter = []; position = 0 }) (Move 0)
     ≡ (0 ∷ 0 ∷ 0 ∷ []) ++ (0 ∷ 3 ∷ 3 ∷ []) ++ (0 ∷ 2 ∷ 9 ∷ []) ++ (0 ∷ 4 ∷ 1073741824 ∷ []) ++ (0 ∷ 0 ∷ 1073741824 ∷ [])
     ++ (7 ∷ 0 ∷ 1073741821 ∷ []) ++ (7 ∷ 0 ∷ 1073741824 ∷ []) ++ (7 ∷ 0 ∷ 1073741825 ∷ [])
     ++ (6 ∷ 0 ∷ 1073741824 ∷ []) ++ (6 ∷ 0 ∷ 5 ∷ [])
     ++ (0 ∷ 0 ∷ 2 ∷ []) ++ (0 ∷ 0 ∷ 9 ∷ []) ++ (0 ∷ 0 ∷ 1073741824 ∷ []) ++ (7 ∷ 0 ∷ 9 ∷ [])
     ++ (7 ∷ 0 ∷ 9 ∷ []) ++ (0 ∷ 0 ∷ 0 ∷ [])
     ++ (1 ∷ 0 ∷ 0 ∷ [])
-unfolding refusalOf blockSize wrongCipher wrongRounds longKey wrongBlockLength longData wrongOutputLength pastEnd forKey forStretch forRun
+unfolding refusalOf blockSize wrongCipher wrongRounds longKey shortKey wrongBlockLength longData wrongOutputLength pastEnd forKey forTurn forStretch forRun
 known = refl
 
--- the other refusals, in their order
+-- a machine that was started for sealing or for opening, whose key has so many bytes
+abbrev of : Bool → ℕ → ℕ → ℕ → List ℕ → ℕ → Machine
+of sealing cipher rounds keyLen counter position =
+    record { sealing = sealing; cipher = cipher; rounds = rounds; keyLen = keyLen; rks = []; counter = counter; position = position }
+
+-- the other refusals, in their order; 13 on sealing alone
 pub known-first :
-    tells (record { cipher = 65; rounds = 11; keyLen = 33; rks = []; counter = []; position = 0 }) (bytes 1) .refusal
-    ∷ tells (record { cipher = 64; rounds = 11; keyLen = 33; rks = []; counter = []; position = 0 }) (bytes 1) .refusal
-    ∷ tells (record { cipher = 64; rounds = 12; keyLen = 33; rks = []; counter = []; position = 0 }) (bytes 1) .refusal
-    ∷ tells (record { cipher = 64; rounds = 12; keyLen = 32; rks = []; counter = []; position = 1073741825 }) (bytes 1) .refusal
-    ∷ tells (record { cipher = 128; rounds = 12; keyLen = 32; rks = []; counter = replicate 16 0; position = 1073741825 }) (bytes 1) .refusal ∷ []
-    ≡ 1 ∷ 2 ∷ 3 ∷ 4 ∷ 7 ∷ []
-unfolding refusalOf blockSize wrongCipher wrongRounds longKey wrongBlockLength longData wrongOutputLength pastEnd forKey forStretch forRun
+    tells (of true 65 11 33 [] 0) (bytes 1) .refusal ∷ tells (of true 64 11 33 [] 0) (bytes 1) .refusal ∷ tells (of true 64 12 33 [] 0) (bytes 1) .refusal
+    ∷ tells (of true 64 12 15 [] 1073741825) (bytes 1) .refusal ∷ tells (of true 64 12 0 (replicate 8 0) 0) (Move 1073741825) .refusal
+    ∷ tells (of true 64 12 32 [] 1073741825) (bytes 1) .refusal ∷ tells (of false 64 12 15 [] 1073741825) (bytes 1) .refusal
+    ∷ tells (of true 128 12 32 (replicate 16 0) 1073741825) (bytes 1) .refusal ∷ tells (of true 128 12 16 (replicate 16 0) 0) (bytes 1) .refusal
+    ∷ tells (of false 128 12 15 (replicate 16 0) 0) (bytes 1) .refusal ∷ tells (of false 64 12 0 (replicate 8 0) 0) (Move 1073741825) .refusal ∷ []
+    ≡ 1 ∷ 2 ∷ 3 ∷ 13 ∷ 13 ∷ 4 ∷ 4 ∷ 7 ∷ 0 ∷ 0 ∷ 7 ∷ []
+unfolding refusalOf blockSize wrongCipher wrongRounds longKey shortKey wrongBlockLength longData wrongOutputLength pastEnd forKey forTurn forStretch forRun
 known-first = refl
 
 -- 65,536 bytes in a call, and one more, which is told before the output's length and the run's end
 pub known-long :
     tells (at 0) (bytes 65536) .refusal ∷ tells (at 0) (bytes 65537) .refusal ∷ tells (at 1073741824) (Advance (replicate 65537 0) []) .refusal ∷ []
     ≡ 0 ∷ 5 ∷ 5 ∷ []
-unfolding refusalOf blockSize wrongCipher wrongRounds longKey wrongBlockLength longData wrongOutputLength pastEnd forKey forStretch forRun
+unfolding refusalOf blockSize wrongCipher wrongRounds longKey shortKey wrongBlockLength longData wrongOutputLength pastEnd forKey forTurn forStretch forRun
 known-long = refl

@@ -4,7 +4,7 @@
 use mathlib.Core.Path.{_≡_, refl, sym, ap, subst, _∙_}
 use Prim.Native.Nat.{ℕ, _+_, _≤_}
 use mathlib.Core.List.{List}
-use mathlib.Core.Bool.{cond}
+use mathlib.Core.Bool.{Bool, cond}
 use lib.Dec.{eqb}
 use lib.ListN.{length, take, drop}
 use Rattle.fox_refusals.specs.Reply.{Served}
@@ -23,7 +23,7 @@ use Rattle.fox_session.proofs.Lists.{advance-runs}
 module _ {S : Type 0} (machine : S → Machine) (True : S → Type 0) where
   -- the calls on stretches that a machine's advances are
   abbrev Runs : Machine → ℕ → List ℕ → List ℕ → List ℕ → Answer → Type 0
-  Runs m n ds before after r = RunsWith (m .cipher) (m .rounds) (m .keyLen) (m .rks) (m .counter) n ds before after r
+  Runs m n ds before after r = RunsWith (m .sealing) (m .cipher) (m .rounds) (m .keyLen) (m .rks) (m .counter) n ds before after r
 
   -- where an advance that was served leaves the machine
   advanced : {s s' : S} {ds before output : List ℕ} {r : Answer} → True s → Follows machine True s (Advance ds before) output r s' → r .refusal ≡ 0
@@ -31,7 +31,7 @@ module _ {S : Type 0} (machine : S → Machine) (True : S → Type 0) where
   advanced {s} {s'} {ds} t f e =
       let m = machine s in
       f .goes ∙ ap (λ (n : ℕ). standing m (m .position + n))
-      (sym (f .count) ∙ call-did (m .cipher) (m .rounds) (m .keyLen) (m .rks) (m .counter) (m .position) ds (advance-runs machine True t f) e .count)
+      (sym (f .count) ∙ call-did (m .sealing) (m .cipher) (m .rounds) (m .keyLen) (m .rks) (m .counter) (m .position) ds (advance-runs machine True t f) e .count)
 
   advances-run : {s s' : S} {inputs outputs : List ℕ} (m : Machine) (n : ℕ) → machine s ≡ standing m n → True s
       → Advances machine True s inputs outputs s' → CallsOf (Runs m) n inputs outputs
@@ -45,7 +45,8 @@ module _ {S : Type 0} (machine : S → Machine) (True : S → Type 0) where
       → outputs ≡ runWith (machine s .cipher) (machine s .rks) (machine s .counter) (machine s .position) inputs
   advances-joined {s} t made =
       let m = machine s in
-      cuts-joined (m .cipher) (m .rounds) (m .keyLen) (m .rks) (m .counter) (Runs m) (λ n ds before after r call. call)
+      cuts-joined (m .cipher) (m .rounds) (m .keyLen) (m .rks) (m .counter)
+      (λ (d : Bool). RunsWith d (m .cipher) (m .rounds) (m .keyLen) (m .rks) (m .counter)) (λ d n ds before after r call. call) (m .sealing)
       (advances-run m (m .position) refl t made)
 
   -- where a move that was served leaves the machine
@@ -62,7 +63,7 @@ module _ {S : Type 0} (machine : S → Machine) (True : S → Type 0) where
   moved-stretch {s} whole k m {before = before} {output} {q} {r} t f e g long fits short room =
       let a = machine s in
       let at = moved f e in
-      let ready = stretched (a .cipher) (a .rounds) (a .keyLen) (length (a .counter)) k 0 0 (sym (f .refusal) ∙ e) in
+      let ready = stretched (a .sealing) (a .cipher) (a .rounds) (a .keyLen) (length (a .counter)) k 0 0 (sym (f .refusal) ∙ e) in
       let call : Runs a k (take m (drop k whole)) before output r =
       subst (λ (b : Machine). Runs b (b .position) (take m (drop k whole)) before output r) at (advance-runs machine True (f .true t) g) in
-      stretch-opened-alone (a .cipher) (a .rounds) (a .keyLen) (a .rks) (a .counter) whole k m (ready .keyed) (ready .counter) long fits short room call
+      stretch-opened-alone (a .sealing) (a .cipher) (a .rounds) (a .keyLen) (a .rks) (a .counter) whole k m (ready .keyed) (ready .long) (ready .counter) long fits short room call

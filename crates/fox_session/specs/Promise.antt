@@ -3,19 +3,20 @@
 -- Assumes nothing.
 use mathlib.Core.Path.{_≡_}
 use Prim.Native.Nat.{ℕ}
+use mathlib.Core.Bool.{Bool}
 use mathlib.Core.List.{List, [], _∷_, _++_}
 use lib.ListN.{length}
 use Rattle.fox_refusals.specs.Refusals.{refusalOf, forRun}
 use Rattle.fox_refusals.specs.declared.answer.Answer.{Answer}
 use Rattle.fox_session.specs.Machine.{Machine, atStart, Call, Advance, Told, lent, tells, after}
 
--- a start, from cipher, rounds, key length, a list of round keys and the counter block: refused as a stretch of no bytes at the run's start is; count 0; a
--- session at position 0 with its block, or `none` where it is refused
-pub record Starts {S : Type 0} (machine : S → Machine) (True : S → Type 0) (none : S) (cipher rounds keyLen : ℕ) (rks counter : List ℕ) (r : Answer)
-    (s : S) : Type 0 where
-  pub refusal : r .refusal ≡ refusalOf (forRun cipher rounds keyLen (length counter) 0 0 0)
+-- a start for sealing or for opening, from cipher, rounds, key length, a list of round keys and the counter block: refused as a stretch of no bytes at the
+-- run's start is; count 0; a session at position 0 with its block, or `none` where it is refused
+pub record Starts {S : Type 0} (machine : S → Machine) (True : S → Type 0) (none : S) (sealing : Bool) (cipher rounds keyLen : ℕ) (rks counter : List ℕ)
+    (r : Answer) (s : S) : Type 0 where
+  pub refusal : r .refusal ≡ refusalOf (forRun sealing cipher rounds keyLen (length counter) 0 0 0)
   pub count : r .count ≡ 0
-  pub served : r .refusal ≡ 0 → machine s ≡ atStart cipher rounds keyLen rks counter
+  pub served : r .refusal ≡ 0 → machine s ≡ atStart sealing cipher rounds keyLen rks counter
   pub refused : (r .refusal ≡ 0 → ⊥) → s ≡ none
   pub true : True s
 

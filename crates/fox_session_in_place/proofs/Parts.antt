@@ -72,7 +72,7 @@ apart t w =
 
 -- a session and another place own what the session there owns
 elsewhere : (s : Session) (h : Here) (w : World) → ent (w .𝓤) (meaning w (‵ (Own s) ⊛ ‵ (Stands h))) (meaning w (‵ (Own (sessionAt s h))))
-elsewhere s h w = own-put (w .𝓤) (w .H) (w .𝓖 .A) (W w) S.the-type S′.the-laws 2 (s .key, (s .counter, (s .here, tt))) h (session .val s)
+elsewhere s h w = own-put (w .𝓤) (w .H) (w .𝓖 .A) (W w) S.the-type S′.the-laws 2 (s .key, (s .counter, (s .here, (s .sealing, tt)))) h (session .val s)
 
 pub twice : (s : Session) (w : World) → ent (w .𝓤) (meaning w (‵ (Own s))) (meaning w (‵ (Own s) ⊛ ‵ (Own s)))
 twice s w = LL.copy S.the-type S′.the-copy (w .𝓤) (w .H) (w .𝓖 .A) (W w) .twice s (session .val s ∷ [])

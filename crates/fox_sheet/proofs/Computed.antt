@@ -1,9 +1,10 @@
 -- Sheets and what is printed for them, computed by the definitions: sheets with each line in turn malformed as 01 names it, and sheets whose block is
--- refused, where the lowest refusal number comes first. Sheets whose block is served are in `fox_check_sheet`.
+-- refused, where the refusal that comes first is printed. Sheets whose block is served are in `fox_check_sheet`.
 -- Assumes nothing.
 use mathlib.Core.Path.{refl}
 use mathlib.Core.List.{_++_}
-use Rattle.fox_refusals.specs.Refusals.{refusalOf, blockSize, wrongCipher, wrongRounds, longKey, wrongBlockLength, wrongOutputLength, forKey, forBlock}
+use Rattle.fox_refusals.specs.Refusals.{refusalOf, blockSize, wrongCipher, wrongRounds, longKey, shortKey, wrongBlockLength, wrongOutputLength}
+use Rattle.fox_refusals.specs.Refusals.{forKey, forTurn, forBlock}
 use Rattle.fox_text.specs.Ascii.{codes, ascii, startsWith}
 use Rattle.fox_text.specs.Lines.{lineEnd, afterLine, lines}
 use Rattle.fox_text.specs.Rules.{isLine, brokenFrom}
@@ -17,8 +18,8 @@ use Rattle.fox_sheet.specs.Answer.{refusalName, lineName, brokenText, re
 use Rattle.fox_sheet.specs.Examples.{Printed, zeros, broken, refused}
 
 pub printed : Printed (broken ++ refused)
-unfolding broken refused zeros refusalOf blockSize wrongCipher wrongRounds longKey wrongBlockLength wrongOutputLength forKey forBlock codes ascii
-    startsWith lineEnd
+unfolding broken refused zeros refusalOf blockSize wrongCipher wrongRounds longKey shortKey wrongBlockLength wrongOutputLength forKey forTurn forBlock
+    codes ascii startsWith lineEnd
     afterLine lines isLine brokenFrom allDigits onward begins inRange isDecimal digitsText allHex nibble pairsOf isDecimalLine isPairsLine
     decimalIn pairsIn decimalLineText cipherName roundsName keyName sealWay openWay blockName isWayLine settingTests taskTests brokenLine
     said valuesOf refusalName lineName brokenText refusal blockText answerOf

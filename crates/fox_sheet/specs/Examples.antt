@@ -50,6 +50,11 @@ refused =
     ∷ (ascii "cipher=128\nrounds=256\nkey=\nway=open\nblock=0123456789ABCDEF\n", "refusal=2\n")
     ∷ (ascii "cipher=64\nrounds=12\nkey=" ++ zeros 33 ++ ascii "\nway=seal\nblock=\n", "refusal=3\n")
     ∷ (ascii "cipher=64\nrounds=255\nkey=" ++ zeros 64 ++ ascii "\nway=open\nblock=0123456789ABCDEF\n", "refusal=3\n")
+    ∷ (ascii "cipher=64\nrounds=11\nkey=00112233\nway=seal\nblock=0123456789ABCDEF\n", "refusal=2\n")
+    ∷ (ascii "cipher=64\nrounds=16\nkey=0011223344556677\nway=seal\nblock=0123456789ABCDEF\n", "refusal=13\n")
+    ∷ (ascii "cipher=128\nrounds=12\nkey=" ++ zeros 15 ++ ascii "\nway=seal\nblock=\n", "refusal=13\n")
+    ∷ (ascii "cipher=128\nrounds=12\nkey=" ++ zeros 16 ++ ascii "\nway=seal\nblock=\n", "refusal=4\n")
+    ∷ (ascii "cipher=128\nrounds=12\nkey=" ++ zeros 15 ++ ascii "\nway=open\nblock=\n", "refusal=4\n")
     ∷ (ascii "cipher=64\nrounds=12\nkey=" ++ zeros 32 ++ ascii "\nway=seal\nblock=" ++ zeros 32 ++ ascii "\n", "refusal=4\n")
     ∷ (ascii "cipher=128\nrounds=255\nkey=\nway=open\nblock=0123456789ABCDEF\n", "refusal=4\n")
     ∷ []

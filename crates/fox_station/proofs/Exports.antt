@@ -1,14 +1,14 @@
 -- The theorems on the calls that C programs make, by either engine: what an export returns is a call's reply, so every theorem on calls holds of exports.
 -- Assumes nothing.
 use mathlib.Core.Path.{_≡_, refl, sym, ap, _∙_}
-use mathlib.Core.Bool.{Bool, not, cond}
+use mathlib.Core.Bool.{Bool, true, not, cond}
 use mathlib.Core.List.{List}
 use mathlib.Core.Logic.{_⊎_}
 use Prim.Native.Nat.{ℕ, _+_, _/_, _%_, _^_, _≤_, _<_}
 use lib.Dec.{eqb}
 use lib.ListN.{length, getD, take, drop}
 use Rattle.fox_layers.specs.Words.{_⊕_}
-use Rattle.fox_refusals.specs.Refusals.{Refusal, refusalOf, First, blockSize, Keyed, Stretched, Tagged}
+use Rattle.fox_refusals.specs.Refusals.{Refusal, refusalOf, First, blockSize, Keyed, LongFor, Stretched, Tagged}
 use Rattle.fox_refusals.specs.Reply.{Verdict, Served, Refused, Same}
 use Rattle.fox_refusals.specs.Handed.{Handed, answer}
 use Rattle.fox_refusals.specs.declared.answer.Answer.{Answer}
@@ -17,14 +17,14 @@ use Rattle.fox_refusals.proofs.Laws.Reply.{refused, handed-reply}
 use Rattle.fox_key_schedule.specs.Schedule.{roundKeys}
 use Rattle.fox_block.specs.Block.{turnBlock, sealBlock, BlockOf}
 use Rattle.fox_block.specs.Promise.{TurnedBack}
-use Rattle.fox_block.proofs.Blocks.{block-served, blocks-same, turned-back-calls}
+use Rattle.fox_block.proofs.Blocks.{block-served, short-key-block, blocks-same, turned-back-calls}
 use Rattle.fox_run.specs.Counter.{counterBlock, firstCounter}
 use Rattle.fox_run.specs.Run.{run}
 use Rattle.fox_run.specs.Promise.{Runs}
-use Rattle.fox_run.specs.Cuts.{CallsOf, CutOf}
+use Rattle.fox_run.specs.Cuts.{Call, CallsOf, CutOf}
 use Rattle.fox_run.proofs.Laws.Served.{call-served}
 use Rattle.fox_run.proofs.Bytes.{call-byte}
-use Rattle.fox_run.proofs.Runs.{opened-sealed, runs-same}
+use Rattle.fox_run.proofs.Runs.{opened-sealed, short-key-run, runs-same}
 use Rattle.fox_run.proofs.Numbers.{counter-made, made-apart}
 use Rattle.fox_run.proofs.Stretches.{stretch-opened-alone, cuts-joined, cuts-agree, cuts-undone, cuts-opened, stretch-of-cuts}
 use Rattle.fox_tag.specs.Tag.{tag}
@@ -52,91 +52,113 @@ pub block-exports-agree : (d : Bool) (c rounds : ℕ) (key block : List ℕ) {be
 block-exports-agree d c rounds key block l a b =
     blocks-same d c rounds (length key) (roundKeys c rounds key) block l (handed-reply a) (handed-reply b)
 
-pub run-exports-agree : (c rounds : ℕ) (key counter : List ℕ) (offset : ℕ) (ds : List ℕ) {before₁ before₂ after₁ after₂ : List ℕ} {m n : ℕ}
-    → length before₁ ≡ length before₂ → RunHanded c rounds key counter offset ds before₁ after₁ m → RunHanded c rounds key counter offset ds before₂ after₂ n
+pub run-exports-agree : (d : Bool) (c rounds : ℕ) (key counter : List ℕ) (offset : ℕ) (ds : List ℕ) {before₁ before₂ after₁ after₂ : List ℕ} {m n : ℕ}
+    → length before₁ ≡ length before₂ → RunHanded d c rounds key counter offset ds before₁ after₁ m
+    → RunHanded d c rounds key counter offset ds before₂ after₂ n
     → Same before₁ before₂ after₁ after₂ (answer m (length before₁)) (answer n (length before₂))
-run-exports-agree c rounds key counter offset ds l a b =
-    runs-same c rounds (length key) (roundKeys c rounds key) counter offset ds l (handed-reply a) (handed-reply b)
+run-exports-agree d c rounds key counter offset ds l a b =
+    runs-same c rounds (length key) (roundKeys c rounds key) counter offset ds d l (handed-reply a) (handed-reply b)
 
--- a block of the cipher's size is served, and sealed or opened
-pub block-export-served : (d : Bool) (c rounds : ℕ) (key block : List ℕ) → Keyed c rounds (length key) → length block ≡ blockSize c
-    → {before after : List ℕ} {n : ℕ}
+-- an export that seals with a key under 16 bytes is refused with 13, with nothing else wrong with the key
+
+pub short-key-block-export : (c rounds : ℕ) (key block : List ℕ) {before after : List ℕ} {n : ℕ} → Keyed c rounds (length key) → length key < 16
+    → TurnHanded true c rounds key block before after n → (n ≡ 13) × (after ≡ before)
+unfolding answer
+short-key-block-export c rounds key block k short call =
+    let (kept, is) = short-key-block c rounds (length key) (roundKeys c rounds key) block k short (handed-reply call) in (is, kept .output)
+
+pub short-key-run-export : (c rounds : ℕ) (key counter : List ℕ) (offset : ℕ) (ds : List ℕ) {before after : List ℕ} {n : ℕ}
+    → Keyed c rounds (length key) → length key < 16 → RunHanded true c rounds key counter offset ds before after n → (n ≡ 13) × (after ≡ before)
+unfolding answer
+short-key-run-export c rounds key counter offset ds k short call =
+    let (kept, is) = short-key-run c rounds (length key) (roundKeys c rounds key) counter offset ds k short (handed-reply call) in (is, kept .output)
+
+-- a block of the cipher's size is served, and opened, with a key of 0 to 32 bytes, or sealed, with one of 16 to 32
+pub block-export-served : (d : Bool) (c rounds : ℕ) (key block : List ℕ) → Keyed c rounds (length key) → LongFor d (length key)
+    → length block ≡ blockSize c → {before after : List ℕ} {n : ℕ}
     → length before ≡ blockSize c → TurnHanded d c rounds key block before after n → Served (blockSize c) (turnBlock d c rounds key block) after
     (answer n (length before))
-block-export-served d c rounds key block k size room call =
-    block-served d c rounds (length key) (roundKeys c rounds key) block k size room (handed-reply call)
+block-export-served d c rounds key block k enough size room call =
+    block-served d c rounds (length key) (roundKeys c rounds key) block k enough size room (handed-reply call)
 
 -- a stretch that meets no refusal is served, and sealed or opened
-pub run-export-served : (c rounds : ℕ) (key counter : List ℕ) (offset : ℕ) (ds : List ℕ) {before after : List ℕ} {n : ℕ}
-    → Stretched c rounds (length key) (length counter) offset (length ds) (length before) → RunHanded c rounds key counter offset ds before after n
+pub run-export-served : (d : Bool) (c rounds : ℕ) (key counter : List ℕ) (offset : ℕ) (ds : List ℕ) {before after : List ℕ} {n : ℕ}
+    → Stretched d c rounds (length key) (length counter) offset (length ds) (length before) → RunHanded d c rounds key counter offset ds before after n
     → Served (length ds) (run c rounds key counter offset ds) after (answer n (length before))
-run-export-served c rounds key counter offset ds h call = call-served c rounds (length key) (roundKeys c rounds key) counter offset ds (handed-reply call) h
+run-export-served d c rounds key counter offset ds h call =
+    call-served d c rounds (length key) (roundKeys c rounds key) counter offset ds (handed-reply call) h
 
--- a block sealed or opened by one export, and the inverse export on its output: both are served, and the second gives the block back
-module _ (d : Bool) (c rounds : ℕ) (key block : List ℕ) (k : Keyed c rounds (length key)) (b : BlockOf c block) where
+-- a block sealed or opened by one export, and the inverse export on its output: with a key of 16 to 32 bytes both are served, and the second gives the block
+-- back
+module _ (d : Bool) (c rounds : ℕ) (key block : List ℕ) (k : Keyed c rounds (length key)) (long : 16 ≤ length key) (b : BlockOf c block) where
   pub block-turned-back : {before mid before-back after : List ℕ} {m n : ℕ} → length before ≡ blockSize c → length before-back ≡ blockSize c
       → TurnHanded d c rounds key block before mid m → TurnHanded (not d) c rounds key mid before-back after n
       → TurnedBack c block after (answer m (length before)) (answer n (length before-back))
   block-turned-back room room-back first second =
-      turned-back-calls d c rounds (length key) (roundKeys c rounds key) block k b room room-back (handed-reply first) (handed-reply second)
+      turned-back-calls d c rounds (length key) (roundKeys c rounds key) block k long b room room-back (handed-reply first) (handed-reply second)
 
 module _ (c rounds : ℕ) (key counter : List ℕ) where
-  export-runs : (offset : ℕ) (ds before after : List ℕ) (r : Answer) → RunExport c rounds key counter offset ds before after r
-      → Runs c rounds key counter offset ds before after r
-  export-runs offset ds before after r e =
+  abbrev exports : Bool → Call
+  exports d = RunExport d c rounds key counter
+
+  export-runs : (d : Bool) (offset : ℕ) (ds before after : List ℕ) (r : Answer) → exports d offset ds before after r
+      → Runs d c rounds key counter offset ds before after r
+  export-runs d offset ds before after r e =
       record {
         refusal = e .number .refusal;
         count = e .count ∙ ap (λ (n : ℕ). cond (eqb n 0) (length before) 0) (e .number .refusal);
         output = e .number .output;
       }
 
-  -- an export on what a served export wrote, with an output of its length, is served and gives the bytes again
-  pub run-opened-sealed : (offset : ℕ) (ds : List ℕ) {before after before₂ after₂ : List ℕ} {n : ℕ} → RunHanded c rounds key counter offset ds before after 0
-      → RunHanded c rounds key counter offset after before₂ after₂ n → length before₂ ≡ length after → Served (length ds) ds after₂ (answer n (length before₂))
+  -- an export on what a served export wrote, with an output of its length, is served and gives the bytes again; to seal what was opened takes a key of 16
+  -- bytes or more
+  pub run-opened-sealed : (d e : Bool) (offset : ℕ) (ds : List ℕ) {before after before₂ after₂ : List ℕ} {n : ℕ}
+      → RunHanded d c rounds key counter offset ds before after 0 → LongFor e (length key) → RunHanded e c rounds key counter offset after before₂ after₂ n
+      → length before₂ ≡ length after → Served (length ds) ds after₂ (answer n (length before₂))
   unfolding answer
-  run-opened-sealed offset ds seal «open» size =
-      opened-sealed c rounds (length key) (roundKeys c rounds key) counter offset ds (handed-reply seal) refl (handed-reply «open») size
+  run-opened-sealed d e offset ds first enough second size =
+      opened-sealed c rounds (length key) (roundKeys c rounds key) counter offset ds d e (handed-reply first) refl enough (handed-reply second) size
 
-  -- any m bytes of a run, at any byte k of it, opened alone by any export
-  pub stretch-opened : (whole : List ℕ) (k m : ℕ) {before after : List ℕ} {n : ℕ} → Keyed c rounds (length key) → length counter ≡ blockSize c
-      → length whole ≤ 1073741824 → k + m ≤ length whole → m ≤ 65536 → length before ≡ m
-      → RunHanded c rounds key counter k (take m (drop k whole)) before after n
+  -- any m bytes of a run, at any byte k of it, opened alone by any export; or sealed, with a key of 16 bytes or more
+  pub stretch-opened : (d : Bool) (whole : List ℕ) (k m : ℕ) {before after : List ℕ} {n : ℕ} → Keyed c rounds (length key) → LongFor d (length key)
+      → length counter ≡ blockSize c → length whole ≤ 1073741824 → k + m ≤ length whole → m ≤ 65536 → length before ≡ m
+      → RunHanded d c rounds key counter k (take m (drop k whole)) before after n
       → Served m (take m (drop k (run c rounds key counter 0 whole))) after (answer n (length before))
-  stretch-opened whole k m keyed size long fits short room call =
-      stretch-opened-alone c rounds (length key) (roundKeys c rounds key) counter whole k m keyed size long fits short room (handed-reply call)
+  stretch-opened d whole k m keyed enough size long fits short room call =
+      stretch-opened-alone d c rounds (length key) (roundKeys c rounds key) counter whole k m keyed enough size long fits short room (handed-reply call)
 
   -- every byte that a served export wrote, in the words of 01
-  pub export-byte : (offset : ℕ) (ds : List ℕ) {before after : List ℕ} → RunHanded c rounds key counter offset ds before after 0 → (i : ℕ) → i < length ds
+  pub export-byte : (d : Bool) (offset : ℕ) (ds : List ℕ) {before after : List ℕ} → RunHanded d c rounds key counter offset ds before after 0 → (i : ℕ)
+      → i < length ds
       → getD after i 0 ≡ getD (sealBlock c rounds key (counterBlock counter ((offset + i) / blockSize c))) ((offset + i) % blockSize c) 0 ⊕ getD ds i 0
   unfolding answer
-  export-byte offset ds call i within = call-byte c (roundKeys c rounds key) counter offset ds i within rounds (length key) (handed-reply call) refl
+  export-byte d offset ds call i within = call-byte c (roundKeys c rounds key) counter offset ds i within d rounds (length key) (handed-reply call) refl
 
   -- a run cut anywhere, each stretch by some export: the outputs joined are the run
-  pub exports-joined : {n : ℕ} {inputs outputs : List ℕ} → CallsOf (RunExport c rounds key counter) n inputs outputs → outputs
-      ≡ run c rounds key counter n inputs
-  exports-joined = cuts-joined c rounds (length key) (roundKeys c rounds key) counter (RunExport c rounds key counter) export-runs
+  pub exports-joined : (d : Bool) {n : ℕ} {inputs outputs : List ℕ} → CallsOf (exports d) n inputs outputs → outputs ≡ run c rounds key counter n inputs
+  exports-joined = cuts-joined c rounds (length key) (roundKeys c rounds key) counter exports export-runs
 
   -- the outputs joined are the same, whatever the cuts and the exports
-  pub exports-cut-agree : {n : ℕ} {inputs one other : List ℕ} → CallsOf (RunExport c rounds key counter) n inputs one
-      → CallsOf (RunExport c rounds key counter) n inputs other → one ≡ other
-  exports-cut-agree = cuts-agree c rounds (length key) (roundKeys c rounds key) counter (RunExport c rounds key counter) export-runs
+  pub exports-cut-agree : (d e : Bool) {n : ℕ} {inputs one other : List ℕ} → CallsOf (exports d) n inputs one → CallsOf (exports e) n inputs other
+      → one ≡ other
+  exports-cut-agree = cuts-agree c rounds (length key) (roundKeys c rounds key) counter exports export-runs
 
-  -- sealed in some stretches and opened in others: the bytes come back
-  pub exports-cut-undone : {n : ℕ} {inputs sealed opened : List ℕ} → CallsOf (RunExport c rounds key counter) n inputs sealed
-      → CallsOf (RunExport c rounds key counter) n sealed opened → opened ≡ inputs
-  exports-cut-undone = cuts-undone c rounds (length key) (roundKeys c rounds key) counter (RunExport c rounds key counter) export-runs
+  -- sealed in some stretches and opened in others, or the other way about: the bytes come back
+  pub exports-cut-undone : (d e : Bool) {n : ℕ} {inputs sealed opened : List ℕ} → CallsOf (exports d) n inputs sealed → CallsOf (exports e) n sealed opened
+      → opened ≡ inputs
+  exports-cut-undone = cuts-undone c rounds (length key) (roundKeys c rounds key) counter exports export-runs
 
-  module _ (k : Keyed c rounds (length key)) (size : length counter ≡ blockSize c) where
+  module _ (d : Bool) (k : Keyed c rounds (length key)) (enough : LongFor d (length key)) (size : length counter ≡ blockSize c) where
     -- a run cut into stretches of at most 65,536 bytes, each with an output of its length: all are served, and the outputs joined are the run
-    pub exports-opened : {n : ℕ} {inputs outputs : List ℕ} → n + length inputs ≤ 1073741824 → CutOf (RunExport c rounds key counter) n inputs outputs
-        → CallsOf (RunExport c rounds key counter) n inputs outputs × (outputs ≡ run c rounds key counter n inputs)
-    exports-opened = cuts-opened c rounds (length key) (roundKeys c rounds key) counter (RunExport c rounds key counter) export-runs k size
+    pub exports-opened : {n : ℕ} {inputs outputs : List ℕ} → n + length inputs ≤ 1073741824 → CutOf (exports d) n inputs outputs
+        → CallsOf (exports d) n inputs outputs × (outputs ≡ run c rounds key counter n inputs)
+    exports-opened = cuts-opened c rounds (length key) (roundKeys c rounds key) counter exports export-runs d k enough size
 
     -- a stretch opened alone is that part of what any cuts gave
     pub stretch-of-exports : (whole : List ℕ) {outputs : List ℕ} (at m : ℕ) {before after : List ℕ} {r : Answer} → length whole ≤ 1073741824
-        → CutOf (RunExport c rounds key counter) 0 whole outputs → at + m ≤ length whole → m ≤ 65536 → length before ≡ m
-        → RunExport c rounds key counter at (take m (drop at whole)) before after r → Served m (take m (drop at outputs)) after r
-    stretch-of-exports = stretch-of-cuts c rounds (length key) (roundKeys c rounds key) counter (RunExport c rounds key counter) export-runs k size
+        → CutOf (exports d) 0 whole outputs → at + m ≤ length whole → m ≤ 65536 → length before ≡ m
+        → exports d at (take m (drop at whole)) before after r → Served m (take m (drop at outputs)) after r
+    stretch-of-exports = stretch-of-cuts c rounds (length key) (roundKeys c rounds key) counter exports export-runs d k enough size
 
 -- first counter blocks
 

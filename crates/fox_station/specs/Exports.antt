@@ -19,11 +19,11 @@ abbrev pub TurnHanded : Bool → ℕ → ℕ → List ℕ → List ℕ → List 
 TurnHanded sealing cipher rounds key block before after r =
     Handed (forBlock sealing cipher rounds (length key) (length block) (length before)) (turnBlock sealing cipher rounds key block) before after r
 
--- a stretch of a run, from cipher, rounds, key bytes, counter block, offset and input, with the output before and after
-abbrev pub RunHanded : ℕ → ℕ → List ℕ → List ℕ → ℕ → List ℕ → List ℕ → List ℕ → ℕ → Type 0
-RunHanded cipher rounds key counter offset input before after r =
-    Handed (forRun cipher rounds (length key) (length counter) offset (length input) (length before)) (run cipher rounds key counter offset input) before
-    after r
+-- a stretch of a run sealed or opened, from cipher, rounds, key bytes, counter block, offset and input, with the output before and after
+abbrev pub RunHanded : Bool → ℕ → ℕ → List ℕ → List ℕ → ℕ → List ℕ → List ℕ → List ℕ → ℕ → Type 0
+RunHanded sealing cipher rounds key counter offset input before after r =
+    Handed (forRun sealing cipher rounds (length key) (length counter) offset (length input) (length before)) (run cipher rounds key counter offset input)
+    before after r
 
 -- a run's first counter block, from cipher and the run's number, with the output before and after
 abbrev pub CounterHanded : ℕ → ℕ → List ℕ → List ℕ → ℕ → Type 0
@@ -40,6 +40,6 @@ TestTagHanded cipher rounds key message stored r =
     r ≡ refusalOf (forTagTest cipher rounds (length key) (length message) (tag cipher rounds key message) stored)
 
 -- a call on a stretch as a call with an answer: the number that is returned, and the count that follows from it
-pub record RunExport (cipher rounds : ℕ) (key counter : List ℕ) (offset : ℕ) (input before after : List ℕ) (r : Answer) : Type 0 where
-  pub number : RunHanded cipher rounds key counter offset input before after (r .refusal)
+pub record RunExport (sealing : Bool) (cipher rounds : ℕ) (key counter : List ℕ) (offset : ℕ) (input before after : List ℕ) (r : Answer) : Type 0 where
+  pub number : RunHanded sealing cipher rounds key counter offset input before after (r .refusal)
   pub count : r .count ≡ cond (eqb (r .refusal) 0) (length before) 0

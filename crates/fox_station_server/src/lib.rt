@@ -36,7 +36,7 @@ pub extern "C" fn fox_server_open_block(
 }
 
 #[no_mangle]
-pub extern "C" fn fox_server_run(
+pub extern "C" fn fox_server_seal_run(
     cipher: u32,
     rounds: u32,
     key: &[u8],
@@ -45,9 +45,25 @@ pub extern "C" fn fox_server_run(
     input: &[u8],
     out: &mut [u8],
 ) -> u32
-    ensures { λ r. ⌜ RunHanded cipher rounds (now (key .entry)) (now (counter .entry)) offset (now (input .entry)) (now (out .entry)) (now (out .exit)) r ⌝ }
+    ensures { λ r. ⌜ RunHanded true cipher rounds (now (key .entry)) (now (counter .entry)) offset (now (input .entry)) (now (out .entry)) (now (out .exit)) r ⌝ }
 {
-    let answer = run_from_key(cipher, rounds, key, counter, offset, input, out);
+    let answer = run_from_key(true, cipher, rounds, key, counter, offset, input, out);
+    answer.refusal
+}
+
+#[no_mangle]
+pub extern "C" fn fox_server_open_run(
+    cipher: u32,
+    rounds: u32,
+    key: &[u8],
+    counter: &[u8],
+    offset: u64,
+    input: &[u8],
+    out: &mut [u8],
+) -> u32
+    ensures { λ r. ⌜ RunHanded false cipher rounds (now (key .entry)) (now (counter .entry)) offset (now (input .entry)) (now (out .entry)) (now (out .exit)) r ⌝ }
+{
+    let answer = run_from_key(false, cipher, rounds, key, counter, offset, input, out);
     answer.refusal
 }
 

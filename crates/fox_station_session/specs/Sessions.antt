@@ -3,7 +3,9 @@
 -- Assumes nothing.
 use mathlib.Core.Path.{_≡_}
 use Prim.Native.Nat.{ℕ, _%_, _^_}
+use mathlib.Core.Bool.{Bool, cond, not}
 use mathlib.Core.List.{List}
+use lib.Dec.{eqb}
 use lib.ListN.{length, getD, take, replicate}
 use Rattle.fox_refusals.specs.declared.answer.Answer.{Answer}
 use Rattle.fox_key_schedule.specs.Schedule.{roundKeys}
@@ -14,7 +16,11 @@ use Rattle.fox_server_session.specs.declared.session.Session.{Session}
 use Rattle.fox_server_session_step.specs.declared.step.Step.{Step}
 use Rattle.fox_server_session.specs.Session.{machineOf, TrueOf, sessionAt}
 
--- the session that 518 words hold
+-- the last word: 0 in a session for opening; in one for sealing any other number, and a start stores 1
+unfoldable pub directionWord : Bool → ℕ
+directionWord sealing = cond sealing 1 0
+
+-- the session that 519 words hold
 unfoldable pub sessionIn : List ℕ → Session
 sessionIn words =
     record {
@@ -26,6 +32,7 @@ sessionIn words =
       };
       counter = record { left = getD words 513 0; right = getD words 514 0 };
       here = record { position = getD words 515 0; block = record { left = getD words 516 0; right = getD words 517 0 } };
+      sealing = not (eqb (getD words 518 0) 0);
     }
 
 abbrev pub machineIn : List ℕ → Machine
@@ -36,26 +43,34 @@ TrueIn words = TrueOf (sessionIn words)
 
 -- the words of a refused start
 abbrev pub noWords : List ℕ
-noWords = replicate 518 0
+noWords = replicate 519 0
 
--- a start, from cipher, rounds, key bytes and counter block, with the words afterwards: where it is served, all words of the prepared key are this key's, and
--- none of an earlier session is left
-pub record StartHanded (cipher rounds : ℕ) (key counter : List ℕ) (r : Answer) (words : List ℕ) : Type 0 where
-  pub starts : Starts machineIn TrueIn noWords cipher rounds (length key) (roundKeys cipher rounds key) counter r words
+-- a start for sealing or for opening, from cipher, rounds, key bytes and counter block, with the words afterwards: where it is served, all words of the
+-- prepared key are this key's, and none of an earlier session is left
+pub record StartHanded (sealing : Bool) (cipher rounds : ℕ) (key counter : List ℕ) (r : Answer) (words : List ℕ) : Type 0 where
+  pub starts : Starts machineIn TrueIn noWords sealing cipher rounds (length key) (roundKeys cipher rounds key) counter r words
   pub held : r .refusal ≡ 0 → sessionIn words .key ≡ preparedKey cipher rounds key
 
 -- a call, with the words before, the output and the words afterwards
 abbrev pub CallHanded : List ℕ → Call → List ℕ → Answer → List ℕ → Type 0
 CallHanded = Follows machineIn TrueIn
 
--- the plain machine of cipher, rounds, key bytes and counter block, at a position
-abbrev pub plainAt : ℕ → ℕ → List ℕ → List ℕ → ℕ → Machine
-plainAt cipher rounds key counter position =
-    record { cipher = cipher; rounds = rounds; keyLen = length key; rks = roundKeys cipher rounds key; counter = counter; position = position }
+-- the plain machine of direction, cipher, rounds, key bytes and counter block, at a position
+abbrev pub plainAt : Bool → ℕ → ℕ → List ℕ → List ℕ → ℕ → Machine
+plainAt sealing cipher rounds key counter position =
+    record {
+      sealing = sealing;
+      cipher = cipher;
+      rounds = rounds;
+      keyLen = length key;
+      rks = roundKeys cipher rounds key;
+      counter = counter;
+      position = position;
+    }
 
 -- words of a session that stands for that machine, with a block in use that is true
-pub record Stands (cipher rounds : ℕ) (key counter words : List ℕ) (position : ℕ) : Type 0 where
-  pub machine : machineIn words ≡ plainAt cipher rounds key counter position
+pub record Stands (sealing : Bool) (cipher rounds : ℕ) (key counter words : List ℕ) (position : ℕ) : Type 0 where
+  pub machine : machineIn words ≡ plainAt sealing cipher rounds key counter position
   pub true : TrueIn words
 
 -- what a call tells that is refused with a number: count 0, and the output as it is lent

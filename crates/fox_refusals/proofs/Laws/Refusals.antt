@@ -5,15 +5,16 @@ use mathlib.Core.Path.{_≡_, refl, sym, ap, ap₂, _∙_}
 use mathlib.Core.Logic.{_⊎_, inl, inr, ⊎-elim}
 use mathlib.Core.Bool.{Bool, true, false, cond, not, true≢false}
 use mathlib.Core.List.{List, [], _∷_, _++_}
-use Prim.Native.Nat.{ℕ, _+_, _≤_}
+use Prim.Native.Nat.{ℕ, _+_, _≤_, _<_}
 use native.Mathlib.Omega.{arith}
 use lib.Dec.{ltb, eqb}
 use lib.ListN.{length}
-use borrow.Author.Tests.{ltb-false, eqb-true, eqb-false, le-ltb, eq-eqb, ne-eqb, not-false}
+use borrow.Author.Tests.{ltb-false, eqb-true, eqb-false, le-ltb, lt-ltb, eq-eqb, ne-eqb, not-false}
 use Rattle.fox_layers.proofs.Laws.Lists.{by-test}
 use Rattle.fox_refusals.specs.Refusals.{Refusal, refusalOf, First, here, later, orElse, differs, blockSize, wrongCipher, wrongRounds, longKey}
-use Rattle.fox_refusals.specs.Refusals.{wrongBlockLength, longData, wrongOutputLength, pastEnd, forKey, forBlock, forStretch, forRun, Keyed}
-use Rattle.fox_refusals.specs.Refusals.{Blocked, Stretched, longMessage, wrongTagLength, same, otherTag, forTag, forTagTest, Tagged, forCounter}
+use Rattle.fox_refusals.specs.Refusals.{shortKey, wrongBlockLength, longData, wrongOutputLength, pastEnd, forKey, forTurn, forBlock, forStretch, forRun}
+use Rattle.fox_refusals.specs.Refusals.{Keyed, LongFor, Blocked, Stretched, longMessage, wrongTagLength, same, otherTag, forTag, forTagTest, Tagged}
+use Rattle.fox_refusals.specs.Refusals.{forCounter}
 
 -- no test of the list applies
 unfoldable pub Passed : List Refusal → Type 0
@@ -149,65 +150,111 @@ keyed c r k e =
     let p = served-passed (forKey c r k) refl e in
     passed-keyed c r k (p .0) (p .1 .0) (p .1 .1 .0)
 
+-- a key that is to seal or to open
+
+long-passed : (sealing : Bool) (k : ℕ) → LongFor sealing k → shortKey sealing k .applies ≡ false
+unfolding shortKey
+long-passed true k h = le-ltb k 16 (h refl)
+long-passed false k h = refl
+
+long-known : (sealing : Bool) (k : ℕ) → shortKey sealing k .applies ≡ false → LongFor sealing k
+unfolding shortKey
+long-known true k e = λ t. ltb-false k 16 e
+long-known false k e = λ t. absurd (true≢false (sym t))
+
+-- to open with, a key may have any length
+pub to-open : (k : ℕ) → LongFor false k
+to-open k t = absurd (true≢false (sym t))
+
+pub turnable-served : (sealing : Bool) {c r k : ℕ} → Keyed c r k → LongFor sealing k → refusalOf (forTurn sealing c r k) ≡ 0
+unfolding Passed forKey forTurn
+turnable-served sealing {c} {r} {k} h long =
+    let p = keyed-passed h in
+    passed-served (forTurn sealing c r k) (p .0, (p .1 .0, (p .1 .1 .0, (long-passed sealing k long, tt))))
+
+pub turnable : (sealing : Bool) (c r k : ℕ) → refusalOf (forTurn sealing c r k) ≡ 0 → Keyed c r k × LongFor sealing k
+unfolding Passed numbered forKey forTurn wrongCipher wrongRounds longKey shortKey
+turnable sealing c r k e =
+    let p = served-passed (forTurn sealing c r k) refl e in
+    (passed-keyed c r k (p .0) (p .1 .0) (p .1 .1 .0), long-known sealing k (p .1 .1 .1 .0))
+
 -- one block
 
-pub blocked-served : (sealing : Bool) {c r k b o : ℕ} → Blocked c r k b o → refusalOf (forBlock sealing c r k b o) ≡ 0
-unfolding Passed forKey forBlock wrongBlockLength wrongOutputLength
+pub blocked-served : (sealing : Bool) {c r k b o : ℕ} → Blocked sealing c r k b o → refusalOf (forBlock sealing c r k b o) ≡ 0
+unfolding Passed forKey forTurn forBlock wrongBlockLength wrongOutputLength
 blocked-served sealing {c} {r} {k} {b} {o} h =
     let p = keyed-passed (h .keyed) in
-    passed-served (forBlock sealing c r k b o)
-    (p .0, (p .1 .0, (p .1 .1 .0, (differs-passed b (blockSize c) (h .block), (differs-passed o b (h .output), tt)))))
+    passed-served (forBlock sealing c r k b o) (
+      p .0,
+      (
+        p .1 .0,
+        (p .1 .1 .0, (long-passed sealing k (h .long), (differs-passed b (blockSize c) (h .block), (differs-passed o b (h .output), tt)))),
+      ),
+    )
 
-pub blocked : (sealing : Bool) (c r k b o : ℕ) → refusalOf (forBlock sealing c r k b o) ≡ 0 → Blocked c r k b o
-unfolding Passed numbered forKey forBlock wrongCipher wrongRounds longKey wrongBlockLength wrongOutputLength
+pub blocked : (sealing : Bool) (c r k b o : ℕ) → refusalOf (forBlock sealing c r k b o) ≡ 0 → Blocked sealing c r k b o
+unfolding Passed numbered forKey forTurn forBlock wrongCipher wrongRounds longKey shortKey wrongBlockLength wrongOutputLength
 blocked sealing c r k b o e =
     let p = served-passed (forBlock sealing c r k b o) refl e in
     let q = p .1 .1 .1 in
     record {
       keyed = passed-keyed c r k (p .0) (p .1 .0) (p .1 .1 .0);
-      block = differs-known b (blockSize c) (q .0);
-      output = differs-known o b (q .1 .0);
+      long = long-known sealing k (q .0);
+      block = differs-known b (blockSize c) (q .1 .0);
+      output = differs-known o b (q .1 .1 .0);
     }
 
 -- a stretch of a run
 
-pub stretched-served : {c r k b n d o : ℕ} → Stretched c r k b n d o → refusalOf (forRun c r k b n d o) ≡ 0
-unfolding Passed forKey forStretch forRun wrongBlockLength longData wrongOutputLength pastEnd
-stretched-served {c} {r} {k} {b} {n} {d} {o} h =
+pub stretched-served : (sealing : Bool) {c r k b n d o : ℕ} → Stretched sealing c r k b n d o → refusalOf (forRun sealing c r k b n d o) ≡ 0
+unfolding Passed forKey forTurn forStretch forRun wrongBlockLength longData wrongOutputLength pastEnd
+stretched-served sealing {c} {r} {k} {b} {n} {d} {o} h =
     let p = keyed-passed (h .keyed) in
-    passed-served (forRun c r k b n d o) (
+    passed-served (forRun sealing c r k b n d o) (
       p .0,
       (
         p .1 .0,
         (
           p .1 .1 .0,
           (
-            differs-passed b (blockSize c) (h .counter),
-            (le-ltb 65536 d (h .short), (differs-passed o d (h .output), (le-ltb 1073741824 (n + d) (h .end), tt))),
+            long-passed sealing k (h .long),
+            (
+              differs-passed b (blockSize c) (h .counter),
+              (le-ltb 65536 d (h .short), (differs-passed o d (h .output), (le-ltb 1073741824 (n + d) (h .end), tt))),
+            ),
           ),
         ),
       ),
     )
 
-pub stretched : (c r k b n d o : ℕ) → refusalOf (forRun c r k b n d o) ≡ 0 → Stretched c r k b n d o
-unfolding Passed numbered forKey forStretch forRun wrongCipher wrongRounds longKey wrongBlockLength longData wrongOutputLength pastEnd
-stretched c r k b n d o e =
-    let p = served-passed (forRun c r k b n d o) refl e in
+pub stretched : (sealing : Bool) (c r k b n d o : ℕ) → refusalOf (forRun sealing c r k b n d o) ≡ 0 → Stretched sealing c r k b n d o
+unfolding Passed numbered forKey forTurn forStretch forRun wrongCipher wrongRounds longKey shortKey wrongBlockLength longData wrongOutputLength pastEnd
+stretched sealing c r k b n d o e =
+    let p = served-passed (forRun sealing c r k b n d o) refl e in
     let q = p .1 .1 .1 in
     record {
       keyed = passed-keyed c r k (p .0) (p .1 .0) (p .1 .1 .0);
-      counter = differs-known b (blockSize c) (q .0);
-      short = ltb-false 65536 d (q .1 .0);
-      output = differs-known o d (q .1 .1 .0);
-      end = ltb-false 1073741824 (n + d) (q .1 .1 .1 .0);
+      long = long-known sealing k (q .0);
+      counter = differs-known b (blockSize c) (q .1 .0);
+      short = ltb-false 65536 d (q .1 .1 .0);
+      output = differs-known o d (q .1 .1 .1 .0);
+      end = ltb-false 1073741824 (n + d) (q .1 .1 .1 .1 .0);
     }
 
 -- an output of another length than the input is refused with 6, where nothing comes before that
-pub wrong-output : {c r k b d o : ℕ} (n : ℕ) → Keyed c r k → b ≡ blockSize c → d ≤ 65536 → (o ≡ d → ⊥) → refusalOf (forRun c r k b n d o) ≡ 6
-unfolding Passed refusalOf forKey forStretch forRun wrongBlockLength longData wrongOutputLength
-wrong-output {c} {r} {k} {b} {d} {o} n h block short other =
+pub wrong-output : (sealing : Bool) {c r k b d o : ℕ} (n : ℕ) → Keyed c r k → LongFor sealing k → b ≡ blockSize c → d ≤ 65536 → (o ≡ d → ⊥)
+    → refusalOf (forRun sealing c r k b n d o) ≡ 6
+unfolding Passed refusalOf forKey forTurn forStretch forRun wrongBlockLength longData wrongOutputLength
+wrong-output sealing {c} {r} {k} {b} {d} {o} n h long block short other =
     let p = keyed-passed h in
-    rw (p .0, p .1 .0, p .1 .1 .0, differs-passed b (blockSize c) block, le-ltb 65536 d short, ne-eqb o d other)
+    rw (p .0, p .1 .0, p .1 .1 .0, long-passed sealing k long, differs-passed b (blockSize c) block, le-ltb 65536 d short, ne-eqb o d other)
+
+-- a key under 16 bytes that is to seal is refused with 13, where nothing is wrong with it as a key, whatever tests follow
+pub short-key : {c r k : ℕ} (rest : List Refusal) → Keyed c r k → k < 16 → refusalOf (forTurn true c r k ++ rest) ≡ 13
+unfolding Passed refusalOf forKey forTurn shortKey
+short-key {c} {r} {k} rest h short =
+    let p = keyed-passed h in
+    rw (p .0, p .1 .0, p .1 .1 .0, lt-ltb k 16 short)
 
 -- a counter block that is made
 

@@ -1,18 +1,19 @@
 -- A reply from its parts, and the two cases of how a call ends, served or refused: it is served exactly where the refusals' number is 0.
 -- Assumes nothing.
 use mathlib.Core.Path.{_≡_, refl, sym, ap, ap₂, _∙_}
-use mathlib.Core.Bool.{cond}
-use mathlib.Core.List.{List}
-use Prim.Native.Nat.{ℕ}
+use mathlib.Core.Bool.{true, cond}
+use mathlib.Core.List.{List, _++_}
+use Prim.Native.Nat.{ℕ, _<_}
+use native.Mathlib.Omega.{arith}
 use lib.Dec.{eqb}
 use lib.ListN.{length}
 use borrow.Author.Tests.{eq-eqb, ne-eqb, eqb-true}
 use Rattle.fox_layers.proofs.Laws.Lists.{by-test}
-use Rattle.fox_refusals.specs.Refusals.{Refusal, refusalOf, First}
+use Rattle.fox_refusals.specs.Refusals.{Refusal, refusalOf, First, forTurn, Keyed}
 use Rattle.fox_refusals.specs.Reply.{Reply, Verdict, Served, Refused, Same}
 use Rattle.fox_refusals.specs.Handed.{Handed, answer}
 use Rattle.fox_refusals.specs.declared.answer.Answer.{Answer}
-use Rattle.fox_refusals.proofs.Laws.Refusals.{first-given, given-first}
+use Rattle.fox_refusals.proofs.Laws.Refusals.{first-given, given-first, short-key}
 
 -- the value that a `cond` on the refusals' number takes
 pub chosen : {A : Type 0} (n : ℕ) (a b : A) → n ≡ 0 → a ≡ cond (eqb n 0) a b
@@ -84,6 +85,13 @@ module _ {rs : List Refusal} {value before after : List ℕ} {r : Answer} (call 
   -- and a call that is refused with a number is refused with that of the first refusal that applies
   pub refused-first : (r .refusal ≡ 0 → ⊥) → First (r .refusal) rs
   refused-first isnt = given-first (r .refusal) rs (sym (call .refusal)) isnt
+
+-- a call that seals with a key under 16 bytes, and with nothing else wrong with the key, is refused with 13, whatever tests follow
+pub short-key-refused : {c r k : ℕ} (rest : List Refusal) {value before after : List ℕ} {a : Answer} → Keyed c r k → k < 16
+    → Reply (forTurn true c r k ++ rest) value before after a → Refused (forTurn true c r k ++ rest) before after a × (a .refusal ≡ 13)
+short-key-refused rest keyed short call =
+    let is = call .refusal ∙ short-key rest keyed short in
+    (refused call (λ z. omega arith), is)
 
 -- a call that writes nothing returns a number other than 0 exactly when it is that of the first refusal that applies
 module _ {rs : List Refusal} {r : Answer} (call : Verdict rs r) where

@@ -2,6 +2,7 @@
 -- stretch; and a call that answered 0 met no refusal.
 -- Assumes nothing.
 use mathlib.Core.Path.{_≡_, sym, _∙_}
+use mathlib.Core.Bool.{Bool}
 use mathlib.Core.List.{List}
 use Prim.Native.Nat.{ℕ}
 use lib.ListN.{length}
@@ -18,14 +19,14 @@ pub length-runWith : (c : ℕ) (rks counter : List ℕ) (n : ℕ) (ds : List ℕ
 unfolding runWith
 length-runWith c rks counter n ds = length-xorFrom _ n ds
 
-module _ (c rounds k : ℕ) (rks counter : List ℕ) (offset : ℕ) (ds : List ℕ) {before after : List ℕ} {r : Answer}
-    (call : RunsWith c rounds k rks counter offset ds before after r) where
-  pub call-known : r .refusal ≡ 0 → Stretched c rounds k (length counter) offset (length ds) (length before)
-  call-known e = stretched c rounds k (length counter) offset (length ds) (length before) (sym (call .refusal) ∙ e)
+module _ (d : Bool) (c rounds k : ℕ) (rks counter : List ℕ) (offset : ℕ) (ds : List ℕ) {before after : List ℕ} {r : Answer}
+    (call : RunsWith d c rounds k rks counter offset ds before after r) where
+  pub call-known : r .refusal ≡ 0 → Stretched d c rounds k (length counter) offset (length ds) (length before)
+  call-known e = stretched d c rounds k (length counter) offset (length ds) (length before) (sym (call .refusal) ∙ e)
 
-  pub call-served : Stretched c rounds k (length counter) offset (length ds) (length before) → Served (length ds) (runWith c rks counter offset ds) after r
+  pub call-served : Stretched d c rounds k (length counter) offset (length ds) (length before) → Served (length ds) (runWith c rks counter offset ds) after r
   call-served h =
-      let s = served call (stretched-served h) in
+      let s = served call (stretched-served d h) in
       record { refusal = s .refusal; count = s .count ∙ h .output; output = s .output }
 
   -- what a call that answered 0 gives

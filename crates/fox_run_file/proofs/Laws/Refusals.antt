@@ -12,8 +12,9 @@ use Rattle.fox_refusals.specs.declared.answer.Answer.{Answer}
 use Rattle.fox_refusals.proofs.Laws.Reply.{chosen, passed-over}
 use Rattle.fox_text.proofs.Laws.Tests.{by-test, neither}
 use borrow.Author.Tests.{ltb-false, eqb-true, le-ltb, eq-eqb, not-false}
-use Rattle.fox_refusals.specs.Refusals.{Refusal, refusalOf, differs, blockSize, wrongCipher, wrongRounds, longKey, wrongBlockLength, forKey, Keyed}
-use Rattle.fox_refusals.proofs.Laws.Refusals.{Passed, numbered, passed-served, served-passed, keyed, keyed-served}
+use Rattle.fox_refusals.specs.Refusals.{Refusal, refusalOf, differs, blockSize, wrongCipher, wrongRounds, longKey, shortKey, wrongBlockLength, forKey}
+use Rattle.fox_refusals.specs.Refusals.{forTurn, Keyed}
+use Rattle.fox_refusals.proofs.Laws.Refusals.{Passed, numbered, passed-served, served-passed, keyed, keyed-served, turnable, turnable-served}
 use Rattle.fox_run_file.specs.Sizes.{total, fileSize, pastLimit}
 use Rattle.fox_run_file.specs.Refusals.{largeFile, wrongSizes, smallOutput, forSize, forWrite}
 
@@ -58,19 +59,22 @@ front-served xs ys some e = passed-served xs (passed-front xs ys (served-passed 
 -- what holds where a call that writes a file meets no refusal
 pub record Writable (c r k b d : ℕ) (sizes : List ℕ) (o : ℕ) : Type 0 where
   pub keyed : Keyed c r k
+  pub long : 16 ≤ k
   pub counter : b ≡ blockSize c
   pub limits : pastLimit c r sizes ≡ false
   pub all : total sizes ≡ d
   pub room : fileSize c r sizes ≤ o
 
 pub writable : (c r k b d : ℕ) (sizes : List ℕ) (o : ℕ) → refusalOf (forWrite c r k b d sizes o) ≡ 0 → Writable c r k b d sizes o
-unfolding Passed numbered forKey forWrite wrongCipher wrongRounds longKey wrongBlockLength wrongSizes smallOutput
+unfolding Passed numbered forKey forTurn forWrite wrongCipher wrongRounds longKey shortKey wrongBlockLength wrongSizes smallOutput
 writable c r k b d sizes o e =
     let p = served-passed (forWrite c r k b d sizes o) refl e in
-    let q = p .1 .1 .1 in
+    let q = p .1 .1 .1 .1 in
     let (limits, all) = neither (pastLimit c r sizes) (differs (total sizes) d) (q .1 .0) in
+    let key = turnable true c r k (front-served (forTurn true c r k) (wrongBlockLength c b ∷ wrongSizes c r sizes d ∷ smallOutput c r sizes o ∷ []) refl e) in
     record {
-      keyed = keyed c r k (front-served (forKey c r k) (wrongBlockLength c b ∷ wrongSizes c r sizes d ∷ smallOutput c r sizes o ∷ []) refl e);
+      keyed = key .0;
+      long = key .1 refl;
       counter = eqb-true b (blockSize c) (not-false (eqb b (blockSize c)) (q .0));
       limits = limits;
       all = eqb-true (total sizes) d (not-false (eqb (total sizes) d) all);
@@ -79,9 +83,10 @@ writable c r k b d sizes o e =
 
 -- and the other way about: such a call is served
 pub writable-served : {c r k b d : ℕ} (sizes : List ℕ) {o : ℕ} → Writable c r k b d sizes o → refusalOf (forWrite c r k b d sizes o) ≡ 0
-unfolding refusalOf numbered forKey forWrite wrongCipher wrongRounds longKey wrongBlockLength wrongSizes smallOutput
+unfolding refusalOf numbered forKey forTurn forWrite wrongCipher wrongRounds longKey shortKey wrongBlockLength wrongSizes smallOutput
 writable-served {c} {r} {k} {b} {d} sizes {o} w =
-    found-later (forKey c r k) (wrongBlockLength c b ∷ wrongSizes c r sizes d ∷ smallOutput c r sizes o ∷ []) refl (keyed-served (w .keyed))
+    found-later (forTurn true c r k) (wrongBlockLength c b ∷ wrongSizes c r sizes d ∷ smallOutput c r sizes o ∷ []) refl
+    (turnable-served true (w .keyed) (λ _. w .long))
     ∙ rw (eq-eqb b (blockSize c) (w .counter), w .limits, eq-eqb (total sizes) d (w .all), le-ltb o (fileSize c r sizes) (w .room))
 
 -- the size is told exactly of a cipher and rounds that no key is refused for, and of lengths within the limits

@@ -3,13 +3,13 @@
 -- Assumes nothing.
 use mathlib.Core.Path.{_≡_, sym, _∙_}
 use mathlib.Core.Bool.{true, false, cond, _&&_}
-use mathlib.Core.List.{List}
+use mathlib.Core.List.{List, _∷_}
 use Prim.Native.Nat.{ℕ, suc, _+_, _-_}
 use native.Mathlib.Omega.{arith}
 use lib.Dec.{ltb, leb, eqb}
 use lib.ListN.{length, take, drop}
 use borrow.Author.Tests.{eq-eqb, ne-eqb}
-use Rattle.fox_refusals.specs.Refusals.{refusalOf, forKey, forStretch, forRun}
+use Rattle.fox_refusals.specs.Refusals.{refusalOf, shortKey, forKey, forTurn, forStretch, forRun}
 use Rattle.fox_refusals.specs.declared.answer.Answer.{Answer}
 use Rattle.fox_run.specs.Run.{runWith}
 use Rattle.fox_run.specs.Promise.{RunsWith}
@@ -47,14 +47,14 @@ module _ (c r k : ℕ) (rks file : List ℕ) (place : Place) where
   module _ (there : atScan file place ≡ true) where
     -- a key that is refused, before it is prepared
     pub key-refused : {n : ℕ} {before : List ℕ} → n ≡ refusalOf (forKey c r k) → (n ≡ 0 → ⊥) → ReadsWith c r k rks file place before before (read.Refused n)
-    unfolding readAt readRefusal forRun
+    unfolding readAt readRefusal forKey forTurn forRun
     key-refused {before = before} e isnt =
-        let first = found-first (forKey c r k) (forStretch c (length (counterIn c r file)) (place .offset) (sizeAt file place) (length before)) e isnt in
+        let first = found-first (forKey c r k) (shortKey false k ∷ forStretch c (length (counterIn c r file)) (place .offset) (sizeAt file place) (length before)) e isnt in
         let other = ne-eqb (readRefusal c r k file place (length before)) 0 (λ z. isnt (first ∙ z)) in
         record { answer = rw (there, other, first); output = rw (there, other) }
 
     module _ {before after : List ℕ} {a : Answer}
-        (call : RunsWith c r k rks (counterIn c r file) (place .offset) (bytesAt file place) before after a) where
+        (call : RunsWith false c r k rks (counterIn c r file) (place .offset) (bytesAt file place) before after a) where
       refusal : a .refusal ≡ readRefusal c r k file place (length before)
       unfolding readRefusal
       refusal = rw (bytes-number file place there) at (call .refusal)

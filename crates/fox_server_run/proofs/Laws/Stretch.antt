@@ -2,6 +2,7 @@
 -- that an array holds.
 -- Assumes nothing.
 use mathlib.Core.Path.{_≡_, sym, ap₂, _∙_}
+use mathlib.Core.Bool.{Bool}
 use mathlib.Core.List.{List}
 use Prim.Native.Nat.{ℕ}
 use native.Mathlib.Omega.{arith}
@@ -19,7 +20,7 @@ use Rattle.fox_run.specs.States.{stream}
 use Rattle.fox_run.specs.Parts.{Ready}
 use Rattle.fox_run.proofs.Laws.Streams.{run-streamed}
 
-pub ready : {c r k n : ℕ} (counter input out : List ℕ) → Stretched c r k (length counter) n (length input) (length out)
+pub ready : {d : Bool} {c r k n : ℕ} (counter input out : List ℕ) → Stretched d c r k (length counter) n (length input) (length out)
     → Ready (blockSize c) r counter n input out
 ready counter input out s =
     record { some = omega (arith, s .keyed .low); few = s .keyed .high; block = s .counter; end = s .end; output = s .output }

@@ -3,6 +3,7 @@
 -- Assumes nothing.
 use mathlib.Core.Path.{_≡_, sym, ap, _∙_}
 use mathlib.Core.Logic.{⊎-elim}
+use mathlib.Core.Bool.{Bool}
 use mathlib.Core.List.{List}
 use Prim.Native.Nat.{ℕ}
 use native.Mathlib.Omega.{arith}
@@ -37,10 +38,10 @@ in-session s call {output} {r} {next} basis words parts =
 
 -- the starts
 
-module _ (cipher rounds keyLen : ℕ) (rks counter : List ℕ) where
+module _ (sealing : Bool) (cipher rounds keyLen : ℕ) (rks counter : List ℕ) where
   -- a start that code refuses with the number n, which it found to be other than 0. Its session's key is refused, as no cipher is 0
-  pub refused-start : {r : Answer} {s : Session} {n : ℕ} → n ≡ refusalOf (forRun cipher rounds keyLen (length counter) 0 0 0) → (n ≡ 0 → ⊥)
-      → (r .refusal ≡ n) × (r .count ≡ 0) × (s ≡ noSession) → Starts machineOf TrueOf noSession cipher rounds keyLen rks counter r s
+  pub refused-start : {r : Answer} {s : Session} {n : ℕ} → n ≡ refusalOf (forRun sealing cipher rounds keyLen (length counter) 0 0 0) → (n ≡ 0 → ⊥)
+      → (r .refusal ≡ n) × (r .count ≡ 0) × (s ≡ noSession) → Starts machineOf TrueOf noSession sealing cipher rounds keyLen rks counter r s
   unfolding machineAt noSession noKey
   refused-start e isnt refused =
       record {
@@ -53,18 +54,19 @@ module _ (cipher rounds keyLen : ℕ) (rks counter : List ℕ) where
             absurd (⊎-elim (λ h. omega arith) (λ h. omega arith) (keyed .cipher));
       }
 
-pub served-start : (p : Prepared) (first block : Pair) (counter : List ℕ) {r : Answer}
-    → refusalOf (forRun (p .cipher) (p .rounds) (p .«key_len») (length counter) 0 0 0) ≡ 0 → (r .refusal ≡ 0) × (r .count ≡ 0)
+pub served-start : (sealing : Bool) (p : Prepared) (first block : Pair) (counter : List ℕ) {r : Answer}
+    → refusalOf (forRun sealing (p .cipher) (p .rounds) (p .«key_len») (length counter) 0 0 0) ≡ 0 → (r .refusal ≡ 0) × (r .count ≡ 0)
     → heldBlock (p .cipher) first ≡ counter → BlockAt (p .cipher) (heldKeys (p .cipher) (p .keys) (p .rounds)) (heldBlock (p .cipher) first) 0 block
-    → Starts machineOf TrueOf noSession (p .cipher) (p .rounds) (p .«key_len») (roundKeysIn p) counter r
-    (record { key = p; counter = first; here = record { position = 0; block = block } })
+    → Starts machineOf TrueOf noSession sealing (p .cipher) (p .rounds) (p .«key_len») (roundKeysIn p) counter r
+    (record { key = p; counter = first; here = record { position = 0; block = block }; sealing = sealing })
 unfolding machineAt roundKeysIn
-served-start p first block counter zero served read made =
+served-start sealing p first block counter zero served read made =
     record {
       refusal = served .0 ∙ sym zero;
       count = served .1;
       served = λ z.
           ap (λ (bs : List ℕ). record {
+            sealing = sealing;
             cipher = p .cipher;
             rounds = p .rounds;
             keyLen = p .«key_len»;

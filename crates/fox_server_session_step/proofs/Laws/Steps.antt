@@ -188,7 +188,8 @@ module _ (b : Basis) (keys : List ℕ) (here : Here) (to : ℕ) where
 
 -- the refusals of a session's machine are those of a stretch whose counter block has the cipher's block size
 pub refusal-with : (b : Basis) (keys : List ℕ) (here : Here) (offset inputLen outLen : ℕ) {B : ℕ} → B ≡ blockSize (b .cipher)
-    → refusalOf (forRun (b .cipher) (b .rounds) (b .«key_len») B offset inputLen outLen) ≡ refusalOn (machineAt b keys here) offset inputLen outLen
+    → refusalOf (forRun (b .sealing) (b .cipher) (b .rounds) (b .«key_len») B offset inputLen outLen) ≡ refusalOn (machineAt b keys here) offset inputLen outLen
 unfolding machineAt
 refusal-with b keys here offset inputLen outLen e =
-    ap (λ (n : ℕ). refusalOf (forRun (b .cipher) (b .rounds) (b .«key_len») n offset inputLen outLen)) (e ∙ sym (length-heldBlock (b .cipher) (b .counter)))
+    ap (λ (n : ℕ). refusalOf (forRun (b .sealing) (b .cipher) (b .rounds) (b .«key_len») n offset inputLen outLen))
+    (e ∙ sym (length-heldBlock (b .cipher) (b .counter)))

@@ -66,10 +66,10 @@ unfolding sessionIn noSession noKey
 no-session = refl
 
 -- a start: its session is stored, and where it was refused the words are all zeros
-module _ {cipher rounds keyLen : ℕ} {rks counter : List ℕ} {a : Answer} {s : Session}
-    (f : Starts machineOf TrueOf noSession cipher rounds keyLen rks counter a s) where
+module _ {sealing : Bool} {cipher rounds keyLen : ℕ} {rks counter : List ℕ} {a : Answer} {s : Session}
+    (f : Starts machineOf TrueOf noSession sealing cipher rounds keyLen rks counter a s) where
   start-in-words : {words : List ℕ} → sessionIn words ≡ s → ((a .refusal ≡ 0 → ⊥) → words ≡ noWords)
-      → Starts machineIn TrueIn noWords cipher rounds keyLen rks counter (answer (a .refusal) 0) words
+      → Starts machineIn TrueIn noWords sealing cipher rounds keyLen rks counter (answer (a .refusal) 0) words
   unfolding answer
   start-in-words e zeros =
       record {
@@ -81,8 +81,8 @@ module _ {cipher rounds keyLen : ℕ} {rks counter : List ℕ} {a : Answer} {s :
       }
 
   pub start-stored : {words : List ℕ} → a .refusal ≡ 0 → sessionIn words ≡ s
-      → Starts machineIn TrueIn noWords cipher rounds keyLen rks counter (answer (a .refusal) 0) words
+      → Starts machineIn TrueIn noWords sealing cipher rounds keyLen rks counter (answer (a .refusal) 0) words
   start-stored zero e = start-in-words e (λ isnt. absurd (isnt zero))
 
-  pub start-refused : (a .refusal ≡ 0 → ⊥) → Starts machineIn TrueIn noWords cipher rounds keyLen rks counter (answer (a .refusal) 0) noWords
+  pub start-refused : (a .refusal ≡ 0 → ⊥) → Starts machineIn TrueIn noWords sealing cipher rounds keyLen rks counter (answer (a .refusal) 0) noWords
   start-refused isnt = start-in-words (no-session ∙ sym (f .refused isnt)) (λ again. refl)

@@ -1,19 +1,19 @@
--- The 518 words of a session: stores of neighbouring words change these words of the session that they hold, and no others.
+-- The 519 words of a session: stores of neighbouring words change these words of the session that they hold, and no others.
 -- Assumes nothing.
 use mathlib.Core.Path.{_≡_, refl, ap, _∙_}
-use mathlib.Core.Bool.{true}
+use mathlib.Core.Bool.{Bool, true, false, not}
 use mathlib.Core.List.{List, [], _∷_}
 use Prim.Native.Nat.{ℕ, zero, suc, _+_, _^_, _<_, _≤_}
 use native.Mathlib.Nat.{not-suc-le-zero, le-of-suc-le-suc, add-zero, mod-eq-of-lt}
 use native.Mathlib.Omega.{arith}
 use borrow.Author.Tests.{ltb-true}
-use lib.Dec.{ltb}
+use lib.Dec.{ltb, eqb}
 use lib.ListN.{length, getD, take, set, length-set}
 use lib.Seq.{sets, getD-set-other, getD-set-same, take-set-le}
 use Rattle.fox_session.specs.declared.Here.{Here}
 use Rattle.fox_server_session.specs.declared.session.Session.{Session}
 use Rattle.fox_server_session.specs.Session.{sessionAt}
-use Rattle.fox_station_session.specs.Sessions.{sessionIn}
+use Rattle.fox_station_session.specs.Sessions.{directionWord, sessionIn}
 
 -- a word, and words, before the ones that are stored
 before : (vs l : List ℕ) (i j : ℕ) → j < i → getD (sets l i vs) j 0 ≡ getD l j 0
@@ -23,6 +23,15 @@ before (v ∷ vs) l i j h = before vs (set l i v) (suc i) j (omega arith) ∙ ge
 front : (vs l : List ℕ) (i n : ℕ) → n ≤ i → take n (sets l i vs) ≡ take n l
 front [] l i n h = refl
 front (v ∷ vs) l i n h = front vs (set l i v) (suc i) n (omega arith) ∙ take-set-le n l i v h
+
+-- a word after the ones that are stored
+beyond : (vs l : List ℕ) (i j : ℕ) → i + length vs ≤ j → getD (sets l i vs) j 0 ≡ getD l j 0
+beyond [] l i j h = refl
+beyond (v ∷ vs) l i j h = beyond vs (set l i v) (suc i) j (omega arith) ∙ getD-set-other l i j v 0 (λ e. omega arith)
+
+length-stored : (vs l : List ℕ) (i : ℕ) → length (sets l i vs) ≡ length l
+length-stored [] l i = refl
+length-stored (v ∷ vs) l i = length-stored vs (set l i v) (suc i) ∙ length-set l i v
 
 -- a word that is stored
 stored : (vs l : List ℕ) (i k : ℕ) → i + k < length l → k < length vs → getD (sets l i vs) (i + k) 0 ≡ getD vs k 0
@@ -40,24 +49,47 @@ stored (v ∷ vs) l i (suc k) h within =
 abbrev hereIn : Here → List ℕ
 hereIn here = here .position ∷ here .block .left ∷ here .block .right ∷ []
 
-pub here-stored : (words : List ℕ) (here : Here) → length words ≡ 518 → sessionIn (sets words 515 (hereIn here)) ≡ sessionAt (sessionIn words) here
+pub here-stored : (words : List ℕ) (here : Here) → length words ≡ 519 → sessionIn (sets words 515 (hereIn here)) ≡ sessionAt (sessionIn words) here
 unfolding sessionIn
 here-stored words here long =
     let now = sets words 515 (hereIn here) in
     let past : (j : ℕ) → ltb j 515 ≡ true → getD now j 0 ≡ getD words j 0 = λ j h. before (hereIn here) words 515 j (ltb-true j 515 h) in
     let there : (k : ℕ) → ltb k 3 ≡ true → getD now (515 + k) 0 ≡ getD (hereIn here) k 0 =
     λ k h. stored (hereIn here) words 515 k (omega (arith, ltb-true k 3 h)) (ltb-true k 3 h) in
-    simp (past, there 0, there 1, there 2, front (hereIn here) words 515 510 (omega arith))
+    simp (past, there 0, there 1, there 2, front (hereIn here) words 515 510 (omega arith), beyond (hereIn here) words 515 518 (omega arith))
 
 -- the words with what stays the same in a session, but for the round keys
 abbrev basisIn : Session → List ℕ
 basisIn s = s .key .cipher ∷ s .key .rounds ∷ s .key .«key_len» ∷ s .counter .left ∷ s .counter .right ∷ []
 
-pub all-stored : (words : List ℕ) (s : Session) → length words ≡ 518 → take 510 words ≡ s .key .keys → s .key .cipher < 2 ^ 32 → s .key .rounds < 2 ^ 32
-    → sessionAt (sessionIn (sets words 510 (basisIn s))) (s .here) ≡ s
+-- the last word says the direction
+direction-told : (b : Bool) → not (eqb (directionWord b) 0) ≡ b
+unfolding directionWord
+direction-told true = refl
+direction-told false = refl
+
+pub all-stored : (words : List ℕ) (s : Session) → length words ≡ 519 → take 510 words ≡ s .key .keys → s .key .cipher < 2 ^ 32 → s .key .rounds < 2 ^ 32
+    → {d : ℕ} → d ≡ directionWord (s .sealing) → sessionAt (sessionIn (set (sets words 510 (basisIn s)) 518 d)) (s .here) ≡ s
 unfolding sessionIn
-all-stored words s long keys hc hr =
-    let there : (k : ℕ) → ltb k 5 ≡ true → getD (sets words 510 (basisIn s)) (510 + k) 0 ≡ getD (basisIn s) k 0 =
+all-stored words s long keys hc hr {d} e =
+    let now = sets words 510 (basisIn s) in
+    let there : (k : ℕ) → ltb k 5 ≡ true → getD now (510 + k) 0 ≡ getD (basisIn s) k 0 =
     λ k h. stored (basisIn s) words 510 k (omega (arith, ltb-true k 5 h)) (ltb-true k 5 h) in
-    simp
-    (there 0, there 1, there 2, there 3, there 4, front (basisIn s) words 510 510 (omega arith), keys, mod-eq-of-lt hc, mod-eq-of-lt hr)
+    let past : (j : ℕ) → ltb j 518 ≡ true → getD (set now 518 d) j 0 ≡ getD now j 0 =
+    λ j h. getD-set-other now 518 j d 0 (λ q. omega (arith, ltb-true j 518 h)) in
+    let last : getD (set now 518 d) 518 0 ≡ directionWord (s .sealing) = getD-set-same now 518 d 0 (omega (arith, length-stored (basisIn s) words 510)) ∙ e in
+    simp (
+      past,
+      there 0,
+      there 1,
+      there 2,
+      there 3,
+      there 4,
+      last,
+      direction-told,
+      take-set-le 510 now 518 d (omega arith),
+      front (basisIn s) words 510 510 (omega arith),
+      keys,
+      mod-eq-of-lt hc,
+      mod-eq-of-lt hr,
+    )

@@ -1,4 +1,4 @@
--- `fox_station_session::basis_in` meets its contract: what stays the same in the session is read from the words 510 to 514.
+-- `fox_station_session::basis_in` meets its contract: what stays the same in the session is read from the words 510 to 514 and 518.
 -- Assumes nothing.
 use borrow.Author.Needs.{needs}
 use Rattle.fox_station_session.specs.Sessions.{sessionIn}
@@ -12,4 +12,4 @@ returns c = search needs
 pub basis-in-spec : {M : Type 1} → statement M
 basis-in-spec =
     tie.close
-    (tie.spec (λ c. search needs) (λ c. search needs) (λ c. search needs) (λ c. search needs) (λ c. search needs) (λ c. search needs) (λ c. search needs) returns)
+    (tie.spec (λ c. search needs) (λ c. search needs) (λ c. search needs) (λ c. search needs) (λ c. search needs) (λ c. search needs) (λ c. search needs) (λ c. search needs) returns)

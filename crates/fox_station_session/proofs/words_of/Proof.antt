@@ -13,7 +13,7 @@ use Rattle.fox_station_session.proofs.words_of.Statement.{statement}
 use Rattle.fox_station_session.proofs.words_of.Tie as tie
 
 abbrev Inv-loop : tie.InvT-loop
-Inv-loop s key keys counter words₀ i₀ words i = (i ≤ 510) × (length words ≡ 518) × (take i words ≡ take i keys)
+Inv-loop s key keys counter words₀ i₀ words i = (i ≤ 510) × (length words ≡ 519) × (take i words ≡ take i keys)
 
 abbrev μ-loop : tie.MeasureT-loop
 μ-loop s key keys counter words₀ i₀ words i = 510 - i
@@ -27,24 +27,26 @@ loop-again c =
     let at = c .before .loop in
     let start = c .before .before .before .before .before in
     let keys = start .args .s .key .keys in
-    let long : length (at .words) ≡ 518 = at .inv .1 in
+    let long : length (at .words) ≡ 519 = at .inv .1 in
     let here : at .i < length (at .words) = omega arith in
     let there : at .i < length keys = omega (arith, keys-long start) in
     (omega arith, simp length-set long, rw (add-one, take-suc-set (at .words) (at .i), take-suc keys (at .i) 0, at .inv .2))
 
 returns : tie.Need-returns Inv-loop μ-loop
 returns c =
-    let known = c .before .before .before in
+    let made = c .before .before .before in
+    let known = made .before in
     let at = known .before .before .before .loop in
     let start = known .before .before .before .before .before .before .before in
     let all : at .i ≡ 510 = omega arith in
     let keys = rw all at (at .inv .2) ∙ take-all 510 (start .args .s .key .keys) (omega (arith, keys-long start)) in
     c .before .write-here .ensures
     ∙ all-stored (at .words) (start .args .s) (at .inv .1) keys (known .before .struct-known .given .0 .fits) (known .struct-known2 .given .1 .0 .fits)
+    (made .direction .ensures)
 
 pub words-of-spec : {M : Type 1} → statement M
 words-of-spec =
     tie.close
     (tie.spec Inv-loop μ-loop (λ c. (omega arith, refl, refl)) (λ c. search needs) (λ c. search needs) (λ c. search needs) (λ c. search needs)
     (λ c. search needs) (λ c. search needs) loop-again (λ c. search needs) (λ c. search needs) (λ c. search needs) (λ c. search needs) (λ c. search needs)
-    (λ c. search needs) (λ c. search needs) (λ c. search needs) (λ c κs. search needs) returns)
+    (λ c. search needs) (λ c. search needs) (λ c κs. search needs) (λ c. search needs) (λ c. search needs) (λ c κs. search needs) returns)

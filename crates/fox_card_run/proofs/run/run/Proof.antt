@@ -22,17 +22,17 @@ returns : tie.Need-returns
 returns c = let at = c .before in refused-reply (at .before .for-run .ensures) (at .if1 .taken) (c .refused .ensures)
 
 of-requires : tie.Need-of-requires
-of-requires c κs = stretched _ _ _ _ _ _ _ (sym (c .before .for-run .ensures) ∙ c .if1 .left) .keyed .key
+of-requires c κs = stretched _ _ _ _ _ _ _ _ (sym (c .before .for-run .ensures) ∙ c .if1 .left) .keyed .key
 
 read-requires : tie.Need-read-requires
 read-requires c κs =
     let at = c .before in
-    stretched _ _ _ _ _ _ _ (sym (at .before .for-run .ensures) ∙ at .if1 .left) .counter
+    stretched _ _ _ _ _ _ _ _ (sym (at .before .for-run .ensures) ∙ at .if1 .left) .counter
 
 stretch-requires : tie.Need-stretch-requires
 stretch-requires c κs =
     let at = c .before .before .before in
-    let known = stretched _ _ _ _ _ _ _ (sym (at .before .for-run .ensures) ∙ at .if1 .left) in
+    let known = stretched _ _ _ _ _ _ _ _ (sym (at .before .for-run .ensures) ∙ at .if1 .left) in
     (omega (arith, known .keyed .low, known .keyed .high), known .end, known .output)
 
 returns-2 : tie.Need-returns-2
@@ -43,7 +43,7 @@ returns-2 c =
     let at = of .before in
     let a = at .before .before .before .before .before .before .args in
     let zero = sym (at .before .for-run .ensures) ∙ at .if1 .left in
-    let known = stretched _ _ _ _ _ _ _ zero in
+    let known = stretched _ _ _ _ _ _ _ _ zero in
     served-reply _ _ _ _ _ zero (c .served .ensures .0) (c .served .ensures .1 ∙ laid .stretch .kept .1 .1 .1 .1 .1 .0)
     (laid .stretch .ensures
     ∙ ap₂ (λ (ks : List ℕ) (x : State). xorFrom (stream ks x) (a .offset) (a .input .now))

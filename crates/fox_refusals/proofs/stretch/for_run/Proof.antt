@@ -3,15 +3,15 @@
 use mathlib.Core.Path.{refl, ap, ap₂, _∙_}
 use mathlib.Core.Bool.{Bool}
 use Prim.Native.Nat.{ℕ}
-use Rattle.fox_refusals.specs.Refusals.{orElse, above, differs, forKey, forStretch, forRun, wrongCipher, wrongRounds, longKey, wrongBlockLength}
-use Rattle.fox_refusals.specs.Refusals.{longData, wrongOutputLength, pastEnd}
+use Rattle.fox_refusals.specs.Refusals.{orElse, above, differs, forKey, forTurn, forStretch, forRun, wrongCipher, wrongRounds, longKey}
+use Rattle.fox_refusals.specs.Refusals.{shortKey, wrongBlockLength, longData, wrongOutputLength, pastEnd}
 use Rattle.fox_refusals.proofs.Laws.Refusals.{numbered, chain, chained}
 use borrow.Author.Needs.{needs}
 use Rattle.fox_refusals.proofs.stretch.for_run.Statement.{statement}
 use Rattle.fox_refusals.proofs.stretch.for_run.Tie as tie
 
 returns : tie.Need-returns
-unfolding numbered chain forKey forStretch forRun wrongCipher wrongRounds longKey wrongBlockLength longData wrongOutputLength pastEnd
+unfolding numbered chain forKey forTurn forStretch forRun wrongCipher wrongRounds longKey shortKey wrongBlockLength longData wrongOutputLength pastEnd
 returns c =
     let past = c .before in
     let of-output = past .before in
@@ -26,9 +26,9 @@ returns c =
     ∙ ap (λ (r : ℕ). orElse r (differs (a .out-len) (a .input-len)) 6)
     (of-input .or-else2 .ensures
     ∙ ap (λ (r : ℕ). orElse r (above 65536 (a .input-len)) 5)
-    (of-counter .or-else .ensures ∙ ap₂ (λ (r b : ℕ). orElse r (differs (a .counter-len) b) 4) (key .for-key .ensures) (size .block-size .ensures))))
+    (of-counter .or-else .ensures ∙ ap₂ (λ (r b : ℕ). orElse r (differs (a .counter-len) b) 4) (key .for-turn .ensures) (size .block-size .ensures))))
     (past .past-end .ensures)
-    ∙ chained (forKey (a .cipher) (a .rounds) (a .key-len)) (forStretch (a .cipher) (a .counter-len) (a .offset) (a .input-len) (a .out-len)) refl
+    ∙ chained (forTurn (a .sealing) (a .cipher) (a .rounds) (a .key-len)) (forStretch (a .cipher) (a .counter-len) (a .offset) (a .input-len) (a .out-len)) refl
 
 pub for-run-spec : {M : Type 1} → statement M
 for-run-spec =

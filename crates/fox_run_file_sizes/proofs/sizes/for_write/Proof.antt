@@ -8,9 +8,10 @@ use native.Mathlib.Omega.{arith}
 use lib.Dec.{ltb}
 use borrow.Author.Needs.{needs}
 use borrow.Author.Tests.{not-true, not-false}
-use Rattle.fox_refusals.specs.Refusals.{Refusal, refusalOf, orElse, differs, blockSize, wrongCipher, wrongRounds, longKey, wrongBlockLength, forKey, Keyed}
+use Rattle.fox_refusals.specs.Refusals.{Refusal, refusalOf, orElse, differs, blockSize, wrongCipher, wrongRounds, longKey, shortKey, wrongBlockLength}
+use Rattle.fox_refusals.specs.Refusals.{forKey, forTurn, Keyed}
 use Rattle.fox_refusals.specs.declared.answer.Answer.{Answer}
-use Rattle.fox_refusals.proofs.Laws.Refusals.{numbered, chain, chained, keyed}
+use Rattle.fox_refusals.proofs.Laws.Refusals.{numbered, chain, chained, turnable}
 use Rattle.fox_run_file.specs.Sizes.{total, fileSize, pastLimit}
 use Rattle.fox_run_file.specs.Refusals.{wrongSizes, smallOutput, forWrite}
 use Rattle.fox_run_file.specs.Parts.{MayWrite}
@@ -21,33 +22,33 @@ use Rattle.fox_run_file_sizes.proofs.sizes.for_write.Tie as tie
 
 -- the tests of key and counter block, and those of the lengths
 unfoldable front : ℕ → ℕ → ℕ → ℕ → List Refusal
-front c r k b = forKey c r k ++ (wrongBlockLength c b ∷ [])
+front c r k b = forTurn true c r k ++ (wrongBlockLength c b ∷ [])
 
 module _ (c r k b : ℕ) where
-  front-tested : {key size n : ℕ} → key ≡ refusalOf (forKey c r k) → size ≡ blockSize c → n ≡ orElse key (differs b size) 4 → n ≡ refusalOf (front c r k b)
-  unfolding front numbered chain forKey wrongCipher wrongRounds longKey wrongBlockLength
+  front-tested : {key size n : ℕ} → key ≡ refusalOf (forTurn true c r k) → size ≡ blockSize c → n ≡ orElse key (differs b size) 4 → n ≡ refusalOf (front c r k b)
+  unfolding front numbered chain forKey forTurn wrongCipher wrongRounds longKey shortKey wrongBlockLength
   front-tested ek es e =
-      e ∙ ap₂ (λ (m s : ℕ). orElse m (differs b s) 4) ek es ∙ chained (forKey c r k) (wrongBlockLength c b ∷ []) refl
+      e ∙ ap₂ (λ (m s : ℕ). orElse m (differs b s) 4) ek es ∙ chained (forTurn true c r k) (wrongBlockLength c b ∷ []) refl
 
   front-keyed : refusalOf (front c r k b) ≡ 0 → Keyed c r k
-  unfolding front numbered forKey wrongCipher wrongRounds longKey wrongBlockLength
-  front-keyed z = keyed c r k (front-served (forKey c r k) (wrongBlockLength c b ∷ []) refl z)
+  unfolding front numbered forKey forTurn wrongCipher wrongRounds longKey shortKey wrongBlockLength
+  front-keyed z = turnable true c r k (front-served (forTurn true c r k) (wrongBlockLength c b ∷ []) refl z) .0
 
 module _ (c r k b d : ℕ) (sizes : List ℕ) (o : ℕ) where
   rest : List Refusal
   rest = wrongSizes c r sizes d ∷ smallOutput c r sizes o ∷ []
 
   early : {n : ℕ} → n ≡ refusalOf (front c r k b) → (n ≡ 0 → ⊥) → n ≡ refusalOf (forWrite c r k b d sizes o)
-  unfolding front rest forKey forWrite
+  unfolding front rest forKey forTurn forWrite
   early e isnt = found-first (front c r k b) rest e isnt
 
   past : pastLimit c r sizes ≡ true → refusalOf (front c r k b) ≡ 0 → 12 ≡ refusalOf (forWrite c r k b d sizes o)
-  unfolding front rest numbered refusalOf forKey forWrite wrongCipher wrongRounds longKey wrongBlockLength wrongSizes
+  unfolding front rest numbered refusalOf forKey forTurn forWrite wrongCipher wrongRounds longKey shortKey wrongBlockLength wrongSizes
   past limits z = sym (found-later (front c r k b) rest refl z ∙ rw limits)
 
   all-tested : {n s t m : ℕ} → n ≡ refusalOf (front c r k b) → (pastLimit c r sizes ≡ false) × (t ≡ total sizes) × (s ≡ fileSize c r sizes)
       → m ≡ orElse n (differs t d) 12 → orElse m (ltb o s) 6 ≡ refusalOf (forWrite c r k b d sizes o)
-  unfolding front rest numbered chain forKey forWrite wrongCipher wrongRounds longKey wrongBlockLength wrongSizes smallOutput
+  unfolding front rest numbered chain forKey forTurn forWrite wrongCipher wrongRounds longKey shortKey wrongBlockLength wrongSizes smallOutput
   all-tested en (limits, et, es) em =
       rw (em, en, et, es)
       (ap (λ (p : Bool). orElse (orElse (refusalOf (front c r k b)) (p || differs (total sizes) d) 12) (ltb o (fileSize c r sizes)) 6) (sym limits)
@@ -61,7 +62,7 @@ module _ (c r k b d : ℕ) (sizes : List ℕ) (o : ℕ) where
 
 in-front : (x : tie.After-or-else)
     → let a = x .before .before .before .before .args in x .or-else .result ≡ refusalOf (front (a .cipher) (a .rounds) (a .key-len) (a .counter-len))
-in-front x = front-tested _ _ _ _ (x .before .before .for-key .ensures) (x .before .block-size .ensures) (x .or-else .ensures)
+in-front x = front-tested _ _ _ _ (x .before .before .for-turn .ensures) (x .before .block-size .ensures) (x .or-else .ensures)
 
 whole : (x : tie.After-or-else3)
     → let a = x .before .before .before .before .before .before .before .before .before .before .before .before .args in

@@ -16,7 +16,7 @@ returns c = let at = c .before in refused-reply (at .before .for-run .ensures) (
 stretch-requires : tie.Need-stretch-requires
 stretch-requires c κs =
     let test = c .before .before .before .before in
-    ready _ _ _ (stretched _ _ _ _ _ _ _ (sym (test .before .for-run .ensures) ∙ test .if1 .left))
+    ready _ _ _ (stretched _ _ _ _ _ _ _ _ (sym (test .before .for-run .ensures) ∙ test .if1 .left))
 
 returns-2 : tie.Need-returns-2
 unfolding roundKeysIn

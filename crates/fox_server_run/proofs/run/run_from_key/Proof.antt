@@ -19,8 +19,8 @@ returns-2 c =
     let test = made .before in
     let a = test .before .before .before .before .before .before .args in
     let zero = sym (test .before .for-run .ensures) ∙ test .if1 .left in
-    run-prepared (a .cipher) (a .rounds) (a .key .now) (a .counter .now) (a .offset) (a .input .now) (made .prepare .result)
-    (stretched _ _ _ _ _ _ _ zero .keyed) (made .prepare .ensures) (call .run .ensures)
+    run-prepared (a .sealing) (a .cipher) (a .rounds) (a .key .now) (a .counter .now) (a .offset) (a .input .now) (made .prepare .result)
+    (stretched _ _ _ _ _ _ _ _ zero .keyed) (made .prepare .ensures) (call .run .ensures)
 
 pub run-from-key-spec : {M : Type 1} → statement M
 run-from-key-spec =

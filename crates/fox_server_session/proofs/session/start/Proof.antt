@@ -13,17 +13,17 @@ returns : tie.Need-returns
 returns c =
     let test = c .before in
     record {
-      starts = refused-start _ _ _ _ _ (test .before .for-run .ensures) (test .if1 .taken) (c .refused .ensures);
+      starts = refused-start _ _ _ _ _ _ (test .before .for-run .ensures) (test .if1 .taken) (c .refused .ensures);
       key = λ z. absurd (test .if1 .taken (sym (c .refused .ensures .0) ∙ z));
     }
 
 read-block-requires : tie.Need-read-block-requires
-read-block-requires c κs = stretched _ _ _ _ _ _ _ (sym (c .before .for-run .ensures) ∙ c .if1 .left) .counter
+read-block-requires c κs = stretched _ _ _ _ _ _ _ _ (sym (c .before .for-run .ensures) ∙ c .if1 .left) .counter
 
 block-at-requires : tie.Need-block-at-requires
 block-at-requires c κs =
     let test = c .before .before .before .before in
-    let known = stretched _ _ _ _ _ _ _ (sym (test .before .for-run .ensures) ∙ test .if1 .left) in
+    let known = stretched _ _ _ _ _ _ _ _ (sym (test .before .for-run .ensures) ∙ test .if1 .left) in
     (omega (arith, known .keyed .low), known .keyed .high, search needs)
 
 returns-2 : tie.Need-returns-2
@@ -32,7 +32,7 @@ returns-2 c =
     let test = read .before in
     let a = test .before .before .before .args in
     record {
-      starts = served-start (a .p) (read .read-block .result) (c .before .block-at .result) (a .counter .now)
+      starts = served-start (a .sealing) (a .p) (read .read-block .result) (c .before .block-at .result) (a .counter .now)
           (sym (test .before .for-run .ensures) ∙ test .if1 .left) (c .served .ensures) (read .read-block .ensures) (c .before .block-at .ensures);
       key = λ z. refl;
     }

@@ -18,7 +18,7 @@ returns : tie.Need-returns
 returns c =
     let test = c .before in
     record {
-      starts = refused-start _ _ _ _ _ (test .before .for-run .ensures) (test .if1 .taken) (c .refused .ensures);
+      starts = refused-start _ _ _ _ _ _ (test .before .for-run .ensures) (test .if1 .taken) (c .refused .ensures);
       key = λ z. absurd (test .if1 .taken (sym (c .refused .ensures .0) ∙ z));
     }
 
@@ -27,11 +27,11 @@ returns-2 c =
     let made = c .before .before in
     let test = made .before in
     let a = test .before .before .before .before .args in
-    let keyed = stretched _ _ _ _ _ _ _ (sym (test .before .for-run .ensures) ∙ test .if1 .left) .keyed in
+    let keyed = stretched _ _ _ _ _ _ _ _ (sym (test .before .for-run .ensures) ∙ test .if1 .left) .keyed in
     let started = c .start .result in
     record {
-      starts = from-prepared (λ (cipher n keyLen : ℕ) (rks : List ℕ). Starts machineOf TrueOf noSession cipher n keyLen rks (a .counter .now) (started .answer)
-          (started .session)) (a .cipher) (a .rounds) (a .key .now) (made .prepare .result) keyed (made .prepare .ensures) (c .start .ensures .starts);
+      starts = from-prepared (λ (cipher n keyLen : ℕ) (rks : List ℕ). Starts machineOf TrueOf noSession (a .sealing) cipher n keyLen rks (a .counter .now)
+          (started .answer) (started .session)) (a .cipher) (a .rounds) (a .key .now) (made .prepare .result) keyed (made .prepare .ensures) (c .start .ensures .starts);
       key = λ z. c .start .ensures .key z ∙ made .prepare .ensures .key ∙ sym (chosen _ _ _ (keyed-served keyed));
     }
 

@@ -27,13 +27,13 @@ returns c =
 pass-requires : tie.Need-pass-requires
 pass-requires c κs =
     let test = c .before in
-    let known = stretched _ _ _ _ _ _ _ (sym (test .before .for-run .ensures) ∙ test .if1 .left) in
+    let known = stretched _ _ _ _ _ _ _ _ (sym (test .before .for-run .ensures) ∙ test .if1 .left) in
     (record { keyed = known .keyed; words = test .before .before .before .before .before .before .pre; within = known .end }, known .output)
 
 add-position : tie.Need-add-position
 add-position c =
     let test = c .before .before .before .before .before in
-    omega (arith, stretched _ _ _ _ _ _ _ (sym (test .before .for-run .ensures) ∙ test .if1 .left) .end)
+    omega (arith, stretched _ _ _ _ _ _ _ _ (sym (test .before .for-run .ensures) ∙ test .if1 .left) .end)
 
 returns-2 : tie.Need-returns-2
 unfolding machineAt
@@ -47,7 +47,7 @@ returns-2 c =
     let none = sym (asked .for-run .ensures) ∙ test .if1 .left in
     served-advance (machineAt (a .b) keys) (TrueAt (a .b) keys) (a .here) (a .input .now) (a .out .now)
     (sym (refusal-with (a .b) keys (a .here) _ _ _ (size .block-size .ensures)) ∙ none)
-    (c .served .ensures .0, c .served .ensures .1 ∙ passed .pass .kept .1 .1 .1 .1 .0) (stretched _ _ _ _ _ _ _ none .output) refl
+    (c .served .ensures .0, c .served .ensures .1 ∙ passed .pass .kept .1 .1 .1 .1 .0) (stretched _ _ _ _ _ _ _ _ none .output) refl
     (passed .pass .ensures .bytes) (passed .pass .ensures .block)
 
 pub advance-spec : {M : Type 1} → statement M

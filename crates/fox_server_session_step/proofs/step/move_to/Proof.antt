@@ -26,7 +26,7 @@ returns c =
 
 renew-requires : tie.Need-renew-requires
 renew-requires c κs =
-    let known = stretched _ _ _ _ _ _ _ (sym (c .before .for-run .ensures) ∙ c .if1 .left) in
+    let known = stretched _ _ _ _ _ _ _ _ (sym (c .before .for-run .ensures) ∙ c .if1 .left) in
     record { keyed = known .keyed; words = c .before .before .before .before .pre; within = omega (arith, known .end) }
 
 returns-2 : tie.Need-returns-2

@@ -1,12 +1,12 @@
--- `fox_station_session::fox_session_start` meets its contract: the words hold the session that was started, or are all zeros where it was refused.
+-- `fox_station_session::start_in` meets its contract: the words hold the session that was started, or are all zeros where it was refused.
 -- Assumes nothing.
 use mathlib.Core.Path.{ap, _∙_}
 use Rattle.fox_refusals.specs.Handed.{answer}
 use Rattle.fox_server_session.specs.declared.session.Session.{Session}
 use borrow.Author.Needs.{needs}
 use Rattle.fox_station_session.proofs.Laws.Calls.{start-stored, start-refused}
-use Rattle.fox_station_session.proofs.fox_session_start.Statement.{statement}
-use Rattle.fox_station_session.proofs.fox_session_start.Tie as tie
+use Rattle.fox_station_session.proofs.start_in.Statement.{statement}
+use Rattle.fox_station_session.proofs.start_in.Tie as tie
 
 returns : tie.Need-returns
 unfolding answer
@@ -23,5 +23,5 @@ returns-2 c =
     let begun = c .before .before .before .before .start-from-key .ensures in
     record { starts = start-refused (begun .starts) (c .before .if1 .left); held = λ z. absurd (c .before .if1 .left z) }
 
-pub fox-session-start-spec : {M : Type 1} → statement M
-fox-session-start-spec = tie.close (tie.spec (λ c κs. search needs) (λ c κs. search needs) returns returns-2)
+pub start-in-spec : {M : Type 1} → statement M
+start-in-spec = tie.close (tie.spec (λ c κs. search needs) (λ c κs. search needs) returns returns-2)
