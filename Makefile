@@ -4,7 +4,7 @@ DESTDIR =
 # The version stands in the header alone.
 VERSION := $(shell sed -n 's/^\#define FOX_VERSION "\(.*\)"$$/\1/p' include/fox.h)
 # Programs linked with the shared library ask for it by this name. It changes when a program would have to be linked anew.
-SONAME = libfox.so.0
+SONAME = libfox.so.1
 
 # The machine's own processor; with another one named, what is made for it stands apart.
 MACHINE := $(shell uname -m)

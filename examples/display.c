@@ -1,16 +1,20 @@
-/* Opens a sealed run as its bytes arrive, a few at a time, and puts each of them out at once, as a live display does:
+/* Opens a sealed run as its bytes arrive, a few at a time, and puts each of them out at once, as a live display does; or
+ * seals a run in the same way, as a recorder does:
  *
- *   display KEYFILE NUMBER [FROM] <SEALED
+ *   display open KEYFILE NUMBER [FROM] <SEALED
+ *   display seal KEYFILE NUMBER [FROM] <PLAIN
  *
- * KEYFILE has the bytes of the key, as `head -c 16 /dev/urandom >night.key` makes them. NUMBER is that of the run, and
- * FROM the offset of the first byte that arrives, 0 where it is left out: `tail -c +5001 -f night.sealed | display
- * night.key 7 5000` shows run 7 from byte 5,000 on. Plain bytes are sealed by the same command. */
+ * KEYFILE has the bytes of the key, as `head -c 16 /dev/urandom >night.key` makes them: 16 to 32 to seal, and to open as
+ * many as the run was sealed with, which may be fewer. NUMBER is that of the run, and FROM the offset of the first byte
+ * that arrives, 0 where it is left out: `tail -c +5001 -f night.sealed | display open night.key 7 5000` shows run 7 from
+ * byte 5,000 on. No byte of a run is sealed twice: what is sealed from its first byte on again gets another number. */
 #define _POSIX_C_SOURCE 200809L
 #include "fox.h"
 
 #include <fcntl.h>
 #include <stdio.h>
 #include <stdlib.h>
+#include <string.h>
 #include <unistd.h>
 
 enum { CIPHER = FOX128, BLOCK = FOX128_BLOCK, ROUNDS = 16, PIECE = 4096, DONE = 0, TROUBLE = 1 };
@@ -24,7 +28,7 @@ static int complain(const char *name, const char *what)
     return TROUBLE;
 }
 
-/* All of what was opened, however little is taken at a time. */
+/* All of what was sealed or opened, however little is taken at a time. */
 static int show(size_t len)
 {
     for (size_t at = 0; at < len;) {
@@ -36,9 +40,9 @@ static int show(size_t len)
     return DONE;
 }
 
-/* The key's bytes are needed no more once the session has started. What the calls leave in the stack is wiped by the
- * function that makes them. */
-static int start(const char *path, uint32_t number, uint64_t from)
+/* The start alone says which of the two the session is for: the calls that go on with it are the same. The key's bytes
+ * are needed no more once it has started. What the calls leave in the stack is wiped by the function that makes them. */
+static int start(int sealing, const char *path, uint32_t number, uint64_t from)
 {
     uint8_t counter[BLOCK];
     int file = open(path, O_RDONLY);
@@ -49,7 +53,8 @@ static int start(const char *path, uint32_t number, uint64_t from)
         return complain(path, "cannot be read");
     uint32_t refusal = fox_counter(CIPHER, number, counter, BLOCK);
     if (refusal == FOX_SERVED)
-        refusal = fox_session_start(CIPHER, ROUNDS, key, (size_t)key_len, counter, BLOCK, session);
+        refusal = (sealing ? fox_session_start_sealing : fox_session_start_opening)(CIPHER, ROUNDS, key, (size_t)key_len,
+                                                                                    counter, BLOCK, session);
     if (refusal == FOX_SERVED)
         refusal = fox_session_move(session, from);
     fox_wipe_stack();
@@ -80,11 +85,12 @@ static uint64_t number_in(const char *word, uint64_t most)
 
 int main(int count, char **words)
 {
-    uint64_t number = count < 3 || count > 4 ? UINT32_MAX + 1ull : number_in(words[2], UINT32_MAX);
-    uint64_t from = count < 4 ? 0 : number_in(words[3], FOX_RUN_END);
-    if (number > UINT32_MAX || from > FOX_RUN_END)
-        return complain("usage", "display KEYFILE NUMBER [FROM], the bytes of the run on standard input");
-    int status = start(words[1], (uint32_t)number, from);
+    int there = count == 4 || count == 5, sealing = there && strcmp(words[1], "seal") == 0;
+    uint64_t number = there ? number_in(words[3], UINT32_MAX) : UINT32_MAX + 1ull;
+    uint64_t from = count == 5 ? number_in(words[4], FOX_RUN_END) : 0;
+    if (!there || (!sealing && strcmp(words[1], "open") != 0) || number > UINT32_MAX || from > FOX_RUN_END)
+        return complain("usage", "display open|seal KEYFILE NUMBER [FROM], the bytes of the run on standard input");
+    int status = start(sealing, words[2], (uint32_t)number, from);
     if (status == DONE)
         status = follow();
     fox_wipe(session, sizeof session);

@@ -3,8 +3,9 @@
  *   runfile write KEYFILE NUMBER FILE SCAN..   the file FILE, a run of this number, from the files SCAN..
  *   runfile read KEYFILE FILE NUMBER           the scan of this number, on standard output
  *
- * KEYFILE has the bytes of the key, as `head -c 16 /dev/urandom >night.key` makes them. No two files under one key get
- * the same number, and none gets 0. */
+ * KEYFILE has the bytes of the key, as `head -c 16 /dev/urandom >night.key` makes them: 16 to 32 to write, and to read
+ * those that the file was written with, which may be fewer. No two files under one key get the same number, and none
+ * gets 0. */
 #include "fox.h"
 
 #include <stdio.h>

@@ -41,8 +41,9 @@ static uint8_t taken[FOX_MOST_DATA], made[FOX_MOST_DATA];
 
 static uint32_t run(const struct job *job, uint64_t offset, const uint8_t *data, size_t len, uint8_t *out)
 {
-    return (job->card ? fox_card_run : fox_server_run)(job->cipher, job->rounds, job->key, job->key_len, job->counter,
-                                                       job->counter_len, offset, data, len, out, len);
+    return (job->sealing ? job->card ? fox_card_seal_run : fox_server_seal_run
+                         : job->card ? fox_card_open_run : fox_server_open_run)(
+        job->cipher, job->rounds, job->key, job->key_len, job->counter, job->counter_len, offset, data, len, out, len);
 }
 
 static int refused(const struct work *w, uint32_t number)
@@ -55,7 +56,8 @@ static int refused(const struct work *w, uint32_t number)
     case FOX_REFUSED_ROUNDS:
         return complain(TROUBLE, "--rounds is %" PRIu32 " (refusal 2): %s", job->rounds, text);
     case FOX_REFUSED_KEY:
-        return complain(TROUBLE, "the key has %zu bytes (refusal 3): %s", job->key_len, text);
+    case FOX_REFUSED_SHORT_KEY:
+        return complain(TROUBLE, "the key has %zu bytes (refusal %" PRIu32 "): %s", job->key_len, number, text);
     case FOX_REFUSED_BLOCK:
         return complain(TROUBLE, "--counter has %zu bytes (refusal 4): %s", job->counter_len, text);
     case FOX_REFUSED_END:

@@ -22,10 +22,11 @@ static const char usage[] =
     "  -r, --rounds N        12 to 255; take 16 or more to seal something new\n"
     "KEY is one of\n"
     "  -k, --key-file NAME   the key from a file, or from standard input where NAME is -: up to 64 hex digits, two to\n"
-    "                        a byte, with or without a line feed after them; take 32 digits or more, made at random\n"
+    "                        a byte, with or without a line feed after them; to seal 32 or more, made at random\n"
     "      --key DIGITS      the key itself: every user of the machine can see it in the list of processes when the\n"
     "                        command begins, and the shell may keep it among its old commands\n"
-    "      --empty-key       the key of 0 bytes, which is no secret; without this an empty key is refused\n"
+    "      --empty-key       the key of 0 bytes, which is no secret: it opens, and to seal with it is refused; without\n"
+    "                        this an empty key is taken for a mistake\n"
     "COUNTER is one of\n"
     "  -n, --number N        the number of the run, 0 to 4294967295: its counter block is made from it\n"
     "      --counter DIGITS  the counter block that the run begins with, 16 hex digits for cipher 64 and 32 for 128\n"
@@ -43,6 +44,8 @@ static const char usage[] =
     "only four such bytes, and one key should seal no more than 1 GiB in all.\n"
     "Keep cipher, rounds and number with the sealed file: they are no secret. A wrong one, as a wrong key, is not\n"
     "noticed when a file is opened: other bytes come out.\n"
+    "Under a key of fewer than 32 digits nothing is sealed, and no file is made (refusal 13). What was sealed under\n"
+    "such a key is opened with it. The key can be found by trying, so seal what was opened anew, under a longer one.\n"
     "A run has at most 1073741824 bytes. The exit status is 0 for success, 1 for a refusal or trouble with a file,\n"
     "2 for wrong words.\n"
     "\n"
@@ -238,7 +241,8 @@ static int read_hex(const char *name, const char *text, size_t digits, uint8_t *
 static int key_digits(const char *name, const char *text, size_t digits, struct job *job)
 {
     if (digits == 0)
-        return complain(WRONG_WORDS, "%s is empty (is a variable of the shell not set?); --empty-key takes the key of 0 bytes",
+        return complain(WRONG_WORDS,
+                        "%s is empty (is a variable of the shell not set?); --empty-key takes the key of 0 bytes, to open with",
                         name);
     return read_hex(name, text, digits, job->key, &job->key_len);
 }
@@ -336,8 +340,6 @@ static int read_counter(char **given, struct job *job)
 static void warn_of_sealing(const struct job *job)
 {
     static const uint8_t zeros[4];
-    if (job->key_len < 16)
-        complain(DONE, "warning: the key has %zu bytes, and should have 16 or more", job->key_len);
     if (job->rounds >= FOX_LEAST_ROUNDS && job->rounds < 16)
         complain(DONE, "warning: --rounds is %" PRIu32 ", and should be 16 or more", job->rounds);
     if (job->counter_len == block_of(job->cipher) &&

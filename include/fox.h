@@ -5,8 +5,12 @@
  *
  * To seal safely:
  *
- * - Take a key of 16 random bytes or more, and 16 rounds or more. The calls take shorter keys and fewer
- *   rounds, so that what was sealed with them can be opened.
+ * - Take a key of 16 random bytes or more: every call that seals refuses a shorter one (13). Calls that open, and
+ *   those on tags, take keys of 0 to 32 bytes, so that what was sealed under a short one can be opened. A short
+ *   key is found by trying them all, one of 4 bytes within a day on one machine: open what was sealed under it,
+ *   and seal it anew. Zeros after a short key, or the same bytes again, make another key of it, that is found as
+ *   soon.
+ * - Take 16 rounds or more. Fewer are served, down to 12, so that what was sealed with them can be opened.
  * - Give each run under one key another value in the bytes before the last four, and set the last four to
  *   zero: fox_counter makes such a counter block from a number that you give the run. Two runs that share a
  *   counter block can be read from one another, without the key. FOX64 has only four bytes before the last
@@ -31,8 +35,8 @@
  *   stretch        consecutive bytes of a run, from any offset on
  *   counter block  CTR's initial counter block; the run's later blocks take the counter blocks after it
  *   key stream     the encrypted counter blocks, one after the other, with which the run is XORed
- *   session        an open run: key, counter block, position and block in use, kept from call to call in words
- *                  that the caller lends
+ *   session        a run that is kept at work, for sealing or for opening: key, counter block, position and block
+ *                  in use, kept from call to call in words that the caller lends
  *   position       where a session stands: the offset of the byte that comes next
  *   block in use   the sealed counter block that a session's position is in; bytes inside it are XORed with it,
  *                  and nothing is sealed for them
@@ -60,24 +64,33 @@
  * gives the same bytes too: it expands the key once, when it is started, and after that makes tables only in an
  * advance that takes in a whole block beyond the block in use.
  *
+ * Sealing takes a key of 16 bytes or more: a block or a stretch of a run that is to be sealed, the start of a
+ * session for sealing, and a run file that is to be written are refused with 13 under a shorter one. But for that
+ * a call that seals and the one that opens are refused alike.
+ *
  * Every call of an engine or on a session, fox_counter, and every call on a run file that gives a count or takes
- * a file up, answers FOX_SERVED, which is 0, or the number of the first refusal below that applies. Order for
- * sessions: fox_session_start 1, 2, 3, 4; fox_session_advance 1, 2, 3, 5, 6, 7; fox_session_move 1, 2, 3, 7,
- * where 1, 2 and 3 are for words that no served start has filled, and are 1 after a refused one. For run files:
- * fox_file_size 1, 2, 12; fox_file_write 1, 2, 3, 4, 12, 6; fox_file_take_up 1, 2, 3, 11, 12, 10; fox_file_read
- * 1, 2, 3, 4, 6, 7, but where no scan is left it answers 0 and looks at nothing else, so that even a wrong
- * cipher is not refused there. A served call has written all of `out`, or of the `tag` or `counter` that it
- * makes; but fox_file_write only as much of `out` as it counts, and fox_file_read nothing where no scan is left.
- * A refused call has written nothing, but for a count of 0, a place where no scan is left, or the zeros of a
- * session that was not started. fox_refusal_text has a sentence for each number.
+ * a file up, answers FOX_SERVED, which is 0, or the number of the first refusal below that applies, in the order
+ * of the list. Order for sessions: fox_session_start_sealing 1, 2, 3, 13, 4; fox_session_start_opening 1, 2, 3,
+ * 4; fox_session_advance 1, 2, 3, 13, 5, 6, 7; fox_session_move 1, 2, 3, 13, 7, where 1, 2, 3 and 13 are for
+ * words that no served start has filled, and are 1 after a refused one. For run files: fox_file_size 1, 2, 12;
+ * fox_file_write 1, 2, 3, 13, 4, 12, 6; fox_file_take_up 1, 2, 3, 11, 12, 10; fox_file_read 1, 2, 3, 4, 6, 7, but
+ * where no scan is left it answers 0 and looks at nothing else, so that even a wrong cipher is not refused there.
+ * A served call has written all of `out`, or of the `tag` or `counter` that it makes; but fox_file_write only as
+ * much of `out` as it counts, and fox_file_read nothing where no scan is left. A refused call has written
+ * nothing, but for a count of 0, a place where no scan is left, or the zeros of a session that was not started.
+ * fox_refusal_text has a sentence for each number.
  *
  *    1  FOX_REFUSED_CIPHER      cipher is neither 64 nor 128; or the start of this session was refused
  *    2  FOX_REFUSED_ROUNDS      rounds is below 12 or above 255 (not fox_counter)
  *    3  FOX_REFUSED_KEY         key_len is above 32 (not fox_counter and fox_file_size, which have no key)
+ *   13  FOX_REFUSED_SHORT_KEY   key_len is below 16, and the call seals (fox_card_seal_block,
+ *                               fox_server_seal_block, fox_card_seal_run, fox_server_seal_run,
+ *                               fox_session_start_sealing and fox_file_write; no call that opens, reads, or makes
+ *                               or tests a tag)
  *    4  FOX_REFUSED_BLOCK       block_len, or counter_len, is not the cipher's block: 8 for FOX64, 16 for
- *                               FOX128 (blocks, runs, fox_counter, fox_session_start and fox_file_write); or
- *                               no counter block stands where a header of this cipher and these rounds would
- *                               have it (fox_file_read with other settings than at take-up)
+ *                               FOX128 (blocks, runs, fox_counter, the starts of a session, and
+ *                               fox_file_write); or no counter block stands where a header of this cipher and
+ *                               these rounds would have it (fox_file_read with other settings than at take-up)
  *    5  FOX_REFUSED_DATA        a run's data_len, or an advance's input_len, is above 65,536, or message_len is
  *                               above 1,073,741,824
  *    6  FOX_REFUSED_OUTPUT      out_len is not block_len, data_len or input_len; for a tag that is made, tag_len
@@ -98,8 +111,21 @@
  *                               than 1,073,741,824 bytes before the line `close`; the lengths of the scans
  *                               that are to be written do not add up to data_len, as a sum that does not wrap
  *
+ * A program that was written for version 0.4 or before takes
+ *
+ *   for fox_card_run       fox_card_seal_run where plain data goes in, fox_card_open_run where sealed data does
+ *   for fox_server_run     fox_server_seal_run, or fox_server_open_run, in the same way
+ *   for fox_session_start  fox_session_start_sealing, or fox_session_start_opening, by what the session is for
+ *
+ * with the same parameters, and gets the same bytes. It is to be compiled anew, since the words of a session are
+ * one more, and linked anew, since the shared library's soname is another. Where a call answers 13 the program
+ * wants a longer key for what it seals; a call that opens is no way around it.
+ *
  * What a caller has to see to, since nothing checks it:
  *
+ * - What goes into a call that opens a run, or into a session for opening, is sealed. Sealing and opening a run
+ *   are one XOR, so that no call can tell plain bytes from sealed ones: plain ones would come out sealed, under a
+ *   short key too.
  * - Each pointer has as many bytes behind it as its length says, with any alignment; `lengths` has as many
  *   numbers behind it as there are scans, `place` three, `session` FOX_SESSION_WORDS and `count` one, all
  *   aligned as a uint64_t is. This holds for refused calls too.
@@ -140,7 +166,7 @@
 #include <stddef.h>
 #include <stdint.h>
 
-#define FOX_VERSION "0.4.0"
+#define FOX_VERSION "0.5.0"
 
 /* What the compiler is told of the calls, where it knows the words: that no pointer is NULL, that the answer is to
  * be looked at, and which parameter is the length of what is read or written. */
@@ -183,6 +209,7 @@ enum {
     FOX128_BLOCK = 16,
     FOX_LEAST_ROUNDS = 12,
     FOX_MOST_ROUNDS = 255,
+    FOX_LEAST_SEAL_KEY = 16,
     FOX_MOST_KEY = 32,
     FOX_MOST_DATA = 65536,
     FOX_RUN_END = 1073741824,
@@ -191,7 +218,7 @@ enum {
     FOX_MOST_SCAN = 65536,
     FOX_MOST_FILE = 1073741824, /* before the line `close` */
     FOX_PLACE_WORDS = 3,
-    FOX_SESSION_WORDS = 518,
+    FOX_SESSION_WORDS = 519,
     FOX_CARD_STACK = 1024,
     FOX_SERVER_STACK = 40960
 };
@@ -209,7 +236,8 @@ enum {
     FOX_REFUSED_TAG_LENGTH = 9,
     FOX_REFUSED_TAG = 10,
     FOX_REFUSED_HEADER = 11,
-    FOX_REFUSED_FILE = 12
+    FOX_REFUSED_FILE = 12,
+    FOX_REFUSED_SHORT_KEY = 13
 };
 
 /* What fox_file_next_length tells where no scan follows: a number of 64 bits, so keep it in a uint64_t. */
@@ -219,7 +247,7 @@ enum {
  *
  * cipher            FOX64 or FOX128
  * rounds            12 to 255
- * key, key_len      0 to 32 bytes; a key of 0 bytes is a key like any other
+ * key, key_len      16 to 32 bytes to seal, 0 to 32 to open; a key of 0 bytes is a key like any other
  * block, block_len  8 bytes for FOX64, 16 for FOX128
  * out, out_len      as long as the block */
 uint32_t fox_card_seal_block(uint32_t cipher, uint32_t rounds, const uint8_t *key, size_t key_len,
@@ -235,11 +263,12 @@ uint32_t fox_server_open_block(uint32_t cipher, uint32_t rounds, const uint8_t *
                                const uint8_t *block, size_t block_len, uint8_t *out, size_t out_len)
     FOX_ON_BLOCK;
 
-/* A stretch of a run. Sealing and opening both XOR the data with the key stream, so the same call does
- * both. A run may be cut into calls anywhere, and any stretch of it can be opened alone: only the offset
- * matters, not what was done before.
+/* A stretch of a run, sealed or opened. Both XOR the data with the key stream, and give the same bytes for the
+ * same parameters; a call says which of the two it is for, since a short key may open and not seal. A run may be
+ * cut into calls anywhere, and any stretch of it can be opened alone: only the offset matters, not what was done
+ * before.
  *
- * cipher, rounds, key, key_len  as for a block
+ * cipher, rounds, key, key_len  as for a block: 16 to 32 bytes of key to seal, 0 to 32 to open
  * counter, counter_len          the counter block that the whole run begins with, whatever the offset: 8
  *                               bytes for FOX64, 16 for FOX128. It is one big-endian number, which counts up
  *                               by one with each block of the run, over its full width; after all ones comes
@@ -252,36 +281,48 @@ uint32_t fox_server_open_block(uint32_t cipher, uint32_t rounds, const uint8_t *
  * data, data_len                0 to 65,536 bytes; offset + data_len is at most 1,073,741,824, and a length
  *                               of 0 is served at that very offset too
  * out, out_len                  as long as the data */
-uint32_t fox_card_run(uint32_t cipher, uint32_t rounds, const uint8_t *key, size_t key_len,
-                      const uint8_t *counter, size_t counter_len, uint64_t offset,
-                      const uint8_t *data, size_t data_len, uint8_t *out, size_t out_len)
+uint32_t fox_card_seal_run(uint32_t cipher, uint32_t rounds, const uint8_t *key, size_t key_len,
+                           const uint8_t *counter, size_t counter_len, uint64_t offset,
+                           const uint8_t *data, size_t data_len, uint8_t *out, size_t out_len)
     FOX_ON_RUN;
-uint32_t fox_server_run(uint32_t cipher, uint32_t rounds, const uint8_t *key, size_t key_len,
-                        const uint8_t *counter, size_t counter_len, uint64_t offset,
-                        const uint8_t *data, size_t data_len, uint8_t *out, size_t out_len)
+uint32_t fox_card_open_run(uint32_t cipher, uint32_t rounds, const uint8_t *key, size_t key_len,
+                           const uint8_t *counter, size_t counter_len, uint64_t offset,
+                           const uint8_t *data, size_t data_len, uint8_t *out, size_t out_len)
+    FOX_ON_RUN;
+uint32_t fox_server_seal_run(uint32_t cipher, uint32_t rounds, const uint8_t *key, size_t key_len,
+                             const uint8_t *counter, size_t counter_len, uint64_t offset,
+                             const uint8_t *data, size_t data_len, uint8_t *out, size_t out_len)
+    FOX_ON_RUN;
+uint32_t fox_server_open_run(uint32_t cipher, uint32_t rounds, const uint8_t *key, size_t key_len,
+                             const uint8_t *counter, size_t counter_len, uint64_t offset,
+                             const uint8_t *data, size_t data_len, uint8_t *out, size_t out_len)
     FOX_ON_RUN;
 
-/* A session: a run that is kept open, and sealed or opened a few bytes at a time, as a live display does it. It
- * keeps the prepared key, the counter block that the run begins with, the position and the block in use, in
- * FOX_SESSION_WORDS words that the caller lends. Bytes inside the block in use are XORed with it, and nothing is
- * sealed for them; whole blocks beyond it go as in fox_server_run, the key being prepared, and the bytes after
- * those by the next block in use. Answers and bytes depend on key, counter block and position alone: they are
- * those of fox_server_run with the position as the offset.
+/* A session: a run that is kept at work, and sealed or opened a few bytes at a time, as a live display does it. It
+ * keeps the prepared key, the counter block that the run begins with, the position, the block in use, and whether
+ * it is for sealing or for opening, in FOX_SESSION_WORDS words that the caller lends. Bytes inside the block in
+ * use are XORed with it, and nothing is sealed for them; whole blocks beyond it go as in a run of the server
+ * engine, the key being prepared, and the bytes after those by the next block in use. Answers and bytes are those
+ * of fox_server_seal_run, or of fox_server_open_run, with the position as the offset, whatever calls came before.
  *
- * fox_session_start sets the words to a session at position 0, whatever they were. The refusals are 1 to 4, and
- * with any of them all words are set to zero, so that every other call on them is refused with 1.
+ * fox_session_start_sealing and fox_session_start_opening set the words to a session at position 0, whatever they
+ * were. The refusals are 1, 2, 3 and 4, with 13 before 4 where it is for sealing. With any of them all words are
+ * set to zero, so that every other call on them is refused with 1. A session is started for one of the two since
+ * an advance is given no key, and XORs alike to seal and to open: the start sees to it that the key is long enough
+ * to seal with, where that is what the session is for. A display of what was sealed elsewhere is for opening, and
+ * takes every key; a recorder that seals what it takes in is for sealing.
  *
- * fox_session_advance seals or opens the next bytes, as many as the input has, and moves the position on by their
- * number. The refusals are 5, 6 and 7.
+ * fox_session_advance seals or opens the next bytes, as the session was started for, as many as the input has, and
+ * moves the position on by their number. The refusals are 5, 6 and 7.
  *
  * fox_session_move sets the position, forwards or back. The refusal is 7, for a position above 1,073,741,824. That
  * one itself, the end of the longest run, can be moved to; only advances of 0 bytes are served there.
  *
  * A refused advance or move changes nothing, neither the words nor the output, and the session can go on. For
- * another key or counter block start another session, over the same words if you like.
+ * another key or counter block, or to open where it seals, start another session, over the same words if you like.
  *
  *   uint64_t session[FOX_SESSION_WORDS];
- *   uint32_t refusal = fox_session_start(cipher, rounds, key, key_len, counter, counter_len, session);
+ *   uint32_t refusal = fox_session_start_opening(cipher, rounds, key, key_len, counter, counter_len, session);
  *   while (refusal == FOX_SERVED && (length = next_bytes(input)) > 0) {
  *       refusal = fox_session_advance(session, input, length, out, length);
  *       if (refusal == FOX_SERVED)
@@ -298,9 +339,10 @@ uint32_t fox_server_run(uint32_t cipher, uint32_t rounds, const uint8_t *key, si
  * itself, and FOX_SESSION_WORDS * sizeof *session as the length where it is a pointer. What the calls leave in the
  * stack fox_wipe_stack wipes.
  *
- * cipher, rounds, key, key_len  as for a block; the key is not needed after the start
+ * cipher, rounds, key, key_len  as for a block: 16 to 32 bytes of key for sealing, 0 to 32 for opening. The key is
+ *                               not needed after the start
  * counter, counter_len          the counter block that the run begins with, as for a run
- * session                       FOX_SESSION_WORDS words, which are 4,144 bytes. What each of them is for is not
+ * session                       FOX_SESSION_WORDS words, which are 4,152 bytes. What each of them is for is not
  *                               told, and may change with the library's version. A copy of them is a session of
  *                               its own, at the same position. Only words that a start has filled and these calls
  *                               alone have changed are good. Of any others nothing is promised but that the calls
@@ -308,8 +350,13 @@ uint32_t fox_server_run(uint32_t cipher, uint32_t rounds, const uint8_t *key, si
  * input, input_len              0 to 65,536 bytes; position + input_len is at most 1,073,741,824
  * out, out_len                  as long as the input
  * position                      0 to 1,073,741,824: the offset of the byte that is to come next */
-uint32_t fox_session_start(uint32_t cipher, uint32_t rounds, const uint8_t *key, size_t key_len,
-                           const uint8_t *counter, size_t counter_len, uint64_t session[FOX_SESSION_WORDS])
+uint32_t fox_session_start_sealing(uint32_t cipher, uint32_t rounds, const uint8_t *key, size_t key_len,
+                                   const uint8_t *counter, size_t counter_len,
+                                   uint64_t session[FOX_SESSION_WORDS])
+    FOX_NONNULL FOX_ANSWERS FOX_READS(3, 4) FOX_READS(5, 6);
+uint32_t fox_session_start_opening(uint32_t cipher, uint32_t rounds, const uint8_t *key, size_t key_len,
+                                   const uint8_t *counter, size_t counter_len,
+                                   uint64_t session[FOX_SESSION_WORDS])
     FOX_NONNULL FOX_ANSWERS FOX_READS(3, 4) FOX_READS(5, 6);
 uint32_t fox_session_advance(uint64_t session[FOX_SESSION_WORDS], const uint8_t *input, size_t input_len,
                              uint8_t *out, size_t out_len)
@@ -336,10 +383,12 @@ uint32_t fox_counter(uint32_t cipher, uint32_t number, uint8_t *counter, size_t 
  * any of them. It covers these bytes alone: a change of the cipher, rounds or counter block to open with, or
  * of the file's name, goes unseen unless these stand in the message as well. Give tags a key of their own:
  * under one key, sealed counter blocks, which whoever knows a run's plain bytes has, can help to forge a tag.
+ * Let it have 16 random bytes or more: a shorter one is served, so that tags under it can be tested and made, but
+ * whoever finds it by trying can forge any.
  * SP 800-38B advises to tag no more than 2 to the 21 messages under one key with blocks of 64 bits, and no
  * more than 2 to the 48 with blocks of 128.
  *
- * cipher, rounds, key, key_len  as for a block
+ * cipher, rounds, key, key_len  as for a block that is opened: 0 to 32 bytes of key, to make as to test
  * message, message_len          0 to 1,073,741,824 bytes, the whole message in one call; of a longer one no
  *                               byte is read
  * tag, tag_len                  8 bytes for FOX64, 16 for FOX128: where the tag is made, the room for it;
@@ -374,7 +423,7 @@ uint32_t fox_server_test_tag(uint32_t cipher, uint32_t rounds, const uint8_t *ke
  * fox_file_size tells, as the count, how long the file of such scans will be. The refusals are 1, 2 and 12.
  *
  * fox_file_write seals the scans and writes their file; the count is its length, and what follows it in `out`
- * stays as it was. The refusals are 1, 2, 3, 4, 12 and 6, looked for in this order.
+ * stays as it was. The refusals are 1, 2, 3, 13, 4, 12 and 6, looked for in this order.
  *
  * fox_file_take_up looks whether a file is right, every byte of it and the tag last, and sets `place` to its
  * first scan. The refusals are 1, 2, 3, 11, 12 and 10, looked for in this order; with any of them `place` is set
@@ -421,7 +470,8 @@ uint32_t fox_server_test_tag(uint32_t cipher, uint32_t rounds, const uint8_t *ke
  * What the tag covers is the whole file, cipher, rounds and counter block with it; that one whole file was put in
  * the place of another under the same key goes unseen.
  *
- * cipher, rounds, key, key_len  as for a block; where a file is read, those that it was taken up with
+ * cipher, rounds, key, key_len  as for a block: 16 to 32 bytes of key to write a file, 0 to 32 to take one up and
+ *                               to read it; where a file is read, those that it was taken up with
  * counter, counter_len          the counter block that the run begins with, as for a run
  * data, data_len                the plain scans, one after the other
  * lengths, scans                how long each scan is, 0 to 65,536 bytes, and how many there are, 0 to 65,535;
@@ -473,7 +523,7 @@ void fox_file_skip(const uint8_t *file, size_t file_len, uint64_t place[FOX_PLAC
 void fox_wipe(void *bytes, size_t length) FOX_NONNULL FOX_WRITES(1, 2);
 void fox_wipe_stack(void);
 
-/* One sentence in English for a number from 0 to 12: what it means, and what would be right. For any other
+/* One sentence in English for a number from 0 to 13: what it means, and what would be right. For any other
  * number the sentence says that it means nothing. Never NULL; the text is constant and stays valid while
  * the program runs. */
 const char *fox_refusal_text(uint32_t number);

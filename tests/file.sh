@@ -6,4 +6,4 @@ cd "$(dirname "$0")/.." || exit 2
 . tests/host.sh
 made file libfox.a
 built file file tests/file/*.c $s/file.c $c/file_call.c $c/rows.c $second $guarded "$OUT/libfox.a"
-run_host "./$OUT/file" tests/vectors/files "$@"
+run_host "./$OUT/file" tests/vectors/files tests/file/old.csv "$@"

@@ -43,8 +43,12 @@ part() { # WHAT sheet|calls|session|file
             ;;
         plain-session | plain-file) echo "$second" ;;
         wrapped-sheet) echo fox_probe_sheet ;;
-        wrapped-calls) echo fox_card_open_block fox_server_run fox_server_make_tag fox_card_test_tag ;;
-        wrapped-session) echo fox_session_start fox_session_advance fox_session_move ;;
+        wrapped-calls)
+            echo fox_card_open_block fox_server_seal_run fox_server_open_run fox_server_make_tag fox_card_test_tag
+            ;;
+        wrapped-session)
+            echo fox_session_start_sealing fox_session_start_opening fox_session_advance fox_session_move
+            ;;
         wrapped-file) echo fox_file_take_up fox_file_read fox_file_skip fox_file_write ;;
         words-sheet) echo "-dict=$t/sheet.dict -max_len=400" ;;
         words-calls) echo "-max_len=256 -len_control=0 -entropic_scale_per_exec_time=1" ;;
@@ -99,12 +103,12 @@ build() { # sheet|calls|session|file
         -o "$into/$1.edges" $sources || stop "$t/$1.c was not built"
 }
 
-seed_sheet() { # FOLDER: right sheets of all kinds
+seed_sheet() { # FOLDER: sheets of all kinds that are right, but for those that seal with a short key
     pairs=0123456789ABCDEFFEDCBA9876543210
     for cipher in 64 128; do
         block=$pairs
         [ "$cipher" = 128 ] || block=${pairs%????????????????}
-        for key in '' 00 "$pairs" "$pairs$pairs"; do
+        for key in '' 00 "${pairs%??}" "$pairs" "$pairs$pairs"; do
             sheet='cipher=%s\nrounds=%s\nkey=%s\nway=%s\nblock=%s\n'
             printf "$sheet" "$cipher" 12 "$key" seal "$block" >"$1/$cipher.seal.${#key}"
             printf "$sheet" "$cipher" 255 "$key" open "$block" >"$1/$cipher.open.${#key}"
@@ -113,42 +117,48 @@ seed_sheet() { # FOLDER: right sheets of all kinds
 }
 
 # The choices that tests/fuzz/take.h lists, each of a kind and of four bytes that these leave aside.
-seed_calls() { # FOLDER: a served call of each verb, taken back by each engine, and long runs and messages
+seed_calls() { # FOLDER: a served call of each verb, taken back by each engine, long runs and messages, and a key of 15 bytes
     n='\000\000\000\000' verbs=$(grep -c "^uint32_t fox_$(engine_names | head -n 1)_" include/fox.h)
     for which in $(seq 0 $((verbs * $(engine_names | wc -l) - 1))); do
         first="\\$(printf %03o "$which")$n"
-        for choices in 0.021 1.021 0.370 1.370; do
-            cipher="\\00${choices%.*}$n" data="\\${choices#*.}$n"
-            printf "$first$cipher\\004$n\\020$n\\000$n$data\\000$n\\000$n\\000$n\\000$n%s" \
+        for choices in 0.021.020 1.021.020 0.370.020 1.370.020 0.021.360 1.021.360; do
+            later=${choices#*.}
+            cipher="\\00${choices%%.*}$n" data="\\${later%.*}$n" key="\\${later#*.}$n"
+            printf "$first$cipher\\004$n$key\\000$n$data\\000$n\\000$n\\000$n\\000$n%s" \
                 0123456789abcdefghijklmnopqrstuvwxyzABCDEF >"$1/$which.$choices"
         done
     done
 }
 
 # The setting and calls that tests/fuzz/session_input.h lists: a start, and then advances within a block and over its edge,
-# moves to the end and back, and a copy.
-seed_session() { # FOLDER
-    for cipher in 0 1; do
-        for counter in 0 1; do
-            setting="\\00$cipher\\004\\020\\00$counter\\376"
-            name=$1/$cipher.$counter
-            printf "$setting"'\000\000\005\000\000\003\000\000\020\001\000\011\000\000\100' >"$name.advances"
-            printf "$setting"'\001\004\036\000\000\002\001\005\000\000\000\000\001\002\000\001\000\003\000\000\007' >"$name.end"
-            printf "$setting"'\000\000\013\003\000\000\101\004\000\000\101\005'"$setting"'\000\000\011' >"$name.copy"
-            printf "$setting"'\000\000\013\006\002\012\000\000\101\001\003\005' >"$name.poked"
-        done
+# moves to the end and back, a copy, and words that are changed.
+seed_setting() { # NAME SETTING
+    printf "$2"'\000\000\005\000\000\003\000\000\020\001\000\011\000\000\100' >"$1.advances"
+    printf "$2"'\001\004\036\000\000\002\001\005\000\000\000\000\001\002\000\001\000\003\000\000\007' >"$1.end"
+    printf "$2"'\000\000\013\003\000\000\101\004\000\000\101\005'"$2"'\000\000\011' >"$1.copy"
+    printf "$2"'\000\000\013\006\002\012\000\000\101\001\003\005' >"$1.poked"
+    printf "$2"'\000\000\013\007\017\000\000\101\001\003\005' >"$1.shortened"
+}
+
+seed_session() { # FOLDER: the three digits are direction, cipher and counter
+    for kind in 000 001 010 011 100 101 110 111; do
+        later=${kind#?}
+        seed_setting "$1/$kind" "\\00${kind%??}\\00${later%?}\\004\\020\\00${later#?}\\376"
     done
 }
 
 # The choices that tests/fuzz/file.c lists, and a file of the vectors, with its own tag, which is another key's, and with one
-# that is made anew; the same file behind a place in it; and lengths of scans behind a counter.
+# that is made anew, by a key of 16 bytes and by one of 8, which does not seal; the same file behind a place in it; and lengths
+# of scans behind a counter.
 seed_file() { # FOLDER
     tail -n +2 tests/vectors/files/LIST.csv | while IFS=, read -r name cipher rounds rest; do
         [ "$name" != 8.run ] || continue
-        choices=$(printf '\\%03o\\%03o\\020\\000' "$cipher" "$rounds")
+        setting=$(printf '\\%03o\\%03o' "$cipher" "$rounds")
+        choices="$setting\\020\\000"
         for kind in 0 1; do
             { printf "\\00$kind$choices" && cat "tests/vectors/files/$name"; } >"$1/file.$kind.$name"
         done
+        { printf "\\001$setting\\010\\000" && cat "tests/vectors/files/$name"; } >"$1/old.$name"
         { printf "\\002$choices\\$(printf %03o $((cipher == 64 ? 56 : 73)))\\000\\000\\000\\000\\000" &&
             cat "tests/vectors/files/$name"; } >"$1/place.$name"
         printf "\\003$choices"'0123456701234567\003\000\020\001\002\003\004\005\006\007\010\011' >"$1/lengths.$name"

@@ -5,5 +5,6 @@ set -u
 cd "$(dirname "$0")/.." || exit 2
 . tests/host.sh
 made measure libfox_probe.a libfox.a
-built measure measure tests/measure/*.c $c/painted.c $c/session_call.c $c/file_call.c $engines "$OUT/libfox_probe.a" "$OUT/libfox.a"
+built measure measure tests/measure/*.c $s/file.c $c/painted.c $c/session_call.c $c/file_call.c $second $engines \
+    "$OUT/libfox_probe.a" "$OUT/libfox.a"
 run_host "./$OUT/measure"

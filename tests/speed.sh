@@ -16,9 +16,12 @@ compiler=$(
     [ -n "$said" ] || echo clang
 )
 
-# Every name that the other build's archive defines gets `before_` in front, so that both builds fit in one program.
+# Every name that the other build's archive defines gets `before_` in front, so that both builds fit in one program. A build
+# whose runs do not say whether they seal or open has one call for both, which stands for the one that opens.
 renamed() { # ARCHIVE
-    "$(tool nm)" -g --defined-only "$1" | awk 'NF == 3 { print $3, "before_" $3 }' | sort -u >"$OUT/before.names"
+    "$(tool nm)" -g --defined-only "$1" |
+        awk 'NF == 3 { print $3, "before_" ($3 == "fox_card_run" ? "fox_card_open_run" : $3) }' |
+        sort -u >"$OUT/before.names"
     [ -s "$OUT/before.names" ] && "$(tool objcopy)" --redefine-syms="$OUT/before.names" "$1" "$OUT/before.a"
 }
 

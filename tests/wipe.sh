@@ -10,7 +10,7 @@ made wipe libfox.a libfox_card.a
 
 # Of the card's library comes what it has, and the server's calls and those on sessions and run files, which are not made
 # then, of the other.
-left="tests/wipe/left.c $c/painted.c $c/session_call.c $c/file_call.c $engines $second"
+left="tests/wipe/left.c $s/file.c $c/painted.c $c/session_call.c $c/file_call.c $engines $second"
 built wipe left $left "$OUT/libfox.a"
 built wipe left_card $left "$OUT/libfox_card.a" "$OUT/libfox.a"
 

@@ -69,7 +69,7 @@ void try_block(const struct call *c)
 
 void try_run(const struct call *c)
 {
-    try((const enum verb[]){RUN}, 1, c);
+    try((const enum verb[]){SEAL_RUN, OPEN_RUN}, 2, c);
 }
 
 void try_tag(const struct call *c)

@@ -55,10 +55,16 @@ uint64_t odd_offset(size_t data_len)
     return ONE_OF(numbers);
 }
 
+static size_t some_key_len(void)
+{
+    return below(4) == 0 ? below(FOX_LEAST_SEAL_KEY)
+                         : FOX_LEAST_SEAL_KEY + below(FOX_MOST_KEY + 1 - FOX_LEAST_SEAL_KEY);
+}
+
 struct call right_block(uint32_t cipher)
 {
     struct call c = {.cipher = cipher, .rounds = FOX_LEAST_ROUNDS + (uint32_t)below(6), .key = given.key,
-                     .key_len = below(FOX_MOST_KEY + 1), .first = given.first, .data = given.data};
+                     .key_len = some_key_len(), .first = given.first, .data = given.data};
     c.first_len = c.out_len = block_of(cipher);
     fill(given.key, sizeof given.key);
     fill(given.first, sizeof given.first);
@@ -106,7 +112,7 @@ static size_t one_off(size_t len)
 
 void damage_block(struct call *c)
 {
-    static const size_t key_lens[] = {33, 33, 34, 40, 48, 64, 65, SHORT_ROOM};
+    static const size_t key_lens[] = {0, 1, 8, 14, 15, 15, 33, 33, 34, 40, 48, 64, 65, SHORT_ROOM};
     static const size_t first_lens[] = {0, 1, 4, 7, 8, 9, 12, 15, 16, 17, 24, 32, 64};
     uint32_t kept = c->cipher;
     switch (below(10)) {

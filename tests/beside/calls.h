@@ -23,7 +23,8 @@ extern const uint32_t wrong_ciphers[WRONG_CIPHERS];
 uint32_t odd_rounds(void);
 uint64_t odd_offset(size_t data_len);
 
-/* Calls that are served, with a key of any length, and with no output yet. */
+/* Calls that are served, with a key of any length, and with no output yet; but sealing is refused to one key in four,
+ * which is too short for it. */
 struct call right_block(uint32_t cipher);
 struct call right_run(uint32_t cipher, size_t data_len, uint64_t offset);
 

@@ -16,12 +16,16 @@
 #include <stdio.h>
 #include <string.h>
 
+/* As many of each length, and for runs a fifth as many. */
 static void keys(void)
 {
-    group_begin("blocks: keys of 0 to 33 bytes");
+    group_begin("blocks and runs: keys of 0 to 33 bytes");
     for (size_t i = 0; i < (FOX_MOST_KEY + 2) * 2 * 250; i++) {
-        struct call c = right_block(cipher_by(i));
+        struct call c = right_run(cipher_by(i), below(40), below(FOX_RUN_END - 40));
         c.key_len = i / 2 % (FOX_MOST_KEY + 2);
+        if (i / 2 / (FOX_MOST_KEY + 2) % 5 == 0)
+            try_run(&c);
+        c.out_len = c.first_len;
         try_block(&c);
     }
     group_end();
@@ -138,7 +142,8 @@ static void long_runs(void)
         const uint64_t offsets[] = {0, 5, FOX_RUN_END - n, FOX_RUN_END - n + 1};
         for (size_t j = 0; j < COUNT(offsets); j++) {
             struct call c = right_run(cipher_by(i), n, offsets[j]);
-            c.key_len = i % 4 < 2 ? below(17) : 17 + below(16);
+            size_t up_to_16 = j % 2 == 0 ? FOX_LEAST_SEAL_KEY : below(FOX_LEAST_SEAL_KEY);
+            c.key_len = i % 4 < 2 ? up_to_16 : 17 + below(16);
             c.out_len = j == 1 && i % 4 == 3 ? n - 1 : n;
             if (j < 2 || i % 4 < 2)
                 try_run(&c);
@@ -215,8 +220,9 @@ static void changed_bits(void)
 static void every_answer(void)
 {
     static const uint32_t answers[] = {
-        FOX_SERVED,       FOX_REFUSED_CIPHER, FOX_REFUSED_ROUNDS, FOX_REFUSED_KEY,        FOX_REFUSED_BLOCK,
-        FOX_REFUSED_DATA, FOX_REFUSED_OUTPUT, FOX_REFUSED_END,    FOX_REFUSED_TAG_LENGTH, FOX_REFUSED_TAG,
+        FOX_SERVED,         FOX_REFUSED_CIPHER,     FOX_REFUSED_ROUNDS, FOX_REFUSED_KEY,
+        FOX_REFUSED_BLOCK,  FOX_REFUSED_DATA,       FOX_REFUSED_OUTPUT, FOX_REFUSED_END,
+        FOX_REFUSED_TAG,    FOX_REFUSED_TAG_LENGTH, FOX_REFUSED_SHORT_KEY,
     };
     each_answered(answers, COUNT(answers));
 }

@@ -86,6 +86,7 @@ void large_lengths(void)
                 {FOUR_GIB + 16, b, b, b},
                 {FOUR_GIB, b, b, b},
                 {16, FOUR_GIB + b, FOUR_GIB + b, FOUR_GIB + b},
+                {15, FOUR_GIB + b, FOUR_GIB + b, FOUR_GIB + b},
                 {16, FOUR_GIB + b, b, b},
                 {16, b, FOUR_GIB + b, FOUR_GIB + b},
                 {16, b, FOUR_GIB + b, b},

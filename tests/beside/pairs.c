@@ -9,26 +9,46 @@
 #include <stdio.h>
 #include <string.h>
 
+enum { MOST = 64, PAINT = 0xC3 };
+
+/* Whether a call that is right but for its key is served or refused as the key's length has it; a refused one puts out
+ * nothing. */
+static const char *wrong_call(const struct engine *engine, enum verb verb, const struct call *c)
+{
+    uint8_t paint[MOST];
+    uint32_t right = key_answer(verb, c->key_len);
+    memset(paint, PAINT, sizeof paint);
+    memcpy(c->out, paint, c->out_len);
+    if (make_caught(engine, verb, c) != right)
+        return right == FOX_SERVED ? "refused" : "not refused for its short key";
+    return right != FOX_SERVED && memcmp(c->out, paint, c->out_len) != 0 ? "has written though it refused" : NULL;
+}
+
 /* What a call puts out by one engine goes into the call that takes it back, by another one, and what went in comes
- * out. */
+ * out. With a key that is too short to seal with, the one of the two that seals is refused. */
 static const char *not_back(enum verb verb, struct call c, const struct engine *there, const struct engine *back)
 {
-    static uint8_t out[64], again[64];
-    if (verbs[verb].back == NO_VERB)
+    static uint8_t out[MOST], again[MOST];
+    enum verb back_verb = verbs[verb].back;
+    if (back_verb == NO_VERB)
         return NULL;
     c.out = out, c.out_len = right_out_len(verb, &c);
     struct call taking = back_call(verb, &c, again);
-    if (make_caught(there, verb, &c) != FOX_SERVED || make_caught(back, verbs[verb].back, &taking) != FOX_SERVED)
-        return "refused";
-    if (memcmp(again, went_in(verb, &c), taking.out_len) != 0)
-        return "does not come back";
+    const char *wrong = wrong_call(there, verb, &c);
+    if (wrong != NULL || key_answer(verb, c.key_len) != FOX_SERVED)
+        return wrong;
     /* Copying would be undone too, so that a block must not be put out as it came. */
-    return verbs[verb].data == NULL && memcmp(out, c.first, c.out_len) == 0 ? "put out as it came" : NULL;
+    if (verbs[verb].data == NULL && memcmp(out, c.first, c.out_len) == 0)
+        return "put out as it came";
+    wrong = wrong_call(back, back_verb, &taking);
+    if (wrong != NULL || key_answer(back_verb, c.key_len) != FOX_SERVED)
+        return wrong;
+    return memcmp(again, went_in(verb, &c), taking.out_len) != 0 ? "does not come back" : NULL;
 }
 
 static void there_and_back(const struct engine *there, const struct engine *back)
 {
-    struct call c = right_run(some_cipher(), below(64), below(FOX_RUN_END - 64));
+    struct call c = right_run(some_cipher(), below(MOST), below(FOX_RUN_END - MOST));
     const char *wrong = NULL;
     enum verb verb = 0;
     while (verb < VERBS && (wrong = not_back(verb, c, there, back)) == NULL)

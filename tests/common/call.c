@@ -9,11 +9,12 @@
 enum { SHOWN = 160 };
 
 const struct verb_kind verbs[VERBS] = {
-    [SEAL] = {"seal_block", "block", NULL, "output", 0, OPEN},
-    [OPEN] = {"open_block", "block", NULL, "output", 0, SEAL},
-    [RUN] = {"run", "counter", "data", "output", 1, RUN},
-    [MAKE_TAG] = {"make_tag", NULL, "message", "tag", 0, TEST_TAG},
-    [TEST_TAG] = {"test_tag", "stored tag", "message", NULL, 0, NO_VERB},
+    [SEAL] = {"seal_block", "block", NULL, "output", 0, 1, OPEN},
+    [OPEN] = {"open_block", "block", NULL, "output", 0, 0, SEAL},
+    [SEAL_RUN] = {"seal_run", "counter", "data", "output", 1, 1, OPEN_RUN},
+    [OPEN_RUN] = {"open_run", "counter", "data", "output", 1, 0, SEAL_RUN},
+    [MAKE_TAG] = {"make_tag", NULL, "message", "tag", 0, 0, TEST_TAG},
+    [TEST_TAG] = {"test_tag", "stored tag", "message", NULL, 0, 0, NO_VERB},
 };
 
 size_t block_of(uint32_t cipher)
@@ -24,7 +25,8 @@ size_t block_of(uint32_t cipher)
 size_t right_out_len(enum verb verb, const struct call *c)
 {
     switch (verb) {
-    case RUN:
+    case SEAL_RUN:
+    case OPEN_RUN:
         return c->data_len;
     case MAKE_TAG:
         return block_of(c->cipher);
@@ -38,7 +40,7 @@ size_t right_out_len(enum verb verb, const struct call *c)
 struct call back_call(enum verb verb, const struct call *c, uint8_t *out)
 {
     struct call back = *c;
-    if (verb == RUN) {
+    if (verbs[verb].at_offset) {
         back.data = c->out;
     } else {
         back.first = c->out;
@@ -49,9 +51,14 @@ struct call back_call(enum verb verb, const struct call *c, uint8_t *out)
     return back;
 }
 
+uint32_t key_answer(enum verb verb, size_t key_len)
+{
+    return verbs[verb].seals && key_len < FOX_LEAST_SEAL_KEY ? FOX_REFUSED_SHORT_KEY : FOX_SERVED;
+}
+
 const uint8_t *went_in(enum verb verb, const struct call *c)
 {
-    return verb == RUN ? c->data : c->first;
+    return verbs[verb].at_offset ? c->data : c->first;
 }
 
 void show_call(enum verb verb, const struct call *c)

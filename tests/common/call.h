@@ -4,14 +4,15 @@
 
 #include "engines.h"
 
-enum verb { SEAL, OPEN, RUN, MAKE_TAG, TEST_TAG, VERBS, NO_VERB };
+enum verb { SEAL, OPEN, SEAL_RUN, OPEN_RUN, MAKE_TAG, TEST_TAG, VERBS, NO_VERB };
 
 /* `name` is that of fox.h, as in fox_card_NAME. `first`, `data` and `out` say what the buffers of that name in a call
- * are, and are NULL for those that the verb has no use for. What a call has put out goes into a call of the verb
- * `back`, which is NO_VERB where nothing is put out. */
+ * are, and are NULL for those that the verb has no use for. `at_offset` says that it is a verb on runs, which alone have
+ * an offset, and `seals` that it refuses a key of fewer than FOX_LEAST_SEAL_KEY bytes. What a call has put out goes into
+ * a call of the verb `back`, which is NO_VERB where nothing is put out. */
 struct verb_kind {
     const char *name, *first, *data, *out;
-    int at_offset;
+    int at_offset, seals;
     enum verb back;
 };
 
@@ -35,9 +36,11 @@ struct call {
 __attribute__((always_inline))
 static inline uint32_t make_call(const struct engine *engine, enum verb verb, const struct call *c)
 {
-    if (verb == RUN)
-        return engine->run(c->cipher, c->rounds, c->key, c->key_len, c->first, c->first_len, c->offset, c->data,
-                           c->data_len, c->out, c->out_len);
+    if (verb == SEAL_RUN || verb == OPEN_RUN) {
+        run_call *run = verb == OPEN_RUN ? engine->open_run : engine->seal_run;
+        return run(c->cipher, c->rounds, c->key, c->key_len, c->first, c->first_len, c->offset, c->data, c->data_len,
+                   c->out, c->out_len);
+    }
     if (verb == MAKE_TAG)
         return engine->make_tag(c->cipher, c->rounds, c->key, c->key_len, c->data, c->data_len, c->out, c->out_len);
     if (verb == TEST_TAG)
@@ -53,9 +56,13 @@ size_t block_of(uint32_t cipher);
 /* The length of the output with which such a call is served; 0 where nothing is put out. */
 size_t right_out_len(enum verb verb, const struct call *c);
 
-/* The call that takes what `c` has put out, and puts its own output at `out`. It is served; a block or a run then comes
+/* The call that takes what `c` has put out, and puts its own output at `out`. Where it is served, a block or a run comes
  * back as it went in, and of a tag, which is tested, nothing comes out. */
 struct call back_call(enum verb verb, const struct call *c, uint8_t *out);
+
+/* What a verb answers to a key of 0 to FOX_MOST_KEY bytes where all else is right: a key that is too short to seal with
+ * is refused by the verbs that seal, so that what it has opened cannot be taken back. */
+uint32_t key_answer(enum verb verb, size_t key_len);
 
 /* What went in, which is what comes back: as many bytes as back_call puts out. */
 const uint8_t *went_in(enum verb verb, const struct call *c);

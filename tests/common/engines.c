@@ -3,8 +3,8 @@
 #include "fox.h"
 
 #define ENGINE(name, stack, work)                                                     \
-    {#name, fox_##name##_seal_block, fox_##name##_open_block, fox_##name##_run,       \
-     fox_##name##_make_tag, fox_##name##_test_tag, stack, work},
+    {#name, fox_##name##_seal_block, fox_##name##_open_block, fox_##name##_seal_run,  \
+     fox_##name##_open_run, fox_##name##_make_tag, fox_##name##_test_tag, stack, work},
 const struct engine engines[ENGINES] = {
 #include "engines.def"
 };

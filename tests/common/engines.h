@@ -19,7 +19,7 @@ typedef uint32_t test_tag_call(uint32_t cipher, uint32_t rounds, const uint8_t *
 struct engine {
     const char *name;
     block_call *seal, *open;
-    run_call *run;
+    run_call *seal_run, *open_run;
     make_tag_call *make_tag;
     test_tag_call *test_tag;
     size_t stack, work;

@@ -4,7 +4,7 @@
 
 #include "fox.h"
 
-enum session_verb { SESSION_START, SESSION_ADVANCE, SESSION_MOVE, SESSION_VERBS };
+enum session_verb { SESSION_START_SEALING, SESSION_START_OPENING, SESSION_ADVANCE, SESSION_MOVE, SESSION_VERBS };
 
 /* As in fox_NAME. */
 extern const char *const session_verbs[SESSION_VERBS];
@@ -29,13 +29,28 @@ __attribute__((always_inline))
 static inline uint32_t make_session_call(enum session_verb verb, const struct session_call *c)
 {
     switch (verb) {
-    case SESSION_START:
-        return fox_session_start(c->cipher, c->rounds, c->key, c->key_len, c->counter, c->counter_len, c->session);
+    case SESSION_START_SEALING:
+        return fox_session_start_sealing(c->cipher, c->rounds, c->key, c->key_len, c->counter, c->counter_len,
+                                         c->session);
+    case SESSION_START_OPENING:
+        return fox_session_start_opening(c->cipher, c->rounds, c->key, c->key_len, c->counter, c->counter_len,
+                                         c->session);
     case SESSION_ADVANCE:
         return fox_session_advance(c->session, c->input, c->input_len, c->out, c->out_len);
     default:
         return fox_session_move(c->session, c->position);
     }
+}
+
+/* The verb that starts a session, one for opening where `opening` is not 0. */
+static inline enum session_verb start_verb(int opening)
+{
+    return opening ? SESSION_START_OPENING : SESSION_START_SEALING;
+}
+
+static inline int is_start(enum session_verb verb)
+{
+    return verb == SESSION_START_SEALING || verb == SESSION_START_OPENING;
 }
 
 /* Prints the call, so that it can be made again, but for all after the first bytes of a long buffer. Of the session the

@@ -307,7 +307,7 @@ void damaged_files(void)
     unsigned long served = 0;
     group_begin("files damaged by chance, with the old tag and with a new one");
     for (int i = 0; i < FILES; i++) {
-        const struct sample *s = &vectors[below(SMALL)];
+        const struct sample *s = below(4) == 0 ? &old_files[below(OLD_FILES)] : &vectors[below(SMALL)];
         text_set(&text, s->file, s->file_len);
         for (size_t often = 1 + below(2); often > 0; often--)
             damage();

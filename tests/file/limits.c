@@ -1,5 +1,6 @@
-/* The limits: how many scans a file has, how long one of them is, and how long the file is before its line `close`.
- * Where a length is more than a test can afford there is no memory behind it, so that a byte that is read shows. */
+/* The limits: how long a key is, how many scans a file has, how long one of them is, and how long the file is before
+ * its line `close`. Where a length is more than a test can afford there is no memory behind it, so that a byte that is
+ * read shows. */
 #define _GNU_SOURCE
 #include "chance.h"
 #include "count.h"
@@ -202,6 +203,8 @@ static void written_nowhere(const struct sample *s, int64_t more)
     answered(FILE_WRITE, &c, FOX_REFUSED_FILE);
     c.counter_len--, count = 1;
     answered(FILE_WRITE, &c, FOX_REFUSED_BLOCK);
+    c.key_len = FOX_LEAST_SEAL_KEY - 1, count = 1;
+    answered(FILE_WRITE, &c, FOX_REFUSED_SHORT_KEY);
 }
 
 /* Lengths whose lower 32 bits would be right, of what has no memory behind it. */
@@ -215,6 +218,8 @@ static void four_gib_more(const struct sample *s)
     c = call_on(s, place), count = 1;
     c.out = (uint8_t *)nowhere, c.count = &count;
     c.key_len += (size_t)1 << 32;
+    answered(FILE_WRITE, &c, FOX_REFUSED_KEY);
+    c.key_len = ((size_t)1 << 32) + FOX_LEAST_SEAL_KEY - 1, count = 1;
     answered(FILE_WRITE, &c, FOX_REFUSED_KEY);
     c.key_len = s->key_len, c.counter_len += (size_t)1 << 32, count = 1;
     answered(FILE_WRITE, &c, FOX_REFUSED_BLOCK);
@@ -270,8 +275,38 @@ static void files_taken_up(void)
     group_end();
 }
 
+/* What writing answers, and what taking up does. */
+static void lengths_of_keys(void)
+{
+    static const struct {
+        size_t key_len;
+        uint32_t write, take_up;
+    } keys[] = {{0, FOX_REFUSED_SHORT_KEY, FOX_SERVED},
+                {FOX_LEAST_SEAL_KEY - 1, FOX_REFUSED_SHORT_KEY, FOX_SERVED},
+                {FOX_LEAST_SEAL_KEY, FOX_SERVED, FOX_SERVED},
+                {FOX_MOST_KEY, FOX_SERVED, FOX_SERVED},
+                {FOX_MOST_KEY + 1, FOX_REFUSED_KEY, FOX_REFUSED_KEY}};
+    uint64_t place[FOX_PLACE_WORDS];
+    group_begin("keys of 0, 15, 16, 32 and 33 bytes");
+    set_lengths(3, 20, 5);
+    for (size_t i = 0; i < 2 * COUNT(keys); i++) {
+        const size_t key_len = keys[i / 2].key_len;
+        struct sample s = make_sample(i % 2 == 0 ? FOX64 : FOX128, FOX_LEAST_ROUNDS,
+                                      key_len > FOX_MOST_KEY ? FOX_MOST_KEY : key_len, lengths, 3);
+        struct file_call c = call_on(&s, place);
+        c.key_len = key_len;
+        uint64_t written = try_call(FILE_WRITE, &c).answer, taken_up = try_call(FILE_TAKE_UP, &c).answer;
+        if (case_wrong(written == keys[i / 2].write && taken_up == keys[i / 2].take_up))
+            printf("with a key of %zu bytes writing answers %" PRIu64 ", and taking up %" PRIu64 "\n", key_len, written,
+                   taken_up);
+        free_sample(&s);
+    }
+    group_end();
+}
+
 void limits(void)
 {
+    lengths_of_keys();
     numbers_of_scans();
     lengths_of_scans();
     lengths_of_files();

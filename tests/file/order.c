@@ -36,6 +36,13 @@ static void spoil_key(struct file_call *c)
     c->key_len = ONE_OF(more);
 }
 
+/* Too short to seal with; a key that is spoilt in both ways is long, since a set is put in from its last one on. */
+static void spoil_seal_key(struct file_call *c)
+{
+    static const size_t less[] = {0, 1, 4, 8, FOX_LEAST_SEAL_KEY - 2, FOX_LEAST_SEAL_KEY - 1};
+    c->key_len = ONE_OF(less);
+}
+
 static void spoil_counter_len(struct file_call *c)
 {
     const size_t b = block_of(sample->cipher), other = FOX64_BLOCK + FOX128_BLOCK - b;
@@ -121,17 +128,23 @@ static void spoil_rest(struct file_call *c)
     }
 }
 
-/* A digit of the tag, a digit of the counter block, or the key. */
+/* A bit of the key, its length, which may come out as one that is too short to seal with, a digit of the tag, or one of
+ * the counter block. */
 static void spoil_tag(struct file_call *c)
 {
     static uint8_t key[SAMPLE_ROOM];
     size_t digits = 2 * block_of(sample->cipher);
     uint8_t *digit = text.bytes + (below(2) == 0 ? text.len : header_len(sample)) - 1 - digits + below(digits);
-    if (below(3) == 0 && c->key_len > 0) {
+    switch (c->key_len == 0 ? 2 : below(4)) {
+    case 0:
         memcpy(key, sample->key, sizeof key);
         key[below(c->key_len)] ^= (uint8_t)(1 << below(8));
         c->key = key;
-    } else {
+        break;
+    case 1:
+        c->key_len = below(c->key_len);
+        break;
+    default:
         *digit = *digit == '0' ? 'F' : '0';
     }
 }
@@ -167,8 +180,10 @@ struct spoil {
 static const struct spoil of_size[] = {
     {FOX_REFUSED_CIPHER, spoil_cipher}, {FOX_REFUSED_ROUNDS, spoil_rounds}, {FOX_REFUSED_FILE, spoil_scans}};
 static const struct spoil of_write[] = {
-    {FOX_REFUSED_CIPHER, spoil_cipher},     {FOX_REFUSED_ROUNDS, spoil_rounds}, {FOX_REFUSED_KEY, spoil_key},
-    {FOX_REFUSED_BLOCK, spoil_counter_len}, {FOX_REFUSED_FILE, spoil_sum},      {FOX_REFUSED_OUTPUT, spoil_room}};
+    {FOX_REFUSED_CIPHER, spoil_cipher},      {FOX_REFUSED_ROUNDS, spoil_rounds},
+    {FOX_REFUSED_KEY, spoil_key},            {FOX_REFUSED_SHORT_KEY, spoil_seal_key},
+    {FOX_REFUSED_BLOCK, spoil_counter_len},  {FOX_REFUSED_FILE, spoil_sum},
+    {FOX_REFUSED_OUTPUT, spoil_room}};
 static const struct spoil of_take_up[] = {
     {FOX_REFUSED_CIPHER, spoil_cipher},  {FOX_REFUSED_ROUNDS, spoil_rounds}, {FOX_REFUSED_KEY, spoil_key},
     {FOX_REFUSED_HEADER, spoil_header}, {FOX_REFUSED_FILE, spoil_rest},     {FOX_REFUSED_TAG, spoil_tag}};
@@ -208,6 +223,14 @@ static void every_set(enum file_verb verb, const struct spoil *spoils, size_t co
     }
 }
 
+/* Of what opens a file; its key may have any length. */
+static void refused_openings(void)
+{
+    every_set(FILE_TAKE_UP, of_take_up, COUNT(of_take_up));
+    if (sample->scans > 0 && sample->lengths[0] > 0)
+        every_set(FILE_READ, of_read, COUNT(of_read));
+}
+
 void refusals(void)
 {
     group_begin("refusals, every set of faults at once, nothing changed");
@@ -215,9 +238,11 @@ void refusals(void)
         sample = &vectors[i % VECTORS];
         every_set(FILE_SIZE, of_size, COUNT(of_size));
         every_set(FILE_WRITE, of_write, COUNT(of_write));
-        every_set(FILE_TAKE_UP, of_take_up, COUNT(of_take_up));
-        if (sample->scans > 0 && sample->lengths[0] > 0)
-            every_set(FILE_READ, of_read, COUNT(of_read));
+        refused_openings();
+    }
+    for (size_t i = 0; i < OLD_FILES; i++) {
+        sample = &old_files[i];
+        refused_openings();
     }
     group_end();
 }

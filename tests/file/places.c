@@ -171,6 +171,7 @@ void made_up_places(void)
         right = try_call(FILE_NEXT, &c).answer;
         c.out_len = right == FOX_NO_SCAN || below(4) == 0 ? below(50) : (size_t)right;
         c.cipher = below(8) == 0 ? FOX64 + FOX128 - c.cipher : c.cipher;
+        c.key_len = below(4) == 0 ? below(FOX_LEAST_SEAL_KEY) : c.key_len;
         try_call(FILE_READ, &c);
         try_call(FILE_SKIP, &c);
     }

@@ -1,4 +1,4 @@
-/* Run files of the vectors, and by chance. */
+/* Run files of the vectors, old ones, and by chance. */
 #include "sample.h"
 #include "call.h"
 #include "chance.h"
@@ -13,9 +13,9 @@
 
 enum { MOST_VECTOR = 4096, FIELDS = 7 };
 
-struct sample vectors[VECTORS];
+struct sample vectors[VECTORS], old_files[OLD_FILES];
 static const char *folder;
-static size_t vectors_read;
+static size_t vectors_read, old_read;
 
 static void *some(size_t size)
 {
@@ -46,34 +46,59 @@ static size_t read_lengths(const char *text, uint64_t *lengths, size_t room)
     return count;
 }
 
+/* All but the file itself, which the row's first field is about. */
+static int read_row(struct sample *s, char **field)
+{
+    s->lengths = some(MOST_VECTOR), s->data = some(MOST_VECTOR), s->file = some(MOST_VECTOR);
+    if (field == NULL || !hex_read_all(field[3], s->key, sizeof s->key, &s->key_len) ||
+        !hex_read_all(field[4], s->counter, sizeof s->counter, &s->counter_len) ||
+        !hex_read_all(field[6], s->data, MOST_VECTOR, &s->data_len))
+        return 0;
+    s->cipher = (uint32_t)strtoul(field[1], NULL, 10);
+    s->rounds = (uint32_t)strtoul(field[2], NULL, 10);
+    s->scans = read_lengths(field[5], s->lengths, MOST_VECTOR / sizeof *s->lengths);
+    return 1;
+}
+
+/* One case: the row was read, and is of a file under a short key, or under another. */
+static int row_read(const struct sample *s, int read, int short_key)
+{
+    int right = read && s->file_len > 0 && s->file_len < MOST_VECTOR && (s->key_len < FOX_LEAST_SEAL_KEY) == short_key;
+    if (case_wrong(right))
+        printf("a row, or the file that it names, cannot be read, or has a key of another length\n");
+    return right;
+}
+
 static void row(const struct engine *engine, char **field)
 {
     struct sample *s = &vectors[vectors_read % VECTORS];
+    int read = read_row(s, field);
     (void)engine;
-    s->lengths = some(MOST_VECTOR), s->data = some(MOST_VECTOR), s->file = some(MOST_VECTOR);
-    int read = field != NULL && hex_read_all(field[3], s->key, sizeof s->key, &s->key_len) &&
-               hex_read_all(field[4], s->counter, sizeof s->counter, &s->counter_len) &&
-               hex_read_all(field[6], s->data, MOST_VECTOR, &s->data_len);
-    if (read) {
-        s->cipher = (uint32_t)strtoul(field[1], NULL, 10);
-        s->rounds = (uint32_t)strtoul(field[2], NULL, 10);
-        s->scans = read_lengths(field[5], s->lengths, MOST_VECTOR / sizeof *s->lengths);
+    if (read)
         s->file_len = read_file(field[0], s->file, MOST_VECTOR);
+    if (row_read(s, read, 0))
         vectors_read++;
-    }
-    if (case_wrong(read && s->file_len > 0 && s->file_len < MOST_VECTOR))
-        printf("a row, or the file that it names, cannot be read\n");
 }
 
-void read_vectors(const char *path)
+static void old_row(const struct engine *engine, char **field)
+{
+    struct sample *s = &old_files[old_read % OLD_FILES];
+    int read = read_row(s, field) && hex_read_all(field[0], s->file, MOST_VECTOR, &s->file_len);
+    (void)engine;
+    if (row_read(s, read, 1))
+        old_read++;
+}
+
+void read_samples(const char *path, const char *old_list)
 {
     char list[512];
     folder = path;
     snprintf(list, sizeof list, "%s/LIST.csv", path);
-    group_begin("the list of %s", path);
+    group_begin("the lists %s and %s", list, old_list);
     each_row(list, VECTORS, FIELDS, NULL, row);
+    each_row(old_list, OLD_FILES, FIELDS, NULL, old_row);
     group_end();
-    if (vectors_read != VECTORS)
+    if (vectors_read != VECTORS || old_read != OLD_FILES)
         exit(tally_end());
 }
 
@@ -84,8 +109,8 @@ static void write_file(struct sample *s)
         abort();
     s->file_len = (size_t)size;
     s->file = some(s->file_len);
-    if (second_file_write(s->cipher, s->rounds, s->key, s->key_len, s->counter, s->counter_len, s->data, s->data_len,
-                          s->lengths, s->scans, s->file, s->file_len, &count) != 0 || count != size)
+    if (second_old_file_write(s->cipher, s->rounds, s->key, s->key_len, s->counter, s->counter_len, s->data,
+                              s->data_len, s->lengths, s->scans, s->file, s->file_len, &count) != 0 || count != size)
         abort();
 }
 

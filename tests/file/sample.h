@@ -4,7 +4,7 @@
 
 #include "file_call.h"
 
-enum { VECTORS = 9, SAMPLE_ROOM = 64 };
+enum { VECTORS = 9, OLD_FILES = 8, SAMPLE_ROOM = 64 };
 
 /* Key and counter have more bytes behind them than their lengths say. */
 struct sample {
@@ -15,13 +15,15 @@ struct sample {
     uint8_t *data, *file;
 };
 
-/* Those of the folder of vectors. */
-extern struct sample vectors[VECTORS];
+/* Those of the folder of vectors, all under keys that seal, and those of a list of old files, which version 0.4.0 of the
+ * library has written under keys that are too short for it. */
+extern struct sample vectors[VECTORS], old_files[OLD_FILES];
 
 /* One group: reads them. */
-void read_vectors(const char *folder);
+void read_samples(const char *folder, const char *old_list);
 
-/* Scans of these lengths, with a key, a counter and data by chance; the file is the second implementation's. */
+/* Scans of these lengths, with a key, a counter and data by chance; the file is the second implementation's, by its old
+ * writer, so that the key may have any length. */
 struct sample make_sample(uint32_t cipher, uint32_t rounds, size_t key_len, const uint64_t *lengths, size_t scans);
 void free_sample(struct sample *s);
 

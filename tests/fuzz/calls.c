@@ -1,6 +1,6 @@
 /* A fuzzer's input as one call of the library: the answer of every engine beside that of the second implementation, the
- * refusal and every byte, and that what is served is taken back by one of them. Stops the program where anything
- * differs. */
+ * refusal and every byte, and that what is served is taken back by one of them, or refused where the key that opened it
+ * is too short to seal with. Stops the program where anything differs. */
 #include "answers.h"
 #include "beside.h"
 #include "exact.h"
@@ -62,11 +62,12 @@ static void hold(const struct engine *engine, enum verb verb, const struct call 
     take_back(&l);
 }
 
-/* What came out goes into the call that takes it back, and what went in is to come out. */
+/* What came out goes into the call that takes it back, and what went in is to come out, where the key does for that. */
 static void hold_back(const struct job *job)
 {
+    const enum verb verb = verbs[job->verb].back;
     struct call back = back_call(job->verb, &job->call, NULL);
-    hold(job->back, verbs[job->verb].back, &back, 0, went_in(job->verb, &job->call));
+    hold(job->back, verb, &back, key_answer(verb, back.key_len), went_in(job->verb, &job->call));
 }
 
 int LLVMFuzzerTestOneInput(const uint8_t *bytes, size_t len)

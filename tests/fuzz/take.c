@@ -70,10 +70,14 @@ static uint32_t rounds_of(struct choice c)
     return c.kind % 2 == 0 ? c.number % 512 : c.number;
 }
 
-static size_t key_len_of(struct choice c)
+/* An odd one is most often too short to seal with, by one byte every other time, and else too long. */
+static size_t key_len_of(struct choice c, int seals)
 {
+    size_t least = seals ? FOX_LEAST_SEAL_KEY : 0;
     if (c.kind < USUAL)
-        return c.kind % (FOX_MOST_KEY + 1);
+        return least + c.kind % (FOX_MOST_KEY + 1 - least);
+    if (c.kind < ODDER + 4)
+        return c.kind % 2 == 0 ? FOX_LEAST_SEAL_KEY - 1 : c.number % FOX_LEAST_SEAL_KEY;
     return FOX_MOST_KEY + 1 + c.number % (SHORT_ROOM - FOX_MOST_KEY);
 }
 
@@ -178,11 +182,11 @@ struct job take_job(const uint8_t *bytes, size_t len)
     job.back = &engines[made[WHICH].kind / VERBS % ENGINES];
     c->cipher = cipher_of(made[CIPHER]);
     c->rounds = rounds_of(made[ROUNDS]);
-    c->key_len = key_len_of(made[KEY_LEN]);
+    c->key_len = key_len_of(made[KEY_LEN], kind->seals);
     if (kind->first != NULL)
         c->first_len = first_len_of(made[FIRST_LEN], c->cipher);
     if (kind->data != NULL)
-        c->data_len = job.verb == RUN ? data_len_of(made[DATA_LEN], c->rounds)
+        c->data_len = kind->at_offset ? data_len_of(made[DATA_LEN], c->rounds)
                                       : message_len_of(made[DATA_LEN], c->rounds);
     if (kind->at_offset)
         c->offset = offset_of(made[OFFSET], made[OFFSET_HIGH], c->data_len);
@@ -190,7 +194,7 @@ struct job take_job(const uint8_t *bytes, size_t len)
         c->out_len = out_len_of(made[OUT_LEN], right_out_len(job.verb, c));
     take_bytes(&in, key, c->key_len);
     take_bytes(&in, first, c->first_len);
-    if (job.verb == RUN)
+    if (kind->at_offset)
         take_counter(made[FIRST_LEN], first, c->first_len);
     take_data(&in, data, data_behind(c));
     if (job.verb == TEST_TAG)

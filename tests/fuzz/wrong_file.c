@@ -21,7 +21,12 @@ enum {
     OFFSET_LOST,
     TENTH_SCAN_WRONG,
     SUM_UNTESTED,
-    WRITES_AFTER_FILE
+    WRITES_AFTER_FILE,
+    SIXTEEN_NOT_WRITTEN,
+    SHORT_KEY_WRITTEN,
+    SHORT_KEY_LATE,
+    OLD_FILE_REFUSED,
+    OLD_SCAN_REFUSED
 };
 
 uint32_t __real_fox_file_take_up(uint32_t cipher, uint32_t rounds, const uint8_t *key, size_t key_len,
@@ -96,6 +101,10 @@ uint32_t __wrap_fox_file_take_up(uint32_t cipher, uint32_t rounds, const uint8_t
         place[0] = before;
     if (FAULT == FILE_READ_AFTER && answer == FOX_SERVED && file[file_len] == 0x77)
         place[0] = before;
+    if (FAULT == OLD_FILE_REFUSED && answer == FOX_SERVED && key_len < FOX_LEAST_SEAL_KEY) {
+        place[0] = UINT64_MAX;
+        return FOX_REFUSED_SHORT_KEY;
+    }
     return answer;
 }
 
@@ -105,6 +114,10 @@ uint32_t __wrap_fox_file_read(uint32_t cipher, uint32_t rounds, const uint8_t *k
 {
     const uint64_t next = fox_file_next_length(file, file_len, place), before = *count;
     size_t taken = FAULT == LONGER_BUFFER_SERVED && next < out_len ? (size_t)next : out_len;
+    if (FAULT == OLD_SCAN_REFUSED && next == out_len && key_len < FOX_LEAST_SEAL_KEY) {
+        *count = 0;
+        return FOX_REFUSED_SHORT_KEY;
+    }
     uint32_t answer = __real_fox_file_read(cipher, rounds, key, key_len, file, file_len, place, out, taken, count);
     if (FAULT == REFUSED_READ_MOVES && answer == FOX_REFUSED_OUTPUT)
         fox_file_skip(file, file_len, place);
@@ -135,5 +148,11 @@ uint32_t __wrap_fox_file_write(uint32_t cipher, uint32_t rounds, const uint8_t *
         out[*count - 9 - (cipher == FOX64 ? 16 : 32) - 7] ^= 1;
     if (FAULT == WRITES_AFTER_FILE && answer == FOX_SERVED && *count < out_len)
         out[*count] = 0;
+    if (FAULT == SIXTEEN_NOT_WRITTEN && answer == FOX_SERVED && key_len == FOX_LEAST_SEAL_KEY)
+        return FOX_REFUSED_SHORT_KEY;
+    if (FAULT == SHORT_KEY_WRITTEN && answer == FOX_REFUSED_SHORT_KEY)
+        return fox_file_size(cipher, rounds, lengths, scans, count);
+    if (FAULT == SHORT_KEY_LATE && answer == FOX_REFUSED_SHORT_KEY && counter_len != cipher / 8)
+        return FOX_REFUSED_BLOCK;
     return answer;
 }

@@ -20,16 +20,29 @@ enum {
     CARRY_LOST_LATER,
     LONGEST_REFUSED,
     SESSION_READ_AFTER,
-    INPUT_READ_AFTER
+    INPUT_READ_AFTER,
+    SIXTEEN_NOT_STARTED,
+    FIFTEEN_STARTED,
+    OPENING_NOT_STARTED,
+    SHORT_START_LEAVES,
+    SEALING_FORGOTTEN,
+    SEALING_STAYS,
+    SEALING_LOST,
+    SEALING_BEGUN
 };
 
 /* Which word is what. */
-enum { CIPHER = 510, COUNTER = 513, POSITION = 515, BLOCK = 516, BLOCK_SIZE = 2 * sizeof(uint64_t) };
+enum { CIPHER = 510, COUNTER = 513, POSITION = 515, BLOCK = 516, SEALING = 518, BLOCK_SIZE = 2 * sizeof(uint64_t) };
 
-uint32_t __real_fox_session_start(uint32_t cipher, uint32_t rounds, const uint8_t *key, size_t key_len,
-                                  const uint8_t *counter, size_t counter_len, uint64_t *session);
-uint32_t __wrap_fox_session_start(uint32_t cipher, uint32_t rounds, const uint8_t *key, size_t key_len,
-                                  const uint8_t *counter, size_t counter_len, uint64_t *session);
+#define START_PARAMETERS                                                                                     \
+    uint32_t cipher, uint32_t rounds, const uint8_t *key, size_t key_len, const uint8_t *counter,             \
+        size_t counter_len, uint64_t *session
+#define START_ARGUMENTS cipher, rounds, key, key_len, counter, counter_len, session
+
+uint32_t __real_fox_session_start_sealing(START_PARAMETERS);
+uint32_t __wrap_fox_session_start_sealing(START_PARAMETERS);
+uint32_t __real_fox_session_start_opening(START_PARAMETERS);
+uint32_t __wrap_fox_session_start_opening(START_PARAMETERS);
 uint32_t __real_fox_session_advance(uint64_t *session, const uint8_t *input, size_t input_len, uint8_t *out,
                                     size_t out_len);
 uint32_t __wrap_fox_session_advance(uint64_t *session, const uint8_t *input, size_t input_len, uint8_t *out,
@@ -37,13 +50,37 @@ uint32_t __wrap_fox_session_advance(uint64_t *session, const uint8_t *input, siz
 uint32_t __real_fox_session_move(uint64_t *session, uint64_t position);
 uint32_t __wrap_fox_session_move(uint64_t *session, uint64_t position);
 
-uint32_t __wrap_fox_session_start(uint32_t cipher, uint32_t rounds, const uint8_t *key, size_t key_len,
-                                  const uint8_t *counter, size_t counter_len, uint64_t *session)
+/* A start that is refused with this number. */
+static uint32_t none_started(uint64_t *session, uint32_t number)
+{
+    memset(session, 0, FOX_SESSION_WORDS * sizeof *session);
+    return number;
+}
+
+uint32_t __wrap_fox_session_start_sealing(START_PARAMETERS)
 {
     const uint64_t before = session[7];
-    uint32_t answer = __real_fox_session_start(cipher, rounds, key, key_len, counter, counter_len, session);
-    if (FAULT == REFUSED_START_LEAVES && answer == FOX_REFUSED_BLOCK)
+    uint32_t answer = __real_fox_session_start_sealing(START_ARGUMENTS);
+    if ((FAULT == REFUSED_START_LEAVES && answer == FOX_REFUSED_BLOCK) ||
+        (FAULT == SHORT_START_LEAVES && answer == FOX_REFUSED_SHORT_KEY))
         session[7] = before;
+    if (FAULT == SIXTEEN_NOT_STARTED && answer == FOX_SERVED && key_len == FOX_LEAST_SEAL_KEY)
+        return none_started(session, FOX_REFUSED_SHORT_KEY);
+    if (FAULT == FIFTEEN_STARTED && answer == FOX_REFUSED_SHORT_KEY && key_len == FOX_LEAST_SEAL_KEY - 1)
+        return __real_fox_session_start_opening(START_ARGUMENTS);
+    if (FAULT == SEALING_FORGOTTEN)
+        session[SEALING] = 0;
+    return answer;
+}
+
+uint32_t __wrap_fox_session_start_opening(START_PARAMETERS)
+{
+    const uint64_t before = session[SEALING];
+    uint32_t answer = __real_fox_session_start_opening(START_ARGUMENTS);
+    if (FAULT == OPENING_NOT_STARTED && answer == FOX_SERVED && key_len < FOX_LEAST_SEAL_KEY)
+        return none_started(session, FOX_REFUSED_SHORT_KEY);
+    if (FAULT == SEALING_STAYS && answer == FOX_SERVED)
+        session[SEALING] = before;
     return answer;
 }
 
@@ -64,6 +101,8 @@ static uint32_t spoilt_advance(uint64_t *session, const uint8_t *input, size_t i
         return answer;
     if (FAULT == EDGE_KEEPS_BLOCK && session[POSITION] % b == 0 && input_len < b)
         memcpy(session + BLOCK, block, BLOCK_SIZE);
+    if (FAULT == SEALING_BEGUN && input_len > b)
+        session[SEALING] = 1;
     if ((FAULT == LAST_BLOCK_WRONG && session[POSITION] > FOX_RUN_END - b) ||
         (FAULT == CARRY_LOST_LATER && carried(session, session[POSITION] - 1) && from % b != 0))
         out[input_len - 1] ^= 1;
@@ -103,6 +142,8 @@ uint32_t __wrap_fox_session_move(uint64_t *session, uint64_t position)
         memcpy(session + BLOCK, block, BLOCK_SIZE);
     if (FAULT == MOVE_FORGOTTEN && answer == FOX_SERVED && position < from)
         session[POSITION] = from;
+    if (FAULT == SEALING_LOST && answer == FOX_SERVED && position < from)
+        session[SEALING] = 0;
     if (FAULT == REFUSED_MOVE_MOVES && answer == FOX_REFUSED_END)
         session[POSITION] = FOX_RUN_END;
     return answer;

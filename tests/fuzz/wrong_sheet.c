@@ -1,10 +1,23 @@
 /* Stands before the bench sheet's export, by the linker's --wrap, and puts the one fault named by FAULT into it, so
  * that one sees whether the fuzzer finds it. */
+#define _GNU_SOURCE
 #include "exact.h"
 
 #include <string.h>
 
-enum { LEADING_ZERO = 1, SMALL_DIGIT, FEED_AFTER, NUMBER_WRAPS, NUL_AFTER, READS_AFTER };
+enum {
+    LEADING_ZERO = 1,
+    SMALL_DIGIT,
+    FEED_AFTER,
+    NUMBER_WRAPS,
+    NUL_AFTER,
+    READS_AFTER,
+    FIFTEEN_SEALED,
+    OPENING_REFUSED
+};
+
+/* The hex digits of the shortest key that seals. */
+enum { SEAL_DIGITS = 32 };
 
 size_t __real_fox_probe_sheet(const uint8_t *sheet, size_t len, uint8_t *out);
 size_t __wrap_fox_probe_sheet(const uint8_t *sheet, size_t len, uint8_t *out);
@@ -22,8 +35,26 @@ static void replace(struct exact *e, const char *from, const char *to)
         }
 }
 
+/* How many bytes the line of the key has after its name; 0 where there is none. */
+static size_t key_digits(const struct exact *e)
+{
+    const uint8_t *key = memmem(e->at, e->len, "\nkey=", 5);
+    const uint8_t *feed = key == NULL ? NULL : memchr(key + 5, '\n', (size_t)(e->at + e->len - key) - 5);
+    return feed == NULL ? 0 : (size_t)(feed - key) - 5;
+}
+
+/* Sealing with a short key as opening, which serves it, or the other way about. */
+static void mend_way(struct exact *e)
+{
+    if (FAULT == FIFTEEN_SEALED && key_digits(e) == SEAL_DIGITS - 2)
+        replace(e, "way=seal", "way=open");
+    if (FAULT == OPENING_REFUSED && key_digits(e) < SEAL_DIGITS)
+        replace(e, "way=open", "way=seal");
+}
+
 static void mend(struct exact *e)
 {
+    mend_way(e);
     if (FAULT == LEADING_ZERO)
         replace(e, "rounds=0", "rounds=");
     if (FAULT == NUMBER_WRAPS)

@@ -2,6 +2,7 @@
  * written; what its caller takes is counted too. */
 #include "call.h"
 #include "count.h"
+#include "file.h"
 #include "file_call.h"
 #include "measure.h"
 #include "painted.h"
@@ -33,17 +34,17 @@ static size_t written(enum file_verb made)
     return stack_written();
 }
 
-/* The file is written by the library itself. */
+/* The file is one of the second implementation's old writer, which takes short keys too. */
 static int prepare(uint32_t cipher, size_t key_len, size_t scans)
 {
     call = (struct file_call){cipher, FOX_MOST_ROUNDS, key, key_len, counter, block_of(cipher), data, 0, lengths, scans,
-                              file, 0, place, file, sizeof file, &count};
+                              file, 0, place, out, sizeof out, &count};
     for (size_t i = 0; i < scans; i++)
         call.data_len += (size_t)lengths[i];
-    if (make_file_call(FILE_WRITE, &call) != FOX_SERVED)
+    if (second_old_file_write(cipher, FOX_MOST_ROUNDS, key, key_len, counter, call.counter_len, data, call.data_len,
+                              lengths, scans, file, sizeof file, &count) != FOX_SERVED)
         return 0;
     call.file_len = (size_t)count;
-    call.out = out, call.out_len = sizeof out;
     return make_file_call(FILE_TAKE_UP, &call) == FOX_SERVED;
 }
 
@@ -73,15 +74,18 @@ static size_t used_by(enum file_verb made, uint32_t cipher, size_t key_len, size
     return answer == FOX_SERVED ? used : PAINTED;
 }
 
+/* Of a writer with keys that seal alone. */
 static size_t most_used(enum file_verb made)
 {
     static const size_t key_lens[] = {0, 15, 16, 17, FOX_MOST_KEY};
     size_t most = 0;
-    for (uint32_t cipher = FOX64; cipher <= FOX128; cipher += FOX64)
-        for (size_t i = 0; i < COUNT(key_lens) * (COUNT(lengths) + 1); i++) {
-            size_t used = used_by(made, cipher, key_lens[i % COUNT(key_lens)], i / COUNT(key_lens));
-            most = used > most ? used : most;
-        }
+    for (size_t i = 0; i < 2 * COUNT(key_lens) * (COUNT(lengths) + 1); i++) {
+        const size_t key_len = key_lens[i / 2 % COUNT(key_lens)], scans = i / 2 / COUNT(key_lens);
+        if (made == FILE_WRITE && key_len < FOX_LEAST_SEAL_KEY)
+            continue;
+        size_t used = used_by(made, i % 2 == 0 ? FOX64 : FOX128, key_len, scans);
+        most = used > most ? used : most;
+    }
     return most;
 }
 

@@ -32,13 +32,14 @@ static size_t written(void)
 
 /* The most over stretches that begin and end within a block and at its edges, and over moves within a block, on and
  * back, each made of a session at position 3. */
-static size_t most_of_verb(void)
+static size_t most_of_verb(int opening)
 {
     static const size_t lengths[] = {0, 1, 4, 5, 13, 16, 29, 150, ROOM};
     static const uint64_t positions[] = {0, 3, 4, 8, 16, 1000, FOX_RUN_END - 1, FOX_RUN_END};
     size_t most = 0;
     for (size_t i = 0; i < COUNT(lengths); i++) {
-        if (make_session_call(SESSION_START, &call) != FOX_SERVED || fox_session_move(session, 3) != FOX_SERVED)
+        if (make_session_call(start_verb(opening), &call) != FOX_SERVED ||
+            fox_session_move(session, 3) != FOX_SERVED)
             return PAINTED;
         call.input_len = call.out_len = lengths[i];
         call.position = positions[i % COUNT(positions)];
@@ -48,17 +49,23 @@ static size_t most_of_verb(void)
     return most;
 }
 
+/* Of sessions in both directions, and of those for sealing with keys that seal; a start is that of its own direction
+ * alone. */
 static size_t most_used(void)
 {
     static const size_t key_lens[] = {0, 15, 16, 17, FOX_MOST_KEY};
     size_t most = 0;
-    for (uint32_t cipher = FOX64; cipher <= FOX128; cipher += FOX64)
-        for (size_t i = 0; i < COUNT(key_lens); i++) {
-            call = (struct session_call){cipher, FOX_MOST_ROUNDS, key, key_lens[i], counter, block_of(cipher), session,
-                                         input, 0, out, 0, 0};
-            size_t used = most_of_verb();
-            most = used > most ? used : most;
-        }
+    for (size_t i = 0; i < 4 * COUNT(key_lens); i++) {
+        const uint32_t cipher = i % 2 == 0 ? FOX64 : FOX128;
+        const int opening = i / 2 % 2 == 1;
+        const size_t key_len = key_lens[i / 4];
+        if ((is_start(verb) && verb != start_verb(opening)) || (!opening && key_len < FOX_LEAST_SEAL_KEY))
+            continue;
+        call = (struct session_call){cipher, FOX_MOST_ROUNDS, key, key_len, counter, block_of(cipher), session, input,
+                                     0, out, 0, 0};
+        size_t used = most_of_verb(opening);
+        most = used > most ? used : most;
+    }
     return most;
 }
 

@@ -34,7 +34,7 @@ static void store_tag(void)
     make_call(engine, MAKE_TAG, &make);
 }
 
-/* PAINTED where the call was refused. */
+/* PAINTED where the call answers otherwise than its key has it: one that is too short to seal with is refused. */
 static size_t written_by(uint32_t cipher, size_t key_len, size_t data_len)
 {
     call = (struct call){cipher, FOX_MOST_ROUNDS, key, key_len, first, block_of(cipher), OFFSET, data, data_len,
@@ -44,7 +44,7 @@ static size_t written_by(uint32_t cipher, size_t key_len, size_t data_len)
         store_tag();
     on_painted_stack(caller);
     size_t used = stack_written();
-    return answer == FOX_SERVED ? used : PAINTED;
+    return answer == key_answer(verb, key_len) ? used : PAINTED;
 }
 
 /* The most over both ciphers, keys of either schedule, whole and padded, and data that is none, whole and not. */

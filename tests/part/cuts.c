@@ -18,12 +18,12 @@ static void one_at_a_time(const struct setting *s)
 
 void single_rounds(void)
 {
-    group_begin("a block one round at a time: keys of 0 to 32 bytes, and 255 rounds");
+    group_begin("a block one round at a time: all lengths of keys, and 255 rounds");
     for (uint32_t way = 0; way < 4; way++)
-        for (uint32_t key_len = 0; key_len <= FOX_MOST_KEY + 1; key_len++) {
+        for (uint32_t turn = 0; turn <= KEY_TURNS; turn++) {
             struct setting s = some_setting(way % 2, way < 2 ? FOX64 : FOX128);
-            s.rounds = key_len > FOX_MOST_KEY ? FOX_MOST_ROUNDS : s.rounds;
-            s.key_len = key_len > FOX_MOST_KEY ? s.key_len : key_len;
+            s.rounds = turn == KEY_TURNS ? FOX_MOST_ROUNDS : s.rounds;
+            s.key_len = turn == KEY_TURNS ? s.key_len : key_len_by(s.sealing, turn);
             one_at_a_time(&s);
         }
     group_end();
@@ -42,13 +42,17 @@ static struct kept cut(const struct setting *s)
     return k;
 }
 
-/* What was sealed is opened, or the other way about, with other cuts. */
+/* What was sealed is opened, or the other way about, with other cuts. What a short key has opened is not sealed again. */
 static void there_and_back(const struct setting *s)
 {
     struct setting back = *s;
     struct kept k = cut(s);
     back.sealing = !s->sealing;
     memcpy(back.block, k.state, s->block_len);
+    if (back.sealing && back.key_len < FOX_LEAST_SEAL_KEY) {
+        hold_refused(&back, FOX_REFUSED_SHORT_KEY);
+        return;
+    }
     k = cut(&back);
     const struct part_call c = call_on(&back, &k, k.done);
     case_of(&c, memcmp(k.state, s->block, s->block_len) == 0, "this comes back, and not the block that went in");

@@ -128,10 +128,10 @@ void in_two(void)
 {
     group_begin("a block in two parts by one call, every round to stop at: as at once, and the state in between");
     for (uint32_t way = 0; way < 4; way++)
-        for (uint32_t key_len = 0; key_len <= FOX_MOST_KEY; key_len++) {
+        for (uint32_t turn = 0; turn < KEY_TURNS; turn++) {
             struct setting s = some_setting(way % 2, way < 2 ? FOX64 : FOX128);
-            s.key_len = key_len;
-            s.rounds = key_len == 17 ? FOX_MOST_ROUNDS : s.rounds;
+            s.key_len = key_len_by(s.sealing, turn);
+            s.rounds = turn == 17 ? FOX_MOST_ROUNDS : s.rounds;
             stop_anywhere(&s);
         }
     group_end();
@@ -150,18 +150,29 @@ static void spoilt(const struct setting *s, uint32_t refusal)
         }
 }
 
+/* A setting whose key is answered so, by itself and with one more fault. */
+static void spoilt_in_each(const struct setting *s, uint32_t key_answered)
+{
+    struct setting cipher = *s, rounds = *s, key = *s, block = *s;
+    cipher.cipher++, rounds.rounds = FOX_LEAST_ROUNDS - 1, key.key_len = FOX_MOST_KEY + 1, block.block_len++;
+    spoilt(s, key_answered);
+    spoilt(&cipher, FOX_REFUSED_CIPHER);
+    spoilt(&rounds, FOX_REFUSED_ROUNDS);
+    spoilt(&key, FOX_REFUSED_KEY);
+    spoilt(&block, key_answered != FOX_SERVED ? key_answered : FOX_REFUSED_BLOCK);
+}
+
 void in_two_refused(void)
 {
+    static const size_t short_keys[] = {0, 1, FOX_LEAST_SEAL_KEY - 1};
     group_begin("a block in two parts by one call, refused: the first fault is answered, and what is not done stays");
     for (uint32_t way = 0; way < 4; way++) {
-        const struct setting s = some_setting(way % 2, way < 2 ? FOX64 : FOX128);
-        struct setting cipher = s, rounds = s, key = s, block = s;
-        cipher.cipher++, rounds.rounds = FOX_LEAST_ROUNDS - 1, key.key_len = FOX_MOST_KEY + 1, block.block_len++;
-        spoilt(&s, FOX_SERVED);
-        spoilt(&cipher, FOX_REFUSED_CIPHER);
-        spoilt(&rounds, FOX_REFUSED_ROUNDS);
-        spoilt(&key, FOX_REFUSED_KEY);
-        spoilt(&block, FOX_REFUSED_BLOCK);
+        struct setting s = some_setting(way % 2, way < 2 ? FOX64 : FOX128);
+        spoilt_in_each(&s, FOX_SERVED);
+        for (size_t i = 0; i < COUNT(short_keys); i++) {
+            s.key_len = short_keys[i];
+            spoilt_in_each(&s, s.sealing != 0 ? FOX_REFUSED_SHORT_KEY : FOX_SERVED);
+        }
     }
     group_end();
 }

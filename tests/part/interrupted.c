@@ -1,5 +1,6 @@
 /* A card that is interrupted: of a block only its state, register and number of rounds are kept, and other work comes
  * between its parts, on the same stack. */
+#include "call.h"
 #include "chance.h"
 #include "groups.h"
 #include "painted.h"
@@ -9,19 +10,28 @@
 #include <stdio.h>
 #include <string.h>
 
-/* Another block under another key, sealed and opened whole. */
+/* Another block under another key, opened, and sealed again, whole. */
 static struct {
     struct setting setting;
-    uint8_t sealed[FOX128_BLOCK], opened[FOX128_BLOCK];
-    uint32_t refusals;
+    uint8_t opened[FOX128_BLOCK], sealed[FOX128_BLOCK];
+    uint32_t opening, sealing;
 } other;
 
 static void other_block(void)
 {
     const struct setting *s = &other.setting;
     const size_t b = s->block_len;
-    other.refusals = fox_card_seal_block(s->cipher, s->rounds, s->key, s->key_len, s->block, b, other.sealed, b);
-    other.refusals |= fox_card_open_block(s->cipher, s->rounds, s->key, s->key_len, other.sealed, b, other.opened, b);
+    other.opening = fox_card_open_block(s->cipher, s->rounds, s->key, s->key_len, s->block, b, other.opened, b);
+    other.sealing = fox_card_seal_block(s->cipher, s->rounds, s->key, s->key_len, other.opened, b, other.sealed, b);
+}
+
+/* It comes back, but for a key that is too short to seal with, which is refused. */
+static int other_right(void)
+{
+    const struct setting *s = &other.setting;
+    const uint32_t right = key_answer(SEAL, s->key_len);
+    return other.opening == FOX_SERVED && other.sealing == right &&
+           (right != FOX_SERVED || memcmp(other.sealed, s->block, s->block_len) == 0);
 }
 
 /* Any other, or one that has the same cipher, rounds and length of key as the block that is interrupted. */
@@ -42,9 +52,8 @@ static void other_work(const struct setting *interrupted_one)
     for (size_t times = 1 + below(3); times > 0; times--) {
         other.setting = another(interrupted_one);
         on_painted_stack(other_block);
-        if (case_wrong(other.refusals == 0 &&
-                       memcmp(other.opened, other.setting.block, other.setting.block_len) == 0))
-            printf("a block between two parts of another does not come back\n");
+        if (case_wrong(other_right()))
+            printf("a block between two parts of another does not come back, or is not refused as its key has it\n");
     }
     const struct setting s = another(interrupted_one);
     struct kept k = begun(&s);
@@ -74,6 +83,7 @@ static void in_turns(const struct setting *s, const struct setting *t)
     same_stop(t, &l, stops_of(t), t->rounds);
 }
 
+/* The last two are one block both ways, but for a key that is too short to seal with, by which both are opened. */
 void interrupted(void)
 {
     enum { TIMES = 60 };
@@ -84,7 +94,7 @@ void interrupted(void)
         with_interruptions(&s);
         in_turns(&s, &t);
         t = s;
-        t.sealing = !s.sealing;
+        t.sealing = !s.sealing && key_answer(SEAL, s.key_len) == FOX_SERVED;
         in_turns(&s, &t);
     }
     group_end();

@@ -14,8 +14,8 @@
 
 static void every_answer(void)
 {
-    static const uint32_t answers[] = {FOX_SERVED,      FOX_REFUSED_CIPHER, FOX_REFUSED_ROUNDS,
-                                       FOX_REFUSED_KEY, FOX_REFUSED_BLOCK,  FOX_REFUSED_OUTPUT};
+    static const uint32_t answers[] = {FOX_SERVED,        FOX_REFUSED_CIPHER, FOX_REFUSED_ROUNDS,   FOX_REFUSED_KEY,
+                                       FOX_REFUSED_BLOCK, FOX_REFUSED_OUTPUT, FOX_REFUSED_SHORT_KEY};
     each_answered(answers, COUNT(answers));
 }
 

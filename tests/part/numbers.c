@@ -107,7 +107,7 @@ void past_rounds(void)
 void sealing_numbers(void)
 {
     static const uint32_t sealing[] = {1, 2, 3, 128, 255, 256, 65536, 1u << 24, 1u << 31, UINT32_MAX - 1, UINT32_MAX};
-    group_begin("every number but 0 seals");
+    group_begin("every number but 0 seals, and refuses a short key");
     for (size_t i = 0; i < 2 * COUNT(sealing); i++) {
         struct setting s = some_setting(1, i % 2 == 0 ? FOX64 : FOX128);
         const struct second_stops *stops = stops_of(&s);
@@ -117,6 +117,8 @@ void sealing_numbers(void)
             go_on(&s, &k, k.done + 7);
             same_stop(&s, &k, stops, k.done);
         }
+        s.key_len = below(FOX_LEAST_SEAL_KEY);
+        hold_refused(&s, FOX_REFUSED_SHORT_KEY);
     }
     group_end();
 }

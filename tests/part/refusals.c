@@ -13,41 +13,51 @@
 
 #define FOUR_GIB ((size_t)1 << 32)
 
-enum { MARGIN = 1 << 20, FAULTS = 5 };
+enum { MARGIN = 1 << 20 };
 
-static const uint32_t numbers[FAULTS] = {FOX_REFUSED_CIPHER, FOX_REFUSED_ROUNDS, FOX_REFUSED_KEY, FOX_REFUSED_BLOCK,
-                                         FOX_REFUSED_OUTPUT};
+/* What can be wrong, as bits of a number, in the order in which it is looked for; and what is answered to each. */
+enum { CIPHER = 1, ROUNDS = 2, LONG_KEY = 4, SHORT_KEY = 8, BLOCK = 16, OUTPUT = 32, FAULTS = 6 };
+static const uint32_t numbers[FAULTS] = {FOX_REFUSED_CIPHER,    FOX_REFUSED_ROUNDS, FOX_REFUSED_KEY,
+                                         FOX_REFUSED_SHORT_KEY, FOX_REFUSED_BLOCK,  FOX_REFUSED_OUTPUT};
 
 /* Buffers of any length that is tried here. */
 static uint8_t key[SETTING_ROOM], block[SETTING_ROOM], out[SETTING_ROOM];
 
-/* One that is served, and has rounds to do. */
+/* One that is served, and most often has rounds to do. */
 static struct part_call some_call(uint32_t sealing, uint32_t cipher)
 {
     const size_t b = block_of(cipher);
-    const uint32_t from = (uint32_t)below(FOX_LEAST_ROUNDS), until = from + 1 + (uint32_t)below(FOX_LEAST_ROUNDS);
+    const uint32_t from = (uint32_t)below(FOX_LEAST_ROUNDS), until = from + (uint32_t)below(FOX_LEAST_ROUNDS);
     fill(key, sizeof key);
     fill(block, sizeof block);
-    return (struct part_call){sealing, cipher, FOX_LEAST_ROUNDS + (uint32_t)below(30), key, below(FOX_MOST_KEY + 1),
+    return (struct part_call){sealing, cipher, FOX_LEAST_ROUNDS + (uint32_t)below(30), key, some_key_len(sealing),
                               from, until, (uint32_t)any_number(), block, b, out, b};
 }
 
-/* By the bits of a number: cipher, rounds, key, block and output. A wrong output may have the cipher's own length, where the
- * block has another. */
+/* A key that is to be too long and too short is too long. A wrong output may have the cipher's own length, where the block
+ * has another. */
 static void spoil(struct part_call *c, unsigned chosen)
 {
     static const uint32_t ciphers[] = {0, 1, FOX64 - 1, FOX64 + 1, FOX128 - 1, FOX128 + 1, 256 + FOX64, 65536 + FOX128,
                                        UINT32_MAX};
     static const uint32_t rounds[] = {0, 1, FOX_LEAST_ROUNDS - 1, FOX_MOST_ROUNDS + 1, 256 + 16, 65536 + 16, UINT32_MAX};
-    static const size_t key_lens[] = {FOX_MOST_KEY + 1, FOX_MOST_KEY + 2, SETTING_ROOM};
+    static const size_t long_keys[] = {FOX_MOST_KEY + 1, FOX_MOST_KEY + 2, SETTING_ROOM};
+    static const size_t short_keys[] = {0, 1, 8, FOX_LEAST_SEAL_KEY - 2, FOX_LEAST_SEAL_KEY - 1};
     const size_t b = c->block_len, lens[] = {0, 1, b - 1, b + 1, FOX64_BLOCK + FOX128_BLOCK - b, 2 * b, SETTING_ROOM};
-    c->cipher = chosen & 1 ? ONE_OF(ciphers) : c->cipher;
-    c->rounds = chosen & 2 ? ONE_OF(rounds) : c->rounds;
-    c->key_len = chosen & 4 ? ONE_OF(key_lens) : c->key_len;
-    c->block_len = chosen & 8 ? ONE_OF(lens) : c->block_len;
+    c->cipher = chosen & CIPHER ? ONE_OF(ciphers) : c->cipher;
+    c->rounds = chosen & ROUNDS ? ONE_OF(rounds) : c->rounds;
+    c->key_len = chosen & LONG_KEY ? ONE_OF(long_keys) : chosen & SHORT_KEY ? ONE_OF(short_keys) : c->key_len;
+    c->block_len = chosen & BLOCK ? ONE_OF(lens) : c->block_len;
     do
-        c->out_len = chosen & 16 ? (below(3) == 0 ? b : ONE_OF(lens)) : c->block_len;
-    while (chosen & 16 && c->out_len == c->block_len);
+        c->out_len = chosen & OUTPUT ? (below(3) == 0 ? b : ONE_OF(lens)) : c->block_len;
+    while (chosen & OUTPUT && c->out_len == c->block_len);
+}
+
+/* A short key is a fault in sealing alone; opening without any other is served. */
+static uint32_t first_of(uint32_t sealing, unsigned chosen)
+{
+    const unsigned faults = sealing != 0 ? chosen : chosen & ~(unsigned)SHORT_KEY;
+    return faults == 0 ? FOX_SERVED : numbers[__builtin_ctz(faults)];
 }
 
 void refusals(void)
@@ -58,7 +68,7 @@ void refusals(void)
         const unsigned chosen = 1 + i % SETS;
         struct part_call c = some_call(i / SETS % 2, i / SETS % 4 < 2 ? FOX64 : FOX128);
         spoil(&c, chosen);
-        hold_part(&c, numbers[__builtin_ctz(chosen)]);
+        hold_part(&c, first_of(c.sealing, chosen));
     }
     group_end();
 }
@@ -73,8 +83,10 @@ static void at_limits(struct part_call c)
         hold_part(&c, rounds < FOX_LEAST_ROUNDS || rounds > FOX_MOST_ROUNDS ? FOX_REFUSED_ROUNDS : FOX_SERVED);
     }
     c = served;
-    for (c.key_len = 0; c.key_len <= SETTING_ROOM; c.key_len++)
-        hold_part(&c, c.key_len > FOX_MOST_KEY ? FOX_REFUSED_KEY : FOX_SERVED);
+    for (c.key_len = 0; c.key_len <= SETTING_ROOM; c.key_len++) {
+        const unsigned too_short = c.key_len < FOX_LEAST_SEAL_KEY ? SHORT_KEY : 0;
+        hold_part(&c, first_of(c.sealing, c.key_len > FOX_MOST_KEY ? LONG_KEY : too_short));
+    }
     c = served;
     for (c.block_len = 0; c.block_len <= SETTING_ROOM; c.block_len++) {
         c.out_len = c.block_len;
@@ -116,6 +128,10 @@ static void large_of(uint32_t sealing, uint32_t cipher, const uint8_t *nowhere)
     struct part_call c = served;
     c.key = nowhere, c.key_len += FOUR_GIB;
     large(&c, FOX_REFUSED_KEY);
+    c.key_len = FOUR_GIB + FOX_LEAST_SEAL_KEY - 1;
+    large(&c, FOX_REFUSED_KEY);
+    c = served, c.key_len = FOX_LEAST_SEAL_KEY - 1, c.block = nowhere, c.block_len += FOUR_GIB;
+    large(&c, first_of(sealing, SHORT_KEY | BLOCK));
     c = served, c.block = nowhere, c.block_len += FOUR_GIB;
     large(&c, FOX_REFUSED_BLOCK);
     c.out = (uint8_t *)nowhere, c.out_len += FOUR_GIB;

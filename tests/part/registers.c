@@ -73,11 +73,11 @@ static void each_step(const struct setting *s)
 
 void steps_of_rounds(void)
 {
-    group_begin("the register of each round, from its beginning past its end: keys of 0 to 32 bytes, 12 to 17 rounds and 255");
-    for (uint32_t i = 0; i < 4 * (FOX_MOST_KEY + 1); i++) {
+    group_begin("the register of each round, from its beginning past its end: all lengths of keys, 12 to 17 rounds and 255");
+    for (uint32_t i = 0; i < 4 * KEY_TURNS; i++) {
         struct setting s = some_setting(i % 2, i % 4 < 2 ? FOX64 : FOX128);
-        s.key_len = i / 4;
-        s.rounds = i / 4 == 16 || i / 4 == 17 ? FOX_MOST_ROUNDS : s.rounds;
+        s.key_len = key_len_by(s.sealing, i / 4);
+        s.rounds = s.key_len == 16 || s.key_len == 17 ? FOX_MOST_ROUNDS : s.rounds;
         each_step(&s);
     }
     group_end();
@@ -103,8 +103,8 @@ static void undone(const struct setting *s)
 
 void steps_undone(void)
 {
-    group_begin("the register of sealing given to opening, and that of opening to sealing, past both ends");
-    for (uint32_t key_len = 0; key_len <= FOX_MOST_KEY; key_len++)
+    group_begin("the register of sealing given to opening, and the other way about, past both ends: keys of 16 to 32 bytes");
+    for (size_t key_len = FOX_LEAST_SEAL_KEY; key_len <= FOX_MOST_KEY; key_len++)
         for (uint32_t cipher = FOX64; cipher <= FOX128; cipher += FOX64) {
             struct setting s = some_setting(1, cipher);
             s.key_len = key_len;

@@ -23,18 +23,18 @@ static void every_stop(const struct setting *s)
         stop_at(s, stops, at);
 }
 
-/* Each number of rounds comes with either cipher, in sealing and in opening, since there are fewer of them than lengths. */
+/* Each number of rounds comes with either cipher, in sealing and in opening, since there are fewer of them than turns. */
 void two_calls(void)
 {
     enum { MOST = 40, TURNS = MOST - FOX_LEAST_ROUNDS + 1 };
-    _Static_assert(FOX_MOST_KEY + 1 >= TURNS, "every number of rounds has its turn");
-    group_begin("a block in two calls, every round to stop at: keys of 0 to 32 bytes, 12 to 40 rounds by turns");
+    _Static_assert(KEY_TURNS - TURNS >= 0, "every number of rounds has its turn");
+    group_begin("a block in two calls, every round to stop at: all lengths of keys, 12 to 40 rounds by turns");
     for (uint32_t way = 0; way < 4; way++) {
         const uint32_t first = (uint32_t)below(TURNS);
-        for (uint32_t key_len = 0; key_len <= FOX_MOST_KEY; key_len++) {
+        for (uint32_t turn = 0; turn < KEY_TURNS; turn++) {
             struct setting s = some_setting(way % 2, way < 2 ? FOX64 : FOX128);
-            s.key_len = key_len;
-            s.rounds = FOX_LEAST_ROUNDS + (first + key_len) % TURNS;
+            s.key_len = key_len_by(s.sealing, turn);
+            s.rounds = FOX_LEAST_ROUNDS + (first + turn) % TURNS;
             every_stop(&s);
         }
     }

@@ -24,10 +24,21 @@ uint32_t some_cipher(void)
     return below(2) == 0 ? FOX64 : FOX128;
 }
 
+size_t key_len_by(uint32_t sealing, uint32_t turn)
+{
+    const size_t least = sealing != 0 ? FOX_LEAST_SEAL_KEY : 0;
+    return least + turn % (FOX_MOST_KEY + 1 - least);
+}
+
+size_t some_key_len(uint32_t sealing)
+{
+    return key_len_by(sealing, (uint32_t)any_number());
+}
+
 struct setting some_setting(uint32_t sealing, uint32_t cipher)
 {
     struct setting s = {.sealing = sealing, .cipher = cipher, .rounds = FOX_LEAST_ROUNDS + (uint32_t)below(6)};
-    s.key_len = below(FOX_MOST_KEY + 1);
+    s.key_len = some_key_len(sealing);
     s.block_len = block_of(cipher);
     fill(s.key, sizeof s.key);
     fill(s.block, sizeof s.block);
@@ -153,6 +164,15 @@ void go_on(const struct setting *s, struct kept *k, uint32_t until)
     k->reg = (uint32_t)hold_part(&c, FOX_SERVED);
     memcpy(k->state, out, s->block_len);
     k->done = until > k->done ? until : k->done;
+}
+
+void hold_refused(const struct setting *s, uint32_t refusal)
+{
+    uint8_t out[FOX128_BLOCK];
+    const struct kept k = begun(s);
+    struct part_call c = call_on(s, &k, s->rounds);
+    c.out = out;
+    hold_part(&c, refusal);
 }
 
 void same_stop(const struct setting *s, const struct kept *k, const struct second_stops *stops, uint32_t done)

@@ -23,7 +23,13 @@ struct setting {
 
 uint32_t some_cipher(void);
 
-/* One that is served, with few rounds and a key of any length. */
+/* A length of key that is served, 0 to 32 bytes in opening and 16 to 32 in sealing: by turns, so that each of them has come
+ * after KEY_TURNS, and by chance. */
+enum { KEY_TURNS = FOX_MOST_KEY + 1 };
+size_t key_len_by(uint32_t sealing, uint32_t turn);
+size_t some_key_len(uint32_t sealing);
+
+/* One that is served, with few rounds and a key of any such length. */
 struct setting some_setting(uint32_t sealing, uint32_t cipher);
 
 /* All that is kept of a block that was stopped, besides what it is sealed or opened by. */
@@ -66,6 +72,9 @@ void case_of(const struct part_call *c, int right, const char *wrong);
 
 /* Goes on with a block up to a round, as a case, and keeps what the card has handed back. */
 void go_on(const struct setting *s, struct kept *k, uint32_t until);
+
+/* A case: a call on all rounds of a block is refused so. */
+void hold_refused(const struct setting *s, uint32_t refusal);
 
 /* A case: what is kept is right after so many rounds, or as many as the block has where that is fewer. */
 void same_stop(const struct setting *s, const struct kept *k, const struct second_stops *stops, uint32_t done);

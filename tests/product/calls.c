@@ -1,4 +1,4 @@
-/* Makes every call that fox.h declares for an engine: two of the specification's vectors, or rows of tags, a refusal of
+/* Makes every call that fox.h declares for an engine: four of the specification's vectors, or rows of tags, a refusal of
  * each number that the call gives, and the limits at which it still serves. Usage: calls, or calls names, which prints
  * the calls' names. */
 #include "call.h"
@@ -14,9 +14,16 @@ static const uint8_t key[64] = {0x00, 0x11, 0x22, 0x33, 0x44, 0x55, 0x66, 0x77,
                                 0x88, 0x99, 0xAA, 0xBB, 0xCC, 0xDD, 0xEE, 0xFF};
 static const uint8_t block[32] = {0x01, 0x23, 0x45, 0x67, 0x89, 0xAB, 0xCD, 0xEF,
                                   0xFE, 0xDC, 0xBA, 0x98, 0x76, 0x54, 0x32, 0x10};
-static const uint8_t sealed64[] = {0xB8, 0x5D, 0x6B, 0x76, 0x6D, 0xCE, 0x95, 0x2E};
-static const uint8_t sealed128[] = {0x84, 0x9E, 0x0F, 0x06, 0x82, 0xF5, 0x0C, 0xD5,
-                                    0x88, 0xAE, 0x07, 0x30, 0x06, 0xA1, 0x0B, 0xEE};
+static const struct vector {
+    uint32_t cipher;
+    size_t key_len;
+    const char *sealed;
+} sealed[] = {
+    {FOX64, 8, "200E1F5847D8A2CE"},
+    {FOX64, 16, "B85D6B766DCE952E"},
+    {FOX128, 8, "1EECBC7DEB66E7DAE1A7876D90C0B239"},
+    {FOX128, 16, "849E0F0682F50CD588AE073006A10BEE"},
+};
 static const struct tagged {
     uint32_t cipher;
     const char *key, *message, *tag;
@@ -54,21 +61,33 @@ static uint32_t made(struct one one, const struct call *c)
     return make_call(one.engine, one.verb, c);
 }
 
-/* A run over zeros is the sealed counter itself, so its first block is a vector too, and so is every part of it. */
-static void sealed_vector(struct one one, uint32_t cipher)
+/* The call is served, and puts out this answer and nothing beside it; but a key that is too short for it is refused, and
+ * nothing is put out. */
+static void comes_out(struct one one, const struct call *c, const uint8_t *answer)
 {
-    size_t size = block_of(cipher);
-    struct call c = call_of(cipher, 16, 16, size, 0, size, size);
-    const uint8_t *sealed = cipher == FOX64 ? sealed64 : sealed128, *answer = one.verb == OPEN ? block : sealed;
-    c.first = one.verb == OPEN ? sealed : block;
+    uint8_t right[FOX128_BLOCK + 1];
+    uint32_t refusal = key_answer(one.verb, c->key_len);
     memset(out, 0x77, sizeof out);
-    hold(made(one, &c) == FOX_SERVED, "the vector is refused");
-    hold(memcmp(out, answer, c.out_len) == 0 && out[c.out_len] == 0x77, "the vector comes out wrong");
-    if (one.verb != RUN)
+    memset(right, 0x77, sizeof right);
+    if (refusal == FOX_SERVED)
+        memcpy(right, answer, c->out_len);
+    hold(made(one, c) == refusal, "a vector is refused, or served with a short key");
+    hold(memcmp(out, right, c->out_len + 1) == 0, "a vector comes out wrong");
+}
+
+/* A run over zeros is the sealed counter itself, so its first block is a vector too, and so is every part of it. */
+static void sealed_vector(struct one one, const struct vector *v)
+{
+    uint8_t turned[FOX128_BLOCK];
+    size_t size = block_of(v->cipher);
+    struct call c = call_of(v->cipher, 16, v->key_len, size, 0, size, size);
+    hex_read(v->sealed, turned, sizeof turned);
+    c.first = one.verb == OPEN ? turned : block;
+    comes_out(one, &c, one.verb == OPEN ? block : turned);
+    if (!verbs[one.verb].at_offset)
         return;
     c.offset = 5, c.data_len = c.out_len = 3;
-    hold(made(one, &c) == FOX_SERVED, "bytes 5 to 7 are refused");
-    hold(memcmp(out, sealed + 5, 3) == 0, "bytes 5 to 7 come out wrong");
+    comes_out(one, &c, turned + 5);
 }
 
 static void tag_made(struct one one, const struct call *c, const uint8_t *tag)
@@ -109,16 +128,16 @@ static void vectors(struct one one)
         for (size_t i = 0; i < COUNT(tagged); i++)
             tag_row(one, &tagged[i]);
     } else {
-        sealed_vector(one, FOX64);
-        sealed_vector(one, FOX128);
+        for (size_t i = 0; i < COUNT(sealed); i++)
+            sealed_vector(one, &sealed[i]);
     }
 }
 
 /* Of the message that is too long no byte is read. The stored tag is a block that is not the zeros' tag. */
 static void refusals(struct one one)
 {
-    enum { RUNS = 1 << RUN, SEALS = 1 << SEAL | 1 << OPEN | RUNS, MAKES = 1 << MAKE_TAG, TESTS = 1 << TEST_TAG };
-    enum { ALL = SEALS | MAKES | TESTS };
+    enum { SEALS = 1 << SEAL | 1 << SEAL_RUN, OPENS = 1 << OPEN | 1 << OPEN_RUN, RUNS = 1 << SEAL_RUN | 1 << OPEN_RUN };
+    enum { TURNS = SEALS | OPENS, MAKES = 1 << MAKE_TAG, TESTS = 1 << TEST_TAG, ALL = TURNS | MAKES | TESTS };
     const struct {
         uint32_t number;
         unsigned given_by;
@@ -128,11 +147,15 @@ static void refusals(struct one one)
         {FOX_REFUSED_ROUNDS, ALL, call_of(FOX64, FOX_LEAST_ROUNDS - 1, 16, 8, 0, 8, 8)},
         {FOX_REFUSED_ROUNDS, ALL, call_of(FOX64, FOX_MOST_ROUNDS + 1, 16, 8, 0, 8, 8)},
         {FOX_REFUSED_KEY, ALL, call_of(FOX64, 16, FOX_MOST_KEY + 1, 8, 0, 8, 8)},
-        {FOX_REFUSED_BLOCK, SEALS, call_of(FOX64, 16, 16, FOX128_BLOCK, 0, 8, 8)},
-        {FOX_REFUSED_BLOCK, SEALS, call_of(FOX128, 16, 16, FOX64_BLOCK, 0, 8, 8)},
+        {FOX_REFUSED_ROUNDS, ALL, call_of(FOX64, FOX_LEAST_ROUNDS - 1, 0, FOX128_BLOCK, 0, 8, 8)},
+        {FOX_REFUSED_SHORT_KEY, SEALS, call_of(FOX64, 16, 0, 8, 0, 8, 8)},
+        {FOX_REFUSED_SHORT_KEY, SEALS, call_of(FOX64, 16, FOX_LEAST_SEAL_KEY - 1, FOX128_BLOCK, 0, 8, 8)},
+        {FOX_REFUSED_BLOCK, OPENS, call_of(FOX64, 16, FOX_LEAST_SEAL_KEY - 1, FOX128_BLOCK, 0, 8, 8)},
+        {FOX_REFUSED_BLOCK, TURNS, call_of(FOX64, 16, 16, FOX128_BLOCK, 0, 8, 8)},
+        {FOX_REFUSED_BLOCK, TURNS, call_of(FOX128, 16, 16, FOX64_BLOCK, 0, 8, 8)},
         {FOX_REFUSED_DATA, RUNS, call_of(FOX64, 16, 16, 8, 0, FOX_MOST_DATA + 1, FOX_MOST_DATA + 1)},
         {FOX_REFUSED_DATA, MAKES | TESTS, call_of(FOX64, 16, 16, 8, 0, (size_t)FOX_MOST_MESSAGE + 1, 8)},
-        {FOX_REFUSED_OUTPUT, SEALS | MAKES, call_of(FOX64, 16, 16, 8, 0, 8, 9)},
+        {FOX_REFUSED_OUTPUT, TURNS | MAKES, call_of(FOX64, 16, 16, 8, 0, 8, 9)},
         {FOX_REFUSED_END, RUNS, call_of(FOX64, 16, 16, 8, FOX_RUN_END - 7, 8, 8)},
         {FOX_REFUSED_TAG_LENGTH, TESTS, call_of(FOX64, 16, 16, FOX128_BLOCK, 0, 8, 8)},
         {FOX_REFUSED_TAG_LENGTH, TESTS, call_of(FOX128, 16, 16, FOX64_BLOCK, 0, 8, 8)},
@@ -164,7 +187,8 @@ static void within(struct one one, struct call c)
 
 static void limits(struct one one)
 {
-    within(one, call_of(FOX64, FOX_LEAST_ROUNDS, 0, FOX64_BLOCK, FOX_RUN_END - 8, 8, 0));
+    const size_t least_key = verbs[one.verb].seals ? FOX_LEAST_SEAL_KEY : 0;
+    within(one, call_of(FOX64, FOX_LEAST_ROUNDS, least_key, FOX64_BLOCK, FOX_RUN_END - 8, 8, 0));
     within(one, call_of(FOX64, FOX_MOST_ROUNDS, FOX_MOST_KEY, FOX64_BLOCK, 0, 8, 0));
     within(one, call_of(FOX128, FOX_LEAST_ROUNDS, FOX_MOST_KEY, FOX128_BLOCK, 0, 16, 0));
     within(one, call_of(FOX64, FOX_LEAST_ROUNDS, 16, FOX64_BLOCK, 0, FOX_MOST_DATA, 0));

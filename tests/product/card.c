@@ -12,10 +12,10 @@ int main(void)
     uint8_t sealed[FOX64_BLOCK], opened[FOX64_BLOCK], tag[FOX64_BLOCK], run[100], back[100], data[100] = {0};
     uint32_t refusal = fox_card_seal_block(FOX64, 16, key, sizeof key, block, sizeof block, sealed, sizeof sealed);
     refusal |= fox_card_open_block(FOX64, 16, key, sizeof key, sealed, sizeof sealed, opened, sizeof opened);
-    refusal |= fox_card_run(FOX64, 16, key, sizeof key, block, sizeof block, 0, data, sizeof data, run, sizeof run);
+    refusal |= fox_card_seal_run(FOX64, 16, key, sizeof key, block, sizeof block, 0, data, sizeof data, run, sizeof run);
     refusal |= fox_card_make_tag(FOX64, 16, key, sizeof key, run, sizeof run, tag, sizeof tag);
     refusal |= fox_card_test_tag(FOX64, 16, key, sizeof key, run, sizeof run, tag, sizeof tag);
-    refusal |= fox_card_run(FOX64, 16, key, sizeof key, block, sizeof block, 0, run, sizeof run, back, sizeof back);
+    refusal |= fox_card_open_run(FOX64, 16, key, sizeof key, block, sizeof block, 0, run, sizeof run, back, sizeof back);
     if (refusal != FOX_SERVED)
         return puts(fox_refusal_text(refusal)), 1;
     for (size_t i = 0; i < sizeof sealed; i++)

@@ -49,10 +49,13 @@ sheet_answer() {
     printf '%s\n' refusal=0 cipher=64 rounds=16 keybits=128 block=B85D6B766DCE952E
 }
 
-# A right sheet, a broken one, and no sheet: the answer alone on standard output, and exit status 0.
+# A right sheet, one whose key is a byte too short to seal with, a broken one, and no sheet: the answer alone on standard
+# output, and exit status 0.
 benches() {
     same_text "$(sheet_answer)" "$(make bench <examples/sheet.txt 2>&1)" &&
         same_text "$(printf 'refusal=8\nline=1')" "$(make bench </dev/null 2>&1)" || return 1
+    sed '/^key=/s/FF$//' examples/sheet.txt >"$room/short"
+    make bench <"$room/short" >"$room/out" && same_text refusal=13 "$(cat "$room/out")" || return 1
     sed 's/rounds=16/rounds=011/' examples/sheet.txt >"$room/broken"
     make bench <"$room/broken" >"$room/out" && same_text "$(printf 'refusal=8\nline=2')" "$(cat "$room/out")"
 }

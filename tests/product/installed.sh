@@ -76,7 +76,7 @@ says_its_version() {
     # The header is the one place where it stands.
     same_text include/fox.h "$(grep -rlF "$version" Makefile README.md *.in c crates.txt examples include tests tools docs/[!L]*)" || return 1
     said=$($(tool objdump) -p "$OUT/libfox.so" | awk '$1 == "SONAME" { print $2 }')
-    same_text "$soname" "$said"
+    same_text "$soname" "$said" && grep -qF "ask for as \`$soname\`" README.md
 }
 
 stages() {
@@ -101,6 +101,6 @@ else
     left_out product "programs by pkg-config" "there is none (Debian: pkg-config)"
 fi
 builds_from_both "the flags in the files for it" flags_by_sed
-check "the files for pkg-config say the version, and the shared library its soname" says_its_version
+check "the files for pkg-config say the version, and the shared library its soname, as README.md does" says_its_version
 check "make install below DESTDIR, which fox.pc does not name" stages
 check "make uninstall leaves none of its files, and all others, and does nothing where there are none" uninstalls

@@ -20,7 +20,7 @@ joined() { # COMPILER COMPILE-WORDS FOLDER LINK-WORDS..: two files that include 
         $compiler $words $strict -c -o "$room/$file.o" "$folder/$file.c" || return 1
     done
     $CC_HOST -o "$room/joined" "$room/joined.o" "$room/joined_other.o" "$@" || return 1
-    same_text "$(printf '200E1F5847D8A2CE opened\n%s' "$(run_host "$room/texts" 2)")" "$(run_host "$room/joined")"
+    same_text "$(printf 'B85D6B766DCE952E opened\n%s' "$(run_host "$room/texts" 2)")" "$(run_host "$room/joined")"
 }
 
 declared() { # EXPRESSION: the calls of the header, outside its comments, that it matches
@@ -65,25 +65,26 @@ warned_of() {
     told_by_compiler '' 'return fox_card_seal_block(FOX64, 16, b, 8, b, 8, o, 8);' &&
         told_by_compiler unused-result 'fox_card_seal_block(FOX64, 16, b, 8, b, 8, o, 8); return 0;' &&
         told_by_compiler '' 'return fox_file_read(FOX64, 16, b, 8, b, 8, p, o, 8, &c);' &&
-        told_by_compiler '' 'return fox_session_start(FOX64, 16, b, 8, b, 8, w) | fox_session_advance(w, b, 8, o, 8);' &&
+        told_by_compiler '' 'return fox_session_start_opening(FOX64, 16, b, 8, b, 8, w) | fox_session_advance(w, b, 8, o, 8);' &&
         told_by_compiler unused-result 'fox_counter(FOX64, 1, o, 8); return 0;' &&
         told_by_compiler unused-result 'fox_session_move(w, 1); return 0;' &&
         told_by_compiler unused-result 'fox_file_take_up(FOX64, 16, b, 8, b, 8, p); return 0;' &&
         told_by_compiler nonnull 'return fox_file_size(FOX64, 16, n, 2, NULL);' &&
-        told_by_compiler nonnull 'return fox_server_run(FOX64, 16, NULL, 0, b, 8, 0, b, 8, o, 8);' &&
+        told_by_compiler nonnull 'return fox_server_open_run(FOX64, 16, NULL, 0, b, 8, 0, b, 8, o, 8);' &&
         told_by_compiler nonnull 'return fox_session_advance(w, NULL, 0, o, 0);' &&
         told_by_compiler nonnull 'return fox_card_test_tag(FOX64, 16, b, 8, b, 8, NULL, 8);' || return 1
     case $($CC_HOST --version) in *clang*) return 0 ;; esac
     told_by_compiler stringop-overflow 'return fox_card_make_tag(FOX64, 16, b, 8, b, 8, s, 8);' &&
-        told_by_compiler stringop-overflow 'return fox_server_run(FOX64, 16, b, 8, b, 8, 0, b, 8, s, 8);' &&
+        told_by_compiler stringop-overflow 'return fox_server_seal_run(FOX64, 16, b, 8, b, 8, 0, b, 8, s, 8);' &&
         told_by_compiler stringop-overflow 'return fox_counter(FOX64, 1, s, 8);' &&
-        told_by_compiler stringop-overflow 'return fox_session_start(FOX64, 16, b, 8, b, 8, p);' &&
+        told_by_compiler stringop-overflow 'return fox_session_start_sealing(FOX64, 16, b, 8, b, 8, p);' &&
+        told_by_compiler stringop-overflow 'return fox_session_start_opening(FOX64, 16, b, 8, b, 8, p);' &&
         told_by_compiler stringop-overflow 'return fox_session_move(p, 1);' &&
         told_by_compiler stringop-overflow 'return fox_session_advance(w, b, 8, s, 8);' &&
         told_by_compiler stringop-overflow 'return fox_file_take_up(FOX64, 16, b, 8, b, 8, n);' &&
         told_by_compiler stringop-overflow 'return fox_file_read(FOX64, 16, b, 8, b, 8, p, s, 8, &c);' &&
         told_by_compiler stringop-overread 'return fox_file_size(FOX64, 16, n, 3, &c);' &&
-        told_by_compiler stringop-overread 'return fox_server_run(FOX64, 16, s, 16, b, 8, 0, b, 8, o, 8);'
+        told_by_compiler stringop-overread 'return fox_server_seal_run(FOX64, 16, s, 16, b, 8, 0, b, 8, o, 8);'
 }
 
 # A card's program has no part of the server in it, neither by the card's library nor, where the linker takes out what

@@ -4,6 +4,8 @@ night=$room/night
 mkdir -p "$night"
 printf 0123456789abcdef >"$night/key"
 printf fedcba9876543210 >"$night/other.key"
+printf 0123456789abcde >"$night/short.key"
+printf 1234 >"$night/old.bytes"
 printf 'scan 1: 445.12 m/z' >"$night/1"
 : >"$night/2"
 seq 1 20000 | head -c 65536 >"$night/3"
@@ -56,8 +58,48 @@ nothing_written() {
         says "cannot be opened" write "$night/key" 42 "$night/new" "$night/none" && [ ! -e "$night/new" ]
 }
 
+# To the byte: 15 are too few, and 16, which the key above has, are enough.
+key_too_short() {
+    for name in old.bytes short.key; do
+        says "$(run_host "$room/texts" 13)" write "$night/$name" 42 "$night/new" "$night/1" && [ ! -e "$night/new" ] || return 1
+    done
+}
+
+# A file of two scans, and an empty one between them, that the second implementation has written under a key of 4 bytes.
+old_file() {
+    printf '%s\n' format=run cipher=128 rounds=16 counter=00000000000000000000000700000000 scan=1 bytes=10
+    printf '\162\061\273\316\210\107\005\231\335\257\nscan=2\nbytes=0\n\nscan=3\nbytes=10\n'
+    printf '\125\175\161\312\243\274\007\307\032\212\nscans=3\nclose=4FBAD15629659AEE02C89EF03A9C7081\n'
+}
+
+old_file_read() {
+    old_file >"$night/old.run"
+    for pair in '1:445.12 m/z' 2: '3:871.33 m/z'; do
+        runfile read "$night/old.bytes" "$night/old.run" "${pair%%:*}" >"$night/out" &&
+            same_text "${pair#*:}" "$(cat "$night/out")" || return 1
+    done
+    says "no scan of this number" read "$night/old.bytes" "$night/old.run" 4 &&
+        says "tag differs" read "$night/short.key" "$night/old.run" 1
+}
+
+# The commands that README.md shows for such a file, as they stand there.
+written_anew() {
+    anew=$night/anew
+    mkdir "$anew" && cp "$night/old.run" "$night/old.bytes" "$anew" && short_key_commands 2 >"$night/commands" || return 1
+    same_text 5 "$(wc -l <"$night/commands" | tr -d ' ')" || return 1
+    (
+        runfile() { run_host "$room/runfile" "$@"; }
+        cd "$anew" && . "$night/commands"
+    ) >"$night/out" 2>&1
+    same_text "$(printf 'the same\nthe same\nthe same')" "$(cat "$night/out")" &&
+        same_text "445.12 m/z" "$(cat "$anew/scan1.raw")" && ! cmp -s "$anew/old.run" "$anew/new.run"
+}
+
 check "examples/runfile.c is compiled without a warning" compiled runfile examples/runfile.c
 check "runfile writes a run file of some files" file_written
 check "runfile opens each scan alone" scans_read
 check "runfile tells of another key, a changed byte, a cut file and another file" file_refused
 check "runfile writes no file over, and none that it cannot finish" nothing_written
+check "runfile writes no file under a key of fewer than 16 bytes" key_too_short
+check "runfile reads a file that was written under such a key" old_file_read
+check "and it is written anew as README.md shows" written_anew

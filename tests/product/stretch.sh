@@ -34,13 +34,104 @@ over_zeros() { # FROM WORDS..: 16 bytes from there
     stretch seal --from "$first" --length 16 "$@" "$room/large" 2>"$room/error" | od -An -tx1 | tr -d ' \n'
 }
 
-# Over zeros the first block of a run is the sealed counter, and these counters are blocks of vectors, the first two of the
-# specification.
+# Over zeros the first block of a run is the sealed counter, and these counters are blocks of vectors of the specification.
 seals_vectors() {
     same_text b85d6b766dce952e "$(over_zeros 0 $with64 | head -c 16)" &&
         same_text 45ccb1030f67b768247f530266bc4996 \
-            "$(over_zeros 0 -c 128 -r 16 --key "$key128" --counter 0123456789abcdefFEDCBA9876543210)" &&
-        same_text f48bd8d15d5f5f79 "$(over_zeros 0 -c 64 -r 16 --empty-key --counter 30177A5F4C28FD51 | head -c 16)"
+            "$(over_zeros 0 -c 128 -r 16 --key "$key128" --counter 0123456789abcdefFEDCBA9876543210)"
+}
+
+key_words() { # BYTES: words of stretch for a key of so many
+    if [ "$1" -eq 0 ]; then echo --empty-key; else echo "--key $(echo "$key128" | cut -c "1-$(($1 * 2))")"; fi
+}
+
+not_sealed() { # NUMBER WHAT WORDS..: one line with the value that is wrong and the library's text, status 1, and no file
+    number=$1 what=$2
+    shift 2
+    stretch seal "$@" -o "$room/refused" "$room/plain" >"$room/found" 2>"$room/error"
+    same_text "status 1" "status $?" && [ ! -e "$room/refused" ] && [ ! -s "$room/found" ] &&
+        same_text "stretch: $what (refusal $number): $(run_host "$room/texts" "$number")" "$(cat "$room/error")"
+}
+
+seals_and_opens() { # WORDS..: without a word, and to the same bytes again
+    rm -f "$room/anew"
+    stretch seal "$@" -l 1000 -o "$room/anew" "$room/plain" 2>"$room/error" && [ ! -s "$room/error" ] &&
+        ! head -c 1000 "$room/plain" | cmp -s - "$room/anew" &&
+        stretch open "$@" "$room/anew" | cmp - "$room/expected"
+}
+
+# To the byte: 15 are too few, and 16 are enough. Where more is wrong, 13 comes after 3 and before 4.
+seals_under_long_keys() {
+    head -c 1000 "$room/plain" >"$room/expected"
+    for by in "-c 64 -r 16 -n 1" "-c 128 -r 16 -n 1" "--card -c 64 -r 16 -n 1" "--card -c 128 -r 16 -n 1"; do
+        for bytes in 0 1 8 15; do
+            not_sealed 13 "the key has $bytes bytes" $by $(key_words "$bytes") || return 1
+        done
+        for bytes in 16 17 32; do
+            seals_and_opens $by $(key_words "$bytes") || return 1
+        done
+    done
+    not_sealed 1 "--cipher is 65" -c 65 -r 11 --key 00 --counter 00 && not_sealed 2 "--rounds is 11" -c 64 -r 11 --key 00 -n 1 &&
+        not_sealed 3 "the key has 33 bytes" -c 64 -r 16 --key "${key128}00" -n 1 &&
+        not_sealed 13 "the key has 15 bytes" -c 64 -r 16 $(key_words 15) --counter 00 &&
+        not_sealed 4 "--counter has 1 bytes" -c 64 -r 16 $(key_words 16) --counter 00
+}
+
+# The rows of the vectors with data whose keys are too short to seal with; no key is written as -.
+short_rows() {
+    awk -F, 'NR > 1 && length($3) < 32 && $6 != "" { print $1, $2, $3 == "" ? "-" : $3, $4, $5, $6, $7 }' tests/vectors/run.csv
+}
+
+# The sealed bytes stand in a file at their offset, and are opened there without a word.
+opens_row() { # CIPHER ROUNDS KEY COUNTER OFFSET PLAIN SEALED
+    rm -f "$room/old"
+    bytes_of "$7" | dd of="$room/old" bs=1 seek="$5" 2>/dev/null
+    bytes_of "$6" >"$room/expected"
+    under="--key $3"
+    [ "$3" != - ] || under=--empty-key
+    for engine in '' --card; do
+        stretch open $engine -c "$1" -r "$2" $under --counter "$4" -f "$5" "$room/old" 2>"$room/error" | cmp - "$room/expected" &&
+            same_text '' "$(cat "$room/error")" || return 1
+    done
+}
+
+opens_under_short_keys() {
+    short_rows >"$room/rows"
+    [ "$(wc -l <"$room/rows")" -ge 30 ] || return 1
+    while read -r row; do
+        opens_row $row || {
+            echo "row: $row"
+            return 1
+        }
+    done <"$room/rows"
+}
+
+# The commands that README.md and the man page show for a run under a short key, on one that the second implementation has
+# sealed under 4 bytes.
+seals_anew() { # COMMAND..: prints them
+    anew=$room/seal.anew
+    rm -rf "$anew"
+    mkdir "$anew"
+    "$@" >"$room/commands"
+    same_text 5 "$(wc -l <"$room/commands" | tr -d ' ')" || return 1
+    bytes_of ED8770C170D97015FBA353185543FEF7656774 >"$anew/scan7.sealed"
+    (umask 077 && echo 01234567 >"$anew/old.key")
+    program=$PWD/$OUT/stretch
+    (
+        stretch() { run_host "$program" "$@"; }
+        cd "$anew" && . "$room/commands"
+    ) >"$room/found" 2>&1
+    same_text "the same" "$(cat "$room/found")" && same_text "scan 7: 871.33 m/z" "$(cat "$anew/scan7.raw")" &&
+        same_text 19 "$(wc -c <"$anew/scan7.anew" | tr -d ' ')" && ! cmp -s "$anew/scan7.anew" "$anew/scan7.sealed" &&
+        same_text "600 600" "$(stat -c %a "$anew/scan7.raw" "$anew/new.key" | tr '\n' ' ' | sed 's/ $//')"
+}
+
+page_commands() {
+    sed -n '/^\.SH SHORT KEYS$/,/^\.SH WIPING$/p' examples/stretch.1.in | sed -n '/^\.nf$/,/^\.fi$/p' | sed '/^\./d; s/\\-/-/g'
+}
+
+sealed_anew_as_shown() {
+    seals_anew short_key_commands 1 && seals_anew page_commands && same_text "$(short_key_commands 1)" "$(page_commands)"
 }
 
 # A run later on is a run that begins with the counter that is reached there, as worked out by hand: after a first piece,
@@ -134,12 +225,13 @@ writes_files() {
 }
 
 engine_called() { # WORDS..
-    run_host "$room/stand_in" seal "$@" $with64 "$room/plain" 2>"$room/error"
+    run_host "$room/stand_in" "$@" $with64 "$room/plain" 2>"$room/error"
 }
 
 calls_its_engine() {
     compiled stand_in -Iexamples examples/stretch.c examples/stretch_job.c tests/product/stand_in.c &&
-        same_text card "$(engine_called --card)" && same_text server "$(engine_called)"
+        same_text card "$(engine_called seal --card)" && same_text server "$(engine_called seal)" &&
+        same_text card "$(engine_called open --card)" && same_text server "$(engine_called open)"
 }
 
 # A size that is kept in 32 bits would come out as 10 bytes for the first.
@@ -170,7 +262,7 @@ followed() { # FILE: where the commands are
     rm -rf "$follow"
     mkdir "$follow"
     sed -n 's/^ *\((umask 077; od .*\)$/\1/p' "$1" >"$room/commands"
-    sed -n 's/^ *\(stretch seal .*\)$/\1/p' "$1" >>"$room/commands"
+    sed -n 's/^ *\(stretch seal .* scan[12].raw\)$/\1/p' "$1" >>"$room/commands"
     same_text 3 "$(wc -l <"$room/commands" | tr -d ' ')" || return 1
     for name in scan1 scan2; do head -c "$size" /dev/zero >"$follow/$name.raw"; done
     program=$PWD/$OUT/stretch
@@ -195,7 +287,10 @@ shares_no_block() {
 
 check "stretch: what the card sealed, the server opens" opens_whole
 check "stretch: the server seals as the card" seals_alike
-check "stretch: over zeros come known vectors, for a key in either case and the empty key" seals_vectors
+check "stretch: over zeros come known vectors, for a key in either case" seals_vectors
+check "stretch: nothing is sealed under a key of fewer than 16 bytes, and no file made" seals_under_long_keys
+check "stretch: what was sealed under such a key is opened, without a word" opens_under_short_keys
+check "stretch: it is sealed anew as README.md and the man page show" sealed_anew_as_shown
 check "stretch: later bytes are those of the counter that is reached there" counts_on
 check "stretch: a run's number stands before the last four bytes of its counter" numbers
 check "stretch: stretches by the server" all_stretches

@@ -12,7 +12,7 @@ static const char *const named[][6] = {
     [FOX_SERVED] = {"Served", "output", "written", "tag", "no scan left", "session"},
     [FOX_REFUSED_CIPHER] = {"cipher", "64", "128", "session", "start"},
     [FOX_REFUSED_ROUNDS] = {"rounds", "12", "255"},
-    [FOX_REFUSED_KEY] = {"key", "32 bytes"},
+    [FOX_REFUSED_KEY] = {"key", "longer than 32 bytes", "16 to 32 bytes to seal", "0 to 32 to open"},
     [FOX_REFUSED_BLOCK] = {"block", "counter", "8 bytes", "16 bytes", "rounds", "taken up"},
     [FOX_REFUSED_DATA] = {"data", "65,536", "message", "1,073,741,824"},
     [FOX_REFUSED_OUTPUT] = {"output", "input", "tag 8", "16", "scan", "file"},
@@ -22,6 +22,7 @@ static const char *const named[][6] = {
     [FOX_REFUSED_TAG] = {"tag", "differs", "message", "key", "file"},
     [FOX_REFUSED_HEADER] = {"header", "cipher", "rounds"},
     [FOX_REFUSED_FILE] = {"cut short", "65,535", "65,536", "1,073,741,824", "lengths", "add up"},
+    [FOX_REFUSED_SHORT_KEY] = {"key", "shorter than 16 bytes", "seal with", "16 to 32 bytes", "32 to 64 hex", "still opened"},
 };
 static const uint32_t others[] = {COUNT(named), COUNT(named) + 1, 255, 256, 65536, 0x7FFFFFFF, 0x80000000, UINT32_MAX};
 

@@ -1,5 +1,5 @@
 /* Four threads make every engine's calls and those on sessions and run files at once, each with another cipher, key and
- * offset, and are to get the bytes that the same calls gave alone. */
+ * offset, and are to get the bytes that the same calls gave alone. Two of them have a key that opens and does not seal. */
 #define _GNU_SOURCE
 #include "call.h"
 #include "fox.h"
@@ -30,7 +30,13 @@ static void set(struct caller *c, int number)
     memset(c->data, number, sizeof c->data);
 }
 
-/* The call, and the one that takes back what it has put out. */
+/* Whether the caller's key is too short to seal with. */
+static int opens_alone(const struct caller *c)
+{
+    return key_answer(SEAL, c->key_len) != FOX_SERVED;
+}
+
+/* The call, and the one that takes back what it has put out; of these the one that seals is refused to a short key. */
 static int there_and_back(const struct caller *c, const struct engine *engine, enum verb verb, uint8_t *out)
 {
     uint8_t again[LENGTH];
@@ -38,13 +44,17 @@ static int there_and_back(const struct caller *c, const struct engine *engine, e
                         LENGTH, out, 0};
     call.out_len = right_out_len(verb, &call);
     struct call taking = back_call(verb, &call, again);
-    return make_call(engine, verb, &call) == FOX_SERVED &&
-           make_call(engine, verbs[verb].back, &taking) == FOX_SERVED &&
-           memcmp(again, went_in(verb, &call), taking.out_len) == 0;
+    uint32_t there = key_answer(verb, c->key_len), back = key_answer(verbs[verb].back, c->key_len);
+    if (make_call(engine, verb, &call) != there)
+        return 0;
+    if (there != FOX_SERVED)
+        return 1;
+    return make_call(engine, verbs[verb].back, &taking) == back &&
+           (back != FOX_SERVED || memcmp(again, went_in(verb, &call), taking.out_len) == 0);
 }
 
-/* Every call of the engine, each into an output of its own; answers with 0 where one was refused, or what it has put
- * out does not come back. */
+/* Every call of the engine, each into an output of its own; answers with 0 where one answers otherwise than its key has
+ * it, or what it has put out does not come back. */
 static int called(const struct caller *c, const struct engine *engine, uint8_t out[VERBS][LENGTH])
 {
     int right = 1;
@@ -59,27 +69,30 @@ static int in_session(const struct caller *c)
 {
     uint64_t session[FOX_SESSION_WORDS];
     uint8_t out[LENGTH];
-    if (fox_session_start(c->cipher, c->rounds, c->key, c->key_len, c->first, block_of(c->cipher), session) !=
-            FOX_SERVED ||
-        fox_session_move(session, c->offset) != FOX_SERVED)
+    uint32_t started = (opens_alone(c) ? fox_session_start_opening : fox_session_start_sealing)(
+        c->cipher, c->rounds, c->key, c->key_len, c->first, block_of(c->cipher), session);
+    if (started != FOX_SERVED || fox_session_move(session, c->offset) != FOX_SERVED)
         return 0;
     for (size_t at = 0, piece = 1; at < LENGTH; at += piece, piece = piece % 29 + 1) {
         piece = piece < LENGTH - at ? piece : LENGTH - at;
         if (fox_session_advance(session, c->data + at, piece, out + at, piece) != FOX_SERVED)
             return 0;
     }
-    return memcmp(out, c->alone[RUN], LENGTH) == 0;
+    return memcmp(out, c->alone[OPEN_RUN], LENGTH) == 0;
 }
 
-/* The data as a run file of two scans, written, taken up, and read. */
+/* The data as a run file of two scans, written, taken up, and read; to a short key writing is refused. */
 static int filed(const struct caller *c, uint8_t *file)
 {
     const uint64_t lengths[] = {LENGTH - 77, 77};
     const size_t b = block_of(c->cipher);
     uint64_t size, place[FOX_PLACE_WORDS], count;
     uint8_t out[LENGTH], *at = out;
-    if (fox_file_write(c->cipher, c->rounds, c->key, c->key_len, c->first, b, c->data, LENGTH, lengths, 2, file,
-                       FILE_ROOM, &size) != FOX_SERVED ||
+    uint32_t written = fox_file_write(c->cipher, c->rounds, c->key, c->key_len, c->first, b, c->data, LENGTH, lengths, 2,
+                                      file, FILE_ROOM, &size);
+    if (opens_alone(c))
+        return written == FOX_REFUSED_SHORT_KEY;
+    if (written != FOX_SERVED ||
         fox_file_take_up(c->cipher, c->rounds, c->key, c->key_len, file, (size_t)size, place) != FOX_SERVED)
         return 0;
     for (size_t i = 0; i < 2; i++, at += count)
@@ -123,7 +136,7 @@ int main(void)
     for (int i = 0; i < THREADS; i++) {
         set(&callers[i], i);
         if (!prepared(&callers[i]))
-            return puts("alone, two engines differ, or one refuses or does not take back what it has put out"), 1;
+            return puts("alone, two engines differ, or one answers otherwise or does not take back what it has put out"), 1;
     }
     for (int i = 0; i < THREADS; i++)
         if (pthread_create(&threads[i], NULL, call_often, &callers[i]) != 0)

@@ -27,11 +27,11 @@ static void each_by_itself(const struct engine *engine, const struct setting *s,
         struct setting later = *s;
         count_on(later.counter, s->block, from + (int64_t)i);
         struct call c = call_of(&later, 0, data + i * s->block, s->block, out + i * s->block);
-        check_answer(engine, &c, FOX_SERVED);
+        check_answer(engine, s->sealing, &c, FOX_SERVED);
     }
 }
 
-/* The same in two calls, the second of them from byte `cut` on. */
+/* The same in two calls, sealing and opening, the second of them from byte `cut` on. */
 static void in_two(const struct engine *engine, const struct setting *s, uint32_t from, size_t len, size_t cut,
                    const uint8_t *data, const uint8_t *expected)
 {
@@ -41,9 +41,9 @@ static void in_two(const struct engine *engine, const struct setting *s, uint32_
     struct call first = call_of(s, offset, data, cut, out);
     struct call second = call_of(s, offset + cut, data + cut, len - cut, out + cut);
     memset(out, 0x77, sizeof out);
-    check_answer(engine, &first, FOX_SERVED);
-    check_answer(engine, &second, FOX_SERVED);
-    check_bytes(out, expected, engine, &all, "a stretch from its blocks under later counters");
+    check_answer(engine, s->sealing, &first, FOX_SERVED);
+    check_answer(engine, OPEN_RUN, &second, FOX_SERVED);
+    check_bytes(out, expected, engine, s->sealing, &all, "a stretch from its blocks under later counters");
 }
 
 /* The counter wraps, or carries, after the first `until` of the blocks: inside a call, between two calls, and a byte
@@ -95,10 +95,10 @@ static void example(const struct engine *engine, uint32_t cipher)
     struct call both = call_of(&s, 0, zeros, 2 * s.block, stream);
     struct call first = call_of(&s, 0, zeros, s.block, expected);
     struct call second = call_of(&next, 0, zeros, s.block, expected + s.block);
-    check_answer(engine, &both, FOX_SERVED);
-    check_answer(engine, &first, FOX_SERVED);
-    check_answer(engine, &second, FOX_SERVED);
-    check_bytes(stream, expected, engine, &both, "the key stream from its two counter blocks sealed");
+    check_answer(engine, s.sealing, &both, FOX_SERVED);
+    check_answer(engine, s.sealing, &first, FOX_SERVED);
+    check_answer(engine, OPEN_RUN, &second, FOX_SERVED);
+    check_bytes(stream, expected, engine, s.sealing, &both, "the key stream from its two counter blocks sealed");
 }
 
 void counters(const struct engine *engine)

@@ -10,7 +10,7 @@
 
 enum { LONG_RUN = 200000, WHOLE = 1 << 16 };
 
-/* One run: its plain bytes, and what each engine has made of the part that it takes. */
+/* One run: its plain bytes, and what each engine has made of the part that it takes, by the setting's `sealing`. */
 struct work {
     struct setting setting;
     uint64_t offset;
@@ -43,19 +43,19 @@ static size_t cut(size_t block, uint64_t offset, size_t left)
 
 /* The engine's answer in random cuts over `len` bytes from place `at` of the run, which is to be `expected` where
  * that is not NULL. */
-static void in_cuts(const struct engine *engine, const struct work *w, size_t at, const uint8_t *data, size_t len,
-                    uint8_t *out, const uint8_t *expected, const char *of)
+static void in_cuts(const struct engine *engine, enum verb verb, const struct work *w, size_t at, const uint8_t *data,
+                    size_t len, uint8_t *out, const uint8_t *expected, const char *of)
 {
     struct call whole = call_of(&w->setting, w->offset + at, data, len, out);
     memset(out, 0x77, len);
     for (size_t done = 0; done < len;) {
         size_t piece = cut(w->setting.block, whole.offset + done, len - done);
         struct call c = call_of(&w->setting, whole.offset + done, data + done, piece, out + done);
-        check_answer(engine, &c, FOX_SERVED);
+        check_answer(engine, verb, &c, FOX_SERVED);
         done += piece;
     }
     if (expected != NULL)
-        check_bytes(out, expected, engine, &whole, of);
+        check_bytes(out, expected, engine, verb, &whole, of);
 }
 
 static void in_one(const struct engine *engine, const struct work *w, size_t at, size_t len, const uint8_t *expected)
@@ -63,8 +63,8 @@ static void in_one(const struct engine *engine, const struct work *w, size_t at,
     static uint8_t out[FOX_MOST_DATA];
     struct call c = call_of(&w->setting, w->offset + at, w->plain + at, len, out);
     memset(out, 0x77, len);
-    check_answer(engine, &c, FOX_SERVED);
-    check_bytes(out, expected, engine, &c, "one call over what was sealed in cuts");
+    check_answer(engine, w->setting.sealing, &c, FOX_SERVED);
+    check_bytes(out, expected, engine, w->setting.sealing, &c, "one call over what was sealed in cuts");
 }
 
 /* An engine by itself, on the part that its work allows. Of two parts of one run the shorter lies in the longer. */
@@ -73,7 +73,7 @@ static void alone(struct work *w, size_t i, size_t place)
     size_t most = engines[i].work / w->setting.rounds;
     size_t part = w->part[i] = most < w->len ? most : w->len;
     size_t at = w->at[i] = (w->len - part) * place / WHOLE;
-    in_cuts(&engines[i], w, at, w->plain + at, part, w->sealed[i] + at, NULL, "");
+    in_cuts(&engines[i], w->setting.sealing, w, at, w->plain + at, part, w->sealed[i] + at, NULL, "");
     if (part <= FOX_MOST_DATA)
         in_one(&engines[i], w, at, part, w->sealed[i] + at);
 }
@@ -89,8 +89,8 @@ static void longest_again(const struct work *w)
     const struct engine *engine = &engines[longest];
     size_t at = w->at[longest], part = w->part[longest];
     const uint8_t *plain = w->plain + at, *sealed = w->sealed[longest] + at;
-    in_cuts(engine, w, at, plain, part, out, sealed, "the same run in other cuts");
-    in_cuts(engine, w, at, sealed, part, out, plain, "what it opened in cuts of its own");
+    in_cuts(engine, w->setting.sealing, w, at, plain, part, out, sealed, "the same run in other cuts");
+    in_cuts(engine, OPEN_RUN, w, at, sealed, part, out, plain, "what it opened in cuts of its own");
 }
 
 /* What one engine sealed is what the other one sealed, and is opened by it in other cuts. */
@@ -102,9 +102,9 @@ static void by_two(const struct work *w, size_t seals, size_t opens)
     const uint8_t *sealed = w->sealed[seals] + at;
     struct call c = call_of(&w->setting, w->offset + at, w->plain + at, part, NULL);
     snprintf(of, sizeof of, "what it sealed in cuts from what the %s sealed", engines[seals].name);
-    check_bytes(w->sealed[opens] + at, sealed, &engines[opens], &c, of);
+    check_bytes(w->sealed[opens] + at, sealed, &engines[opens], w->setting.sealing, &c, of);
     snprintf(of, sizeof of, "what it opened in cuts of the %s's", engines[seals].name);
-    in_cuts(&engines[opens], w, at, sealed, part, out, w->plain + at, of);
+    in_cuts(&engines[opens], OPEN_RUN, w, at, sealed, part, out, w->plain + at, of);
 }
 
 static void cuts(const struct setting *s, uint64_t offset, size_t len)

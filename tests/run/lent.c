@@ -31,20 +31,21 @@ struct call served_call(uint32_t cipher)
                          lent.out, CASE_LEN};
 }
 
-void check_refused(const struct engine *engine, const struct call *c, uint32_t number)
+void check_refused(const struct engine *engine, enum verb verb, const struct call *c, uint32_t number)
 {
     static const uint8_t zeros[4096];
-    check_answer(engine, c, number);
+    check_answer(engine, verb, c, number);
     int same = memcmp(&lent, &before, sizeof lent) == 0;
     if (vast_output != NULL)
         same = same && memcmp(vast_output, zeros, sizeof zeros) == 0;
-    if (!check(same, engine, c, "a refused call changed what it was lent"))
+    if (!check(same, engine, verb, c, "a refused call changed what it was lent"))
         lent = before;
 }
 
-void check_rest(const struct engine *engine, const struct call *c)
+void check_rest(const struct engine *engine, enum verb verb, const struct call *c)
 {
     memcpy(lent.out, before.out, c->out_len);
-    if (!check(memcmp(&lent, &before, sizeof lent) == 0, engine, c, "a served call changed more than its output"))
+    int same = memcmp(&lent, &before, sizeof lent) == 0;
+    if (!check(same, engine, verb, c, "a served call changed more than its output"))
         lent = before;
 }

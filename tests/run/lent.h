@@ -21,13 +21,13 @@ extern uint8_t *vast_input, *vast_output;
 /* Called once, before all else. */
 void prepare_lent(void);
 
-/* A call on CASE_LEN bytes that is served. */
+/* A call on CASE_LEN bytes that is served, sealing and opening. */
 struct call served_call(uint32_t cipher);
 
 /* Two cases: the call is refused by this number, and has changed nothing. */
-void check_refused(const struct engine *engine, const struct call *c, uint32_t number);
+void check_refused(const struct engine *engine, enum verb verb, const struct call *c, uint32_t number);
 
 /* One case: a served call has changed nothing but its output, which is put back here. */
-void check_rest(const struct engine *engine, const struct call *c);
+void check_rest(const struct engine *engine, enum verb verb, const struct call *c);
 
 #endif

@@ -1,4 +1,5 @@
-/* The values at which a call is just served and just refused. */
+/* The values at which a call is just served and just refused. Of a key that is too short to seal with the answer is that
+ * of sealing; opening is served. */
 #include "check.h"
 #include "count.h"
 #include "fox.h"
@@ -30,10 +31,14 @@ static const struct limit {
     {FOX128, FOX_LEAST_ROUNDS, 16, FOX128_BLOCK, 17, 0, FOX_SERVED},
     {FOX128, FOX_MOST_ROUNDS, 16, FOX128_BLOCK, 17, 0, FOX_SERVED},
     {FOX128, FOX_MOST_ROUNDS + 1, 16, FOX128_BLOCK, 17, 0, FOX_REFUSED_ROUNDS},
-    {FOX64, 16, 0, FOX64_BLOCK, 9, 0, FOX_SERVED},
+    {FOX64, 16, 0, FOX64_BLOCK, 9, 0, FOX_REFUSED_SHORT_KEY},
+    {FOX64, 16, FOX_LEAST_SEAL_KEY - 1, FOX64_BLOCK, 9, 0, FOX_REFUSED_SHORT_KEY},
+    {FOX64, 16, FOX_LEAST_SEAL_KEY, FOX64_BLOCK, 9, 0, FOX_SERVED},
     {FOX64, 16, FOX_MOST_KEY, FOX64_BLOCK, 9, 0, FOX_SERVED},
     {FOX64, 16, FOX_MOST_KEY + 1, FOX64_BLOCK, 9, 0, FOX_REFUSED_KEY},
-    {FOX128, 16, 0, FOX128_BLOCK, 17, 0, FOX_SERVED},
+    {FOX128, 16, 0, FOX128_BLOCK, 17, 0, FOX_REFUSED_SHORT_KEY},
+    {FOX128, 16, FOX_LEAST_SEAL_KEY - 1, FOX128_BLOCK, 17, 0, FOX_REFUSED_SHORT_KEY},
+    {FOX128, 16, FOX_LEAST_SEAL_KEY, FOX128_BLOCK, 17, 0, FOX_SERVED},
     {FOX128, 16, FOX_MOST_KEY, FOX128_BLOCK, 17, 0, FOX_SERVED},
     {FOX128, 16, FOX_MOST_KEY + 1, FOX128_BLOCK, 17, 0, FOX_REFUSED_KEY},
     {FOX64, 16, 16, 0, 9, 0, FOX_REFUSED_BLOCK},
@@ -74,29 +79,33 @@ static const struct limit {
     {FOX128, 16, 16, FOX128_BLOCK, FOX_MOST_DATA, UINT64_MAX - FOX_MOST_DATA + 1, FOX_REFUSED_END},
 };
 
-/* What is served is the same bytes by every engine. */
+/* What is served is the same bytes by every engine, sealing and opening. */
 static void at_limit(const struct limit *l)
 {
     static uint8_t first[FOX_MOST_DATA];
+    int seen = 0;
     struct call c = {l->cipher, l->rounds, lent.key, l->key_len, lent.counter, l->counter_len, l->offset,
                      lent.data, l->len, lent.out, l->len};
-    for (size_t i = 0; i < ENGINES; i++) {
-        if (l->answer != FOX_SERVED) {
-            check_refused(&engines[i], &c, l->answer);
+    for (size_t i = 0; i < 2 * ENGINES; i++) {
+        const struct engine *engine = &engines[i / 2];
+        enum verb verb = i % 2 == 0 ? SEAL_RUN : OPEN_RUN;
+        uint32_t right = answer_by(verb, l->answer);
+        if (right != FOX_SERVED) {
+            check_refused(engine, verb, &c, right);
             continue;
         }
-        check_answer(&engines[i], &c, FOX_SERVED);
-        if (i == 0)
+        check_answer(engine, verb, &c, FOX_SERVED);
+        if (!seen)
             memcpy(first, lent.out, c.out_len);
-        else
-            check_bytes(lent.out, first, &engines[i], &c, "the output from that of the first engine");
-        check_rest(&engines[i], &c);
+        check_bytes(lent.out, first, engine, verb, &c, "the output from that of the first call");
+        check_rest(engine, verb, &c);
+        seen = 1;
     }
 }
 
 void limits(void)
 {
-    group_begin("limits, served and refused, by every engine");
+    group_begin("limits, served and refused, by every engine, sealing and opening");
     for (size_t i = 0; i < COUNT(at); i++)
         at_limit(&at[i]);
     group_end();

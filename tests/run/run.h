@@ -4,7 +4,7 @@
 
 #include "engines.h"
 
-/* Each row of the file, sealed and opened. */
+/* Each row of the file, opened, and sealed or refused. */
 void rows(const struct engine *engine, const char *path);
 
 /* Calls spoilt in one way, in two and in more: the refusal that comes first is given, and nothing is changed. */

@@ -1,17 +1,26 @@
 /* Cipher, rounds, key and counter of a run, by chance. */
 #include "setting.h"
 #include "chance.h"
-#include "count.h"
 
 #include <string.h>
+
+size_t some_key_len(enum verb verb)
+{
+    static const size_t lengths[] = {0, 1, 8, 15, FOX_LEAST_SEAL_KEY, 17, 24, 31, FOX_MOST_KEY};
+    size_t len;
+    do
+        len = ONE_OF(lengths);
+    while (key_answer(verb, len) != FOX_SERVED);
+    return len;
+}
 
 struct setting some_setting(uint32_t cipher)
 {
     static const uint32_t rounds[] = {FOX_LEAST_ROUNDS, 13, 16, 16, 20, FOX_MOST_ROUNDS};
-    static const size_t lengths[] = {0, 1, 8, 15, 16, 17, 24, 31, FOX_MOST_KEY};
     struct setting s = {.cipher = cipher, .block = block_of(cipher)};
-    s.rounds = rounds[below(COUNT(rounds))];
-    s.key_len = lengths[below(COUNT(lengths))];
+    s.rounds = ONE_OF(rounds);
+    s.key_len = some_key_len(OPEN_RUN);
+    s.sealing = key_answer(SEAL_RUN, s.key_len) == FOX_SERVED ? SEAL_RUN : OPEN_RUN;
     fill(s.key, sizeof s.key);
     fill(s.counter, sizeof s.counter);
     if (below(2) == 0) {

@@ -11,6 +11,8 @@
 static void set_cipher(struct call *c, uint64_t value) { c->cipher = (uint32_t)value; }
 static void set_rounds(struct call *c, uint64_t value) { c->rounds = (uint32_t)value; }
 static void set_key_len(struct call *c, uint64_t value) { c->key_len = value; }
+/* A key that is too long stays so. */
+static void shorten_key(struct call *c, uint64_t value) { c->key_len = c->key_len > FOX_MOST_KEY ? c->key_len : value; }
 static void set_counter_len(struct call *c, uint64_t value) { c->first_len = value; }
 static void other_counter_len(struct call *c, uint64_t value)
 {
@@ -43,6 +45,10 @@ const struct spoil spoils[] = {
     {FOX_REFUSED_KEY, set_key_len, FOX_MOST_KEY + 1, 0},
     {FOX_REFUSED_KEY, set_key_len, 64, 0},
     {FOX_REFUSED_KEY, vast_key, FOUR_GIB + 16, 1},
+    {FOX_REFUSED_KEY, vast_key, FOUR_GIB + FOX_LEAST_SEAL_KEY - 1, 1},
+    {FOX_REFUSED_SHORT_KEY, shorten_key, 0, 0},
+    {FOX_REFUSED_SHORT_KEY, shorten_key, 1, 0},
+    {FOX_REFUSED_SHORT_KEY, shorten_key, FOX_LEAST_SEAL_KEY - 1, 0},
     {FOX_REFUSED_BLOCK, set_counter_len, 0, 0},
     {FOX_REFUSED_BLOCK, set_counter_len, FOX64_BLOCK - 1, 0},
     {FOX_REFUSED_BLOCK, set_counter_len, FOX64_BLOCK + 1, 0},

@@ -1,4 +1,5 @@
-/* Wrong calls: each spoil makes a call that would be served into one that is refused by the spoil's number. */
+/* Wrong calls: each spoil makes a call that would be served into one that is refused by the spoil's number; but a short
+ * key does so to sealing alone (answer_by of check.h). */
 #ifndef RUN_SPOIL_H
 #define RUN_SPOIL_H
 

@@ -27,6 +27,11 @@ void same_number(uint32_t found, uint32_t expected, const char *what)
         printf("%s: found %" PRIu32 ", expected %" PRIu32 "\n", what, found, expected);
 }
 
+uint32_t seal_answer(size_t key_len)
+{
+    return key_len < 16 ? 13 : 0;
+}
+
 uint32_t number(const char *text)
 {
     return (uint32_t)strtoul(text, NULL, 10);

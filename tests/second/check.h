@@ -11,6 +11,9 @@ enum { MOST_ROW = 2048 };
 void same_bytes(const uint8_t *found, const uint8_t *expected, size_t len, const char *what);
 void same_number(uint32_t found, uint32_t expected, const char *what);
 
+/* What sealing with a key that opens answers: 13 for one of fewer than 16 bytes, and 0 for all others. */
+uint32_t seal_answer(size_t key_len);
+
 /* The decimal number in a field. */
 uint32_t number(const char *text);
 

@@ -1,6 +1,6 @@
-/* The run file (02, order 4). Its text is spelled in one place for all purposes, piece by piece onto a tape, which
- * counts the bytes, writes them, or compares them with a file. A reader takes values from a file without much care and
- * spells them again, so that whatever is not as a writer would have written it is refused. */
+/* The run file (02, orders 4 and 7). Its text is spelled in one place for all purposes, piece by piece onto a tape,
+ * which counts the bytes, writes them, or compares them with a file. A reader takes values from a file without much care
+ * and spells them again, so that whatever is not as a writer would have written it is refused. */
 #include "file.h"
 #include "parts.h"
 #include "second.h"
@@ -143,14 +143,15 @@ static uint32_t write_refusal(uint32_t cipher, uint32_t rounds, const uint64_t *
     return refusal == 0 && out_len < size ? 6 : refusal;
 }
 
-uint32_t second_file_write(uint32_t cipher, uint32_t rounds, const uint8_t *key, size_t key_len, const uint8_t *counter,
-                           size_t counter_len, const uint8_t *data, size_t data_len, const uint64_t *lengths,
-                           size_t scans, uint8_t *out, size_t out_len, uint64_t *count)
+/* An old writer refuses what opening refuses, and seals by the XOR that opening is, too. */
+static uint32_t write_file(int old, uint32_t cipher, uint32_t rounds, const uint8_t *key, size_t key_len,
+                           const uint8_t *counter, size_t counter_len, const uint8_t *data, size_t data_len,
+                           const uint64_t *lengths, size_t scans, uint8_t *out, size_t out_len, uint64_t *count)
 {
     struct tape t = {.out = out};
     uint8_t tag[MOST_BLOCK];
     uint64_t offset = 0;
-    uint32_t refusal = second_key_refusal(cipher, rounds, key_len);
+    uint32_t refusal = second_turn_refusal(old, cipher, rounds, key_len);
     *count = 0;
     if (refusal == 0)
         refusal = counter_len != cipher / 8 ? 4 : write_refusal(cipher, rounds, lengths, scans, data_len, out_len);
@@ -162,7 +163,7 @@ uint32_t second_file_write(uint32_t cipher, uint32_t rounds, const uint8_t *key,
         put_to_length(&t, i + 1);
         put_number(&t, lengths[i]);
         if (lengths[i] > 0)
-            second_run(cipher, rounds, key, key_len, counter, counter_len, offset, data + offset, lengths[i],
+            second_run(old, cipher, rounds, key, key_len, counter, counter_len, offset, data + offset, lengths[i],
                        out + t.at, lengths[i]);
         offset += lengths[i];
         t.at += lengths[i];
@@ -173,6 +174,22 @@ uint32_t second_file_write(uint32_t cipher, uint32_t rounds, const uint8_t *key,
     put_block(&t, tag, cipher);
     *count = t.at;
     return 0;
+}
+
+uint32_t second_file_write(uint32_t cipher, uint32_t rounds, const uint8_t *key, size_t key_len, const uint8_t *counter,
+                           size_t counter_len, const uint8_t *data, size_t data_len, const uint64_t *lengths,
+                           size_t scans, uint8_t *out, size_t out_len, uint64_t *count)
+{
+    return write_file(0, cipher, rounds, key, key_len, counter, counter_len, data, data_len, lengths, scans, out,
+                      out_len, count);
+}
+
+uint32_t second_old_file_write(uint32_t cipher, uint32_t rounds, const uint8_t *key, size_t key_len,
+                               const uint8_t *counter, size_t counter_len, const uint8_t *data, size_t data_len,
+                               const uint64_t *lengths, size_t scans, uint8_t *out, size_t out_len, uint64_t *count)
+{
+    return write_file(1, cipher, rounds, key, key_len, counter, counter_len, data, data_len, lengths, scans, out,
+                      out_len, count);
 }
 
 /* Values taken from a file where a tape that compares it stands: digits up to the first that is none, and hex digits of
@@ -329,7 +346,7 @@ uint32_t second_file_read(uint32_t cipher, uint32_t rounds, const uint8_t *key, 
     if (refusal != 0)
         return refusal;
     size_t counter_len = counter_in(cipher, rounds, file, file_len, counter);
-    refusal = second_run(cipher, rounds, key, key_len, counter, counter_len, place[2], file + s.bytes, s.len, out,
+    refusal = second_run(1, cipher, rounds, key, key_len, counter, counter_len, place[2], file + s.bytes, s.len, out,
                          out_len);
     if (refusal != 0)
         return refusal;

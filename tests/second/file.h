@@ -1,6 +1,6 @@
-/* The run file (02, order 4) by the second implementation, for every place in a file, also one that a caller made up. A
- * place is three numbers: the next scan's first line, the scans passed, and where the next scan's bytes stand in the
- * run. */
+/* The run file (02, orders 4 and 7) by the second implementation, for every place in a file, also one that a caller made
+ * up. A place is three numbers: the next scan's first line, the scans passed, and where the next scan's bytes stand in
+ * the run. */
 #ifndef SECOND_FILE_H
 #define SECOND_FILE_H
 
@@ -17,6 +17,11 @@ uint32_t second_file_size(uint32_t cipher, uint32_t rounds, const uint64_t *leng
 uint32_t second_file_write(uint32_t cipher, uint32_t rounds, const uint8_t *key, size_t key_len, const uint8_t *counter,
                            size_t counter_len, const uint8_t *data, size_t data_len, const uint64_t *lengths,
                            size_t scans, uint8_t *out, size_t out_len, uint64_t *count);
+
+/* A writer that serves short keys too, as one from before order 7: what it has written is still to be read. */
+uint32_t second_old_file_write(uint32_t cipher, uint32_t rounds, const uint8_t *key, size_t key_len,
+                               const uint8_t *counter, size_t counter_len, const uint8_t *data, size_t data_len,
+                               const uint64_t *lengths, size_t scans, uint8_t *out, size_t out_len, uint64_t *count);
 
 uint32_t second_file_take_up(uint32_t cipher, uint32_t rounds, const uint8_t *key, size_t key_len, const uint8_t *file,
                              size_t file_len, uint64_t *place);

@@ -1,4 +1,5 @@
-/* Run files: those of a folder written and read, one of them changed by hand, limits, and the order of refusals. */
+/* Run files: those of a folder written and read, old ones under short keys, one file changed by hand, limits, and the
+ * order of refusals. */
 #include "check.h"
 #include "count.h"
 #include "file.h"
@@ -55,18 +56,31 @@ static struct vector read_vector(char **fields)
     return v;
 }
 
+static uint32_t write_by(int old, const struct vector *v, uint8_t *out, size_t out_len, uint64_t *count)
+{
+    if (old)
+        return second_old_file_write(v->cipher, v->rounds, v->key, v->key_len, v->counter, v->counter_len, v->plain,
+                                     v->plain_len, v->lengths, v->scans, out, out_len, count);
+    return second_file_write(v->cipher, v->rounds, v->key, v->key_len, v->counter, v->counter_len, v->plain,
+                             v->plain_len, v->lengths, v->scans, out, out_len, count);
+}
+
+/* By both writers; a key that is too short to seal with is served by the old one alone. */
 static void written(const struct vector *v, const char *name)
 {
-    static uint8_t out[MOST_FILE + 1];
+    static uint8_t out[MOST_FILE + 1], painted[MOST_FILE + 1];
     uint64_t count;
     same_number(second_file_size(v->cipher, v->rounds, v->lengths, v->scans, &count), 0, name);
     same_number((uint32_t)count, (uint32_t)v->file_len, "size of the file");
-    memset(out, 0x5A, sizeof out);
-    same_number(second_file_write(v->cipher, v->rounds, v->key, v->key_len, v->counter, v->counter_len, v->plain,
-                                  v->plain_len, v->lengths, v->scans, out, v->file_len + 1, &count), 0, name);
-    same_number((uint32_t)count, (uint32_t)v->file_len, "bytes written");
-    same_bytes(out, v->file, v->file_len, name);
-    same_number(out[v->file_len], 0x5A, "byte after the file");
+    memset(painted, 0x5A, sizeof painted);
+    for (int old = 0; old < 2; old++) {
+        uint32_t refusal = old ? 0 : seal_answer(v->key_len);
+        memcpy(out, painted, sizeof out);
+        same_number(write_by(old, v, out, v->file_len + 1, &count), refusal, name);
+        same_number((uint32_t)count, refusal == 0 ? (uint32_t)v->file_len : 0, "bytes written");
+        same_bytes(out, refusal == 0 ? v->file : painted, v->file_len, name);
+        same_number(out[v->file_len], 0x5A, "byte after the file");
+    }
 }
 
 static uint32_t take_up(const struct vector *v, uint64_t *place)
@@ -117,6 +131,29 @@ static void file_row(char **fields)
     read_again(&v, fields[0]);
     if (strcmp(fields[0], "3.run") == 0)
         kept = v;
+}
+
+/* The kept file's scans under the first bytes of its key, with its counter block taken twice where the cipher wants so
+ * much. */
+static void one_old_file(uint32_t cipher, size_t key_len)
+{
+    struct vector v = kept;
+    uint64_t count = 0;
+    v.cipher = cipher, v.key_len = key_len, v.counter_len = cipher / 8;
+    memcpy(v.counter + v.counter_len - kept.counter_len, kept.counter, kept.counter_len);
+    same_number(write_by(1, &v, v.file, sizeof v.file, &count), 0, "an old file");
+    v.file_len = (size_t)count;
+    written(&v, "an old file's scans");
+    read_again(&v, "an old file read");
+}
+
+static void old_files(void)
+{
+    group_begin("run files under keys of 0 to 15 bytes: read, and written by an old writer alone");
+    for (uint32_t cipher = 64; cipher <= 128; cipher += 64)
+        for (size_t key_len = 0; key_len < 16; key_len++)
+            one_old_file(cipher, key_len);
+    group_end();
 }
 
 /* Where the text first stands in the kept file. */
@@ -231,19 +268,20 @@ static void sizes(void)
     group_end();
 }
 
-/* The refusal of a write with all faults from the one given on: 1, 2, 3, 4, 12 and 6. */
+/* The refusal of a write with all faults from the one given on: 1, 2, 3, 13, 4, 12 and 6. A key is too long for 3, and
+ * after it too short for 13. */
 static void write_order(void)
 {
-    static const uint32_t faults[] = {1, 2, 3, 4, 12, 6};
+    static const uint32_t faults[] = {1, 2, 3, 13, 4, 12, 6};
     uint8_t out[MOST_FILE], painted[MOST_FILE];
     group_begin("refusals of a writer in their order, nothing written");
     memset(out, 0x5A, sizeof out);
     memcpy(painted, out, sizeof out);
     for (size_t from = 0; from < COUNT(faults); from++) {
         uint64_t count = 7;
-        uint32_t found = second_file_write(from <= 0 ? 63 : 64, from <= 1 ? 11 : 16, kept.key, from <= 2 ? 33 : 16,
-                                           kept.counter, from <= 3 ? 16 : 8, kept.plain,
-                                           kept.plain_len - (from <= 4), kept.lengths, kept.scans, out,
+        uint32_t found = second_file_write(from <= 0 ? 63 : 64, from <= 1 ? 11 : 16, kept.key,
+                                           from <= 2 ? 33 : from == 3 ? 15 : 16, kept.counter, from <= 4 ? 16 : 8,
+                                           kept.plain, kept.plain_len - (from <= 5), kept.lengths, kept.scans, out,
                                            kept.file_len - 1, &count);
         same_number(found, faults[from], "refusal");
         same_number((uint32_t)count, 0, "count");
@@ -258,6 +296,7 @@ void check_files(const char *path)
     folder = path;
     snprintf(list, sizeof list, "%s/LIST.csv", path);
     rows(list, 7, 9, file_row);
+    old_files();
     changes();
     cut_and_wrong();
     sizes();

@@ -70,7 +70,7 @@ uint32_t second_part(int opening, uint32_t cipher, uint32_t rounds, const uint8_
                      uint32_t *next)
 {
     uint8_t keys[MOST_ROUNDS * MOST_BLOCK], r[3] = {(uint8_t)(reg >> 16), (uint8_t)(reg >> 8), (uint8_t)reg};
-    uint32_t refusal = second_block_refusal(cipher, rounds, key_len, block_len, out_len);
+    uint32_t refusal = second_block_refusal(opening, cipher, rounds, key_len, block_len, out_len);
     *next = 0;
     if (refusal != 0)
         return refusal;

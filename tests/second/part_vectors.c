@@ -55,6 +55,20 @@ static void two_parts(const struct row *r, uint32_t at)
     same_number(reg, r->stops.reg[r->rounds], "register past the last round");
 }
 
+static void refused(int opening, uint32_t cipher, uint32_t rounds, size_t key_len, size_t block_len, size_t out_len,
+                    uint32_t expected)
+{
+    static const uint8_t in[64] = {0};
+    uint8_t out[32], painted[32];
+    uint32_t reg = 0x5A5A5A;
+    memset(out, 0x5A, sizeof out);
+    memcpy(painted, out, sizeof out);
+    same_number(second_part(opening, cipher, rounds, in, key_len, 3, 5, 7, in, block_len, out, out_len, &reg), expected,
+                "a refused part");
+    same_number(reg, 0, "register of a refused part");
+    same_bytes(out, painted, sizeof out, "output of a refused part");
+}
+
 static void one_way(int opening, char **fields)
 {
     static struct row r;
@@ -68,23 +82,15 @@ static void one_way(int opening, char **fields)
         two_parts(&r, at[i]);
 }
 
+/* A row whose key is too short to seal with is opened alone. */
 static void block_row(char **fields)
 {
-    one_way(0, fields);
+    size_t key_len = strlen(fields[2]) / 2, b = strlen(fields[3]) / 2;
     one_way(1, fields);
-}
-
-static void refused(uint32_t cipher, uint32_t rounds, size_t key_len, size_t block_len, size_t out_len, uint32_t expected)
-{
-    static const uint8_t in[64] = {0};
-    uint8_t out[32], painted[32];
-    uint32_t reg = 0x5A5A5A;
-    memset(out, 0x5A, sizeof out);
-    memcpy(painted, out, sizeof out);
-    same_number(second_part(0, cipher, rounds, in, key_len, 3, 5, 7, in, block_len, out, out_len, &reg), expected,
-                "a refused part");
-    same_number(reg, 0, "register of a refused part");
-    same_bytes(out, painted, sizeof out, "output of a refused part");
+    if (seal_answer(key_len) == 0)
+        one_way(0, fields);
+    else
+        refused(0, number(fields[0]), number(fields[1]), key_len, b, b, seal_answer(key_len));
 }
 
 void check_parts(const char *path)
@@ -95,11 +101,17 @@ void check_parts(const char *path)
     group_end();
     rows(path, 5, 252, block_row);
     group_begin("parts of a block: the order of refusals");
-    refused(65, 11, 33, 7, 9, 1);
-    refused(64, 11, 33, 7, 9, 2);
-    refused(128, 256, 33, 8, 9, 2);
-    refused(128, 12, 33, 8, 9, 3);
-    refused(128, 255, 32, 8, 9, 4);
-    refused(64, 16, 0, 8, 16, 6);
+    for (int opening = 0; opening < 2; opening++) {
+        refused(opening, 65, 11, 33, 7, 9, 1);
+        refused(opening, 64, 11, 33, 7, 9, 2);
+        refused(opening, 128, 256, 33, 8, 9, 2);
+        refused(opening, 128, 12, 33, 8, 9, 3);
+        refused(opening, 65, 11, 15, 7, 9, 1);
+        refused(opening, 64, 11, 0, 7, 9, 2);
+        refused(opening, 64, 12, 0, 7, 9, opening ? 4 : 13);
+        refused(opening, 128, 255, 15, 16, 8, opening ? 6 : 13);
+        refused(opening, 128, 255, 16, 8, 9, 4);
+        refused(opening, 64, 16, 16, 8, 16, 6);
+    }
     group_end();
 }

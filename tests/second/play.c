@@ -1,6 +1,6 @@
 /* Plays the calls on sessions that its input lists, by the plain machine, and prints what each told: what the program
- * fox_check_session is to print for the same lines. A session begins with four lines, `cipher`, `rounds`, `key` and
- * `counter`; a line `advance` has the next bytes, and a line `move` a position. */
+ * fox_check_session is to print for the same lines. A session begins with five lines, `way`, which is `seal` or `open`,
+ * `cipher`, `rounds`, `key` and `counter`; a line `advance` has the next bytes, and a line `move` a position. */
 #include "hex.h"
 #include "session.h"
 
@@ -29,20 +29,35 @@ static void print_told(uint32_t refusal, size_t count, const struct second_sessi
     printf(" refusal=%u count=%zu position=%" PRIu64, (unsigned)refusal, refusal == 0 ? count : 0, s->position);
 }
 
-static int start(struct second_session *s, const char *cipher_text)
+/* The number, or the bytes, in the next line, which is to have this name. */
+
+static int next_number(const char *name, uint32_t *number)
+{
+    const char *text = value(name, 1);
+    if (text != NULL)
+        *number = (uint32_t)strtoul(text, NULL, 10);
+    return text != NULL;
+}
+
+static int next_bytes(const char *name, uint8_t *bytes, size_t *len)
+{
+    const char *text = value(name, 1);
+    if (text != NULL)
+        *len = hex_read(text, bytes, MOST_BYTES);
+    return text != NULL;
+}
+
+static int start(struct second_session *s, const char *way)
 {
     uint8_t key[MOST_BYTES], counter[MOST_BYTES];
-    uint32_t cipher = (uint32_t)strtoul(cipher_text, NULL, 10);
-    char *text = value("rounds", 1);
-    uint32_t rounds = text == NULL ? 0 : (uint32_t)strtoul(text, NULL, 10);
-    char *digits = text == NULL ? NULL : value("key", 1);
-    size_t key_len = digits == NULL ? 0 : hex_read(digits, key, sizeof key);
-    char *block = digits == NULL ? NULL : value("counter", 1);
-    if (block == NULL)
+    uint32_t cipher, rounds;
+    size_t key_len, counter_len;
+    int opening = strcmp(way, "open") == 0;
+    if ((!opening && strcmp(way, "seal") != 0) || !next_number("cipher", &cipher) || !next_number("rounds", &rounds) ||
+        !next_bytes("key", key, &key_len) || !next_bytes("counter", counter, &counter_len))
         return 0;
-    size_t counter_len = hex_read(block, counter, sizeof counter);
-    uint32_t refusal = second_session_start(s, cipher, rounds, key, key_len, counter, counter_len);
-    printf("start %u %u %zu:", (unsigned)cipher, (unsigned)rounds, key_len);
+    uint32_t refusal = second_session_start(s, opening, cipher, rounds, key, key_len, counter, counter_len);
+    printf("start %s %u %u %zu:", opening ? "open" : "seal", (unsigned)cipher, (unsigned)rounds, key_len);
     print_told(refusal, 0, s);
     puts("");
     return 1;
@@ -75,7 +90,7 @@ int main(void)
     memset(&s, 0, sizeof s);
     while (fgets(line, sizeof line, stdin) != NULL) {
         char *text;
-        if ((text = value("cipher", 0)) != NULL) {
+        if ((text = value("way", 0)) != NULL) {
             if (!start(&s, text))
                 return 1;
         } else if ((text = value("move", 0)) != NULL) {

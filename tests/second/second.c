@@ -5,7 +5,7 @@
 
 #include <string.h>
 
-enum { MOST_DATA = 65536, RUN_END = 1073741824, MOST_MESSAGE = 1073741824 };
+enum { LEAST_SEAL_KEY = 16, MOST_DATA = 65536, RUN_END = 1073741824, MOST_MESSAGE = 1073741824 };
 
 static size_t block_size(uint32_t cipher)
 {
@@ -21,10 +21,18 @@ uint32_t second_key_refusal(uint32_t cipher, uint32_t rounds, size_t key_len)
     return key_len > MOST_KEY ? 3 : 0;
 }
 
-/* Refusals 1 to 4, which a block and a run have in common. */
-static uint32_t early_refusal(uint32_t cipher, uint32_t rounds, size_t key_len, size_t block_len)
+uint32_t second_turn_refusal(int opening, uint32_t cipher, uint32_t rounds, size_t key_len)
 {
     uint32_t refusal = second_key_refusal(cipher, rounds, key_len);
+    if (refusal != 0)
+        return refusal;
+    return !opening && key_len < LEAST_SEAL_KEY ? 13 : 0;
+}
+
+/* Refusals 1 to 3, 13 and 4, which a block and a run have in common. */
+static uint32_t early_refusal(int opening, uint32_t cipher, uint32_t rounds, size_t key_len, size_t block_len)
+{
+    uint32_t refusal = second_turn_refusal(opening, cipher, rounds, key_len);
     if (refusal != 0)
         return refusal;
     return block_len != block_size(cipher) ? 4 : 0;
@@ -40,9 +48,10 @@ static uint32_t run_refusal(size_t data_len, size_t out_len, uint64_t offset)
     return offset > RUN_END || data_len > RUN_END - offset ? 7 : 0;
 }
 
-uint32_t second_block_refusal(uint32_t cipher, uint32_t rounds, size_t key_len, size_t block_len, size_t out_len)
+uint32_t second_block_refusal(int opening, uint32_t cipher, uint32_t rounds, size_t key_len, size_t block_len,
+                              size_t out_len)
 {
-    uint32_t refusal = early_refusal(cipher, rounds, key_len, block_len);
+    uint32_t refusal = early_refusal(opening, cipher, rounds, key_len, block_len);
     if (refusal != 0)
         return refusal;
     return out_len != block_len ? 6 : 0;
@@ -52,7 +61,7 @@ uint32_t second_block(int opening, uint32_t cipher, uint32_t rounds, const uint8
                       const uint8_t *block, size_t block_len, uint8_t *out, size_t out_len)
 {
     uint8_t keys[MOST_ROUNDS * MOST_BLOCK];
-    uint32_t refusal = second_block_refusal(cipher, rounds, key_len, block_len, out_len);
+    uint32_t refusal = second_block_refusal(opening, cipher, rounds, key_len, block_len, out_len);
     if (refusal != 0)
         return refusal;
     second_round_keys(keys, block_len, rounds, key, key_len);
@@ -75,12 +84,12 @@ static void counter_block(uint8_t *x, const uint8_t *counter, size_t block, uint
     }
 }
 
-uint32_t second_run(uint32_t cipher, uint32_t rounds, const uint8_t *key, size_t key_len, const uint8_t *counter,
-                    size_t counter_len, uint64_t offset, const uint8_t *data, size_t data_len,
+uint32_t second_run(int opening, uint32_t cipher, uint32_t rounds, const uint8_t *key, size_t key_len,
+                    const uint8_t *counter, size_t counter_len, uint64_t offset, const uint8_t *data, size_t data_len,
                     uint8_t *out, size_t out_len)
 {
     uint8_t keys[MOST_ROUNDS * MOST_BLOCK], stream[MOST_BLOCK];
-    uint32_t refusal = early_refusal(cipher, rounds, key_len, counter_len);
+    uint32_t refusal = early_refusal(opening, cipher, rounds, key_len, counter_len);
     if (refusal == 0)
         refusal = run_refusal(data_len, out_len, offset);
     if (refusal != 0)

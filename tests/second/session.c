@@ -10,18 +10,18 @@
 static uint32_t stretch(const struct second_session *s, uint64_t offset, const uint8_t *input, size_t input_len,
                         uint8_t *out, size_t out_len)
 {
-    return second_run(s->cipher, s->rounds, s->key, s->key_len, s->counter, s->cipher / 8, offset, input, input_len,
-                      out, out_len);
+    return second_run(!s->sealing, s->cipher, s->rounds, s->key, s->key_len, s->counter, s->cipher / 8, offset, input,
+                      input_len, out, out_len);
 }
 
-uint32_t second_session_start(struct second_session *s, uint32_t cipher, uint32_t rounds, const uint8_t *key,
-                              size_t key_len, const uint8_t *counter, size_t counter_len)
+uint32_t second_session_start(struct second_session *s, int opening, uint32_t cipher, uint32_t rounds,
+                              const uint8_t *key, size_t key_len, const uint8_t *counter, size_t counter_len)
 {
-    uint32_t refusal = second_run(cipher, rounds, key, key_len, counter, counter_len, 0, key, 0, NULL, 0);
+    uint32_t refusal = second_run(opening, cipher, rounds, key, key_len, counter, counter_len, 0, key, 0, NULL, 0);
     memset(s, 0, sizeof *s);
     if (refusal != 0)
         return refusal;
-    s->cipher = cipher, s->rounds = rounds, s->key_len = key_len;
+    s->cipher = cipher, s->rounds = rounds, s->key_len = key_len, s->sealing = !opening;
     memcpy(s->key, key, key_len);
     memcpy(s->counter, counter, counter_len);
     return 0;

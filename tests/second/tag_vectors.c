@@ -135,9 +135,10 @@ static uint32_t seen[2][4][2];
 
 static void count_case(uint32_t cipher, uint32_t rounds, const uint8_t *key, size_t key_len, size_t len)
 {
-    uint8_t zeros[MOST_BLOCK] = {0}, x[MOST_BLOCK] = {0};
+    uint8_t keys[MOST_ROUNDS * MOST_BLOCK], x[MOST_BLOCK] = {0};
     size_t block = cipher / 8;
-    second_block(0, cipher, rounds, key, key_len, zeros, block, x, block);
+    second_round_keys(keys, block, rounds, key, key_len);
+    second_seal_rounds(x, block, keys, rounds);
     int of_l = x[0] >> 7;
     second_double(x, block);
     seen[cipher == 128][2 * of_l + (x[0] >> 7)][len > 0 && len % block == 0]++;

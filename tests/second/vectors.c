@@ -15,17 +15,19 @@
 
 enum { RUN_END = 1073741824 };
 
-/* A block in hex is sealed, and what comes of it opened. */
+/* A sealed block in hex is opened, and what comes of it sealed, but for a key that is too short for it: that is refused,
+ * and the output stays as it was, which is the opened block. */
 static void both_ways_round(uint32_t cipher, uint32_t rounds, const char *key_text, const char *plain_text,
                             const char *sealed_text)
 {
     uint8_t key[MOST_KEY], plain[MOST_BLOCK], sealed[MOST_BLOCK], out[MOST_BLOCK] = {0};
     size_t key_len = hex_read(key_text, key, sizeof key), block = hex_read(plain_text, plain, sizeof plain);
+    uint32_t refusal = seal_answer(key_len);
     same_number((uint32_t)hex_read(sealed_text, sealed, sizeof sealed), (uint32_t)block, "length of the sealed block");
-    same_number(second_block(0, cipher, rounds, key, key_len, plain, block, out, block), 0, sealed_text);
-    same_bytes(out, sealed, block, sealed_text);
     same_number(second_block(1, cipher, rounds, key, key_len, sealed, block, out, block), 0, plain_text);
     same_bytes(out, plain, block, plain_text);
+    same_number(second_block(0, cipher, rounds, key, key_len, plain, block, out, block), refusal, sealed_text);
+    same_bytes(out, refusal == 0 ? sealed : plain, block, sealed_text);
 }
 
 static void paper_vectors(void)
@@ -46,7 +48,7 @@ static void paper_vectors(void)
         {128, 24, "5934214ECBA2D5FD58C261B28261B1BC"},
         {128, 32, "45CCB1030F67B768247F530266BC4996"},
     };
-    group_begin("the eight vectors of 001, sealed and opened");
+    group_begin("the eight vectors of 001, opened, and sealed but for the keys of 64 bits");
     for (size_t i = 0; i < COUNT(vectors); i++) {
         char key_part[sizeof key] = "", block_part[sizeof block] = "";
         memcpy(key_part, key, vectors[i].key_len * 2);
@@ -120,27 +122,60 @@ static void known_schedule(void)
     group_end();
 }
 
-static void known_limits(void)
+static void limits_of_rounds(uint32_t cipher)
 {
+    static const uint8_t zeros[16] = {0};
+    uint8_t out[16];
+    size_t b = cipher / 8;
+    same_number(second_block(0, cipher, 11, zeros, 16, zeros, b, out, b), 2, "11 rounds");
+    same_number(second_block(0, cipher, 12, zeros, 16, zeros, b, out, b), 0, "12 rounds");
+    same_number(second_block(0, cipher, 255, zeros, 16, zeros, b, out, b), 0, "255 rounds");
+    same_number(second_block(0, cipher, 256, zeros, 16, zeros, b, out, b), 2, "256 rounds");
+}
+
+/* What each length of a key answers in sealing and in opening, of a block and of a run. */
+static void limits_of_keys(uint32_t cipher)
+{
+    static const struct {
+        size_t key_len;
+        uint32_t answers[2];
+    } limits[] = {{0, {13, 0}}, {15, {13, 0}}, {16, {0, 0}}, {32, {0, 0}}, {33, {3, 3}}};
     static const uint8_t zeros[40] = {0};
     uint8_t out[16];
-    group_begin("known limits of 01");
+    size_t b = cipher / 8;
+    for (size_t i = 0; i < 2 * COUNT(limits); i++) {
+        int opening = i % 2 == 1;
+        size_t key_len = limits[i / 2].key_len;
+        uint32_t answer = limits[i / 2].answers[opening];
+        same_number(second_block(opening, cipher, 16, zeros, key_len, zeros, b, out, b), answer, "key of a block");
+        same_number(second_run(opening, cipher, 16, zeros, key_len, zeros, b, 0, zeros, 5, out, 5), answer,
+                    "key of a run");
+    }
+}
+
+static void limits_of_runs(int opening, uint32_t cipher)
+{
+    static const uint8_t zeros[16] = {0};
+    uint8_t out[16];
+    size_t b = cipher / 8, key_len = opening ? 9 : 16;
+    same_number(second_run(opening, cipher, 16, zeros, key_len, zeros, b, RUN_END, zeros, 0, out, 0), 0,
+                "nothing at the run's end");
+    same_number(second_run(opening, cipher, 16, zeros, key_len, zeros, b, RUN_END, zeros, 1, out, 1), 7,
+                "one byte past the run's end");
+    same_number(second_run(opening, cipher, 16, zeros, key_len, zeros, b, RUN_END + 1ull, zeros, 0, out, 0), 7,
+                "nothing past the run's end");
+    same_number(second_run(opening, cipher, 16, zeros, key_len, zeros, b, UINT64_MAX, zeros, 1, out, 1), 7,
+                "a sum of 2 to the 64");
+}
+
+static void known_limits(void)
+{
+    group_begin("known limits of 01, and of keys that seal");
     for (uint32_t cipher = 64; cipher <= 128; cipher += 64) {
-        size_t b = cipher / 8;
-        same_number(second_block(0, cipher, 11, zeros, 16, zeros, b, out, b), 2, "11 rounds");
-        same_number(second_block(0, cipher, 12, zeros, 16, zeros, b, out, b), 0, "12 rounds");
-        same_number(second_block(0, cipher, 255, zeros, 16, zeros, b, out, b), 0, "255 rounds");
-        same_number(second_block(0, cipher, 256, zeros, 16, zeros, b, out, b), 2, "256 rounds");
-        same_number(second_block(0, cipher, 16, zeros, 32, zeros, b, out, b), 0, "key of 32 bytes");
-        same_number(second_block(0, cipher, 16, zeros, 33, zeros, b, out, b), 3, "key of 33 bytes");
-        same_number(second_run(cipher, 16, zeros, 9, zeros, b, RUN_END, zeros, 0, out, 0), 0,
-                    "nothing at the run's end");
-        same_number(second_run(cipher, 16, zeros, 9, zeros, b, RUN_END, zeros, 1, out, 1), 7,
-                    "one byte past the run's end");
-        same_number(second_run(cipher, 16, zeros, 9, zeros, b, RUN_END + 1ull, zeros, 0, out, 0), 7,
-                    "nothing past the run's end");
-        same_number(second_run(cipher, 16, zeros, 9, zeros, b, UINT64_MAX, zeros, 1, out, 1), 7,
-                    "a sum of 2 to the 64");
+        limits_of_rounds(cipher);
+        limits_of_keys(cipher);
+        limits_of_runs(0, cipher);
+        limits_of_runs(1, cipher);
     }
     group_end();
 }
@@ -154,7 +189,7 @@ static void known_carry(size_t b, size_t ones)
     uint8_t counter[16], stream[32], sealed[32];
     memset(counter, 0xA5, b);
     memset(counter + b - ones, 0xFF, ones);
-    same_number(second_run(cipher, 16, zeros, 16, counter, b, 0, zeros, 2 * b, stream, 2 * b), 0, "run");
+    same_number(second_run(0, cipher, 16, zeros, 16, counter, b, 0, zeros, 2 * b, stream, 2 * b), 0, "run");
     second_block(0, cipher, 16, zeros, 16, counter, b, sealed, b);
     memset(counter + b - ones, 0, ones);
     if (ones < b)
@@ -185,10 +220,17 @@ static void order_of_refusals(void)
     same_number(second_block(0, 128, 12, in, 33, in, 8, out, 9), 3, "3 before 4 and 6");
     same_number(second_block(1, 128, 12, in, 32, in, 8, out, 9), 4, "4 before 6");
     same_number(second_block(0, 128, 12, in, 32, in, 16, out, 8), 6, "6");
-    same_number(second_run(64, 12, in, 32, in, 9, UINT64_MAX, in, 65537, out, 9), 4, "4 before 5, 6 and 7");
-    same_number(second_run(64, 12, in, 32, in, 8, UINT64_MAX, in, 65537, out, 9), 5, "5 before 6 and 7");
-    same_number(second_run(64, 12, in, 32, in, 8, UINT64_MAX, in, 65536, out, 9), 6, "6 before 7");
-    same_number(second_run(64, 12, in, 32, in, 8, UINT64_MAX, in, 9, out, 9), 7, "7");
+    same_number(second_block(0, 65, 11, in, 15, in, 7, out, 9), 1, "1 before 2, 13, 4 and 6");
+    same_number(second_block(0, 64, 11, in, 15, in, 7, out, 9), 2, "2 before 13, 4 and 6");
+    same_number(second_block(0, 64, 12, in, 15, in, 7, out, 9), 13, "13 before 4 and 6");
+    same_number(second_block(1, 64, 12, in, 15, in, 7, out, 9), 4, "4 and no 13 in opening");
+    same_number(second_run(1, 64, 12, in, 32, in, 9, UINT64_MAX, in, 65537, out, 9), 4, "4 before 5, 6 and 7");
+    same_number(second_run(0, 64, 12, in, 32, in, 8, UINT64_MAX, in, 65537, out, 9), 5, "5 before 6 and 7");
+    same_number(second_run(1, 64, 12, in, 32, in, 8, UINT64_MAX, in, 65536, out, 9), 6, "6 before 7");
+    same_number(second_run(0, 64, 12, in, 32, in, 8, UINT64_MAX, in, 9, out, 9), 7, "7");
+    same_number(second_run(0, 64, 11, in, 0, in, 9, UINT64_MAX, in, 65537, out, 9), 2, "2 before 13 and all after it");
+    same_number(second_run(0, 64, 12, in, 0, in, 9, UINT64_MAX, in, 65537, out, 9), 13, "13 before 4, 5, 6 and 7");
+    same_number(second_run(1, 64, 12, in, 0, in, 8, UINT64_MAX, in, 65537, out, 9), 5, "5 and no 13 in opening");
     same_bytes(out, painted, sizeof out, "output of refused calls");
     group_end();
 }
@@ -208,10 +250,13 @@ static void sheets(void)
               "refusal=0\ncipher=64\nrounds=16\nkeybits=128\nblock=B85D6B766DCE952E\n");
     one_sheet("cipher=64\nrounds=16\nkey=00112233445566778899AABBCCDDEEFF\nway=open\nblock=B85D6B766DCE952E\n",
               "refusal=0\ncipher=64\nrounds=16\nkeybits=128\nblock=0123456789ABCDEF\n");
+    one_sheet("cipher=128\nrounds=16\nkey=0011223344556677\nway=open\nblock=1EECBC7DEB66E7DAE1A7876D90C0B239\n",
+              "refusal=0\ncipher=128\nrounds=16\nkeybits=64\nblock=0123456789ABCDEFFEDCBA9876543210\n");
     one_sheet("cipher=128\nrounds=16\nkey=0011223344556677\nway=seal\nblock=0123456789ABCDEFFEDCBA9876543210\n",
-              "refusal=0\ncipher=128\nrounds=16\nkeybits=64\nblock=1EECBC7DEB66E7DAE1A7876D90C0B239\n");
-    one_sheet("cipher=0\nrounds=0\nkey=\nway=open\nblock=\n", "refusal=1\n");
-    one_sheet("cipher=64\nrounds=65535\nkey=\nway=open\nblock=\n", "refusal=2\n");
+              "refusal=13\n");
+    one_sheet("cipher=64\nrounds=12\nkey=00112233445566778899AABBCCDDEE\nway=seal\nblock=\n", "refusal=13\n");
+    one_sheet("cipher=0\nrounds=0\nkey=\nway=seal\nblock=\n", "refusal=1\n");
+    one_sheet("cipher=64\nrounds=65535\nkey=\nway=seal\nblock=\n", "refusal=2\n");
     one_sheet("cipher=64\nrounds=16\nkey=\nway=open\nblock=\n", "refusal=4\n");
     one_sheet("", "refusal=8\nline=1\n");
     one_sheet("cipher=064\nrounds=16\nkey=\nway=open\nblock=\n", "refusal=8\nline=1\n");
@@ -235,11 +280,13 @@ static void run_row(char **fields)
     size_t key_len = hex_read(fields[2], key, sizeof key), block = hex_read(fields[3], counter, sizeof counter);
     size_t len = hex_read(fields[5], data, sizeof data);
     uint64_t offset = strtoull(fields[4], NULL, 10);
+    uint32_t refusal = seal_answer(key_len);
     same_number((uint32_t)hex_read(fields[6], sealed, sizeof sealed), (uint32_t)len, "length of the sealed data");
-    same_number(second_run(cipher, rounds, key, key_len, counter, block, offset, data, len, out, len), 0, fields[6]);
-    same_bytes(out, sealed, len, "sealed run");
-    same_number(second_run(cipher, rounds, key, key_len, counter, block, offset, sealed, len, out, len), 0, fields[5]);
+    same_number(second_run(1, cipher, rounds, key, key_len, counter, block, offset, sealed, len, out, len), 0, fields[5]);
     same_bytes(out, data, len, "opened run");
+    same_number(second_run(0, cipher, rounds, key, key_len, counter, block, offset, data, len, out, len), refusal,
+                fields[6]);
+    same_bytes(out, refusal == 0 ? sealed : data, len, "sealed run, or the opened one where sealing was refused");
 }
 
 int main(int count, char **words)

@@ -1,5 +1,4 @@
 /* The edges of blocks, the run's end, and the counter's words, from every side. */
-#include "call.h"
 #include "chance.h"
 #include "count.h"
 #include "groups.h"
@@ -10,16 +9,17 @@
 
 static struct pair pair;
 
-static void started(uint32_t cipher)
+/* Answers with the bytes of a block. */
+static size_t started(size_t kind)
 {
-    struct setting s = some_setting(cipher);
+    struct setting s = some_setting(kind);
     hold_start(&pair, &s, FOX_SERVED);
+    return s.counter_len;
 }
 
 /* From every byte of a block, every number of bytes up to some more than five blocks. */
-static void advances_of(uint32_t cipher)
+static void advances_of(size_t b)
 {
-    const size_t b = block_of(cipher);
     for (size_t skip = 0; skip < b; skip++)
         for (size_t len = 0; len <= 5 * b + 1; len++) {
             hold_move(&pair, (1 + below(3)) * b + skip, FOX_SERVED);
@@ -30,18 +30,15 @@ static void advances_of(uint32_t cipher)
 void advances_at_edges(void)
 {
     group_begin("advances from every byte of a block, up to five blocks and a byte");
-    for (uint32_t cipher = FOX64; cipher <= FOX128; cipher += FOX64) {
-        started(cipher);
-        advances_of(cipher);
-    }
+    for (size_t kind = 0; kind < KINDS; kind++)
+        advances_of(started(kind));
     group_end();
 }
 
 /* From every byte of three blocks to every byte of four, both where a move has led to the first and where an advance
  * has; the block in use is the one that both are in, its neighbour, or another. */
-static void moves_of(uint32_t cipher)
+static void moves_of(size_t b)
 {
-    const size_t b = block_of(cipher);
     for (size_t from = 1; from <= 3 * b; from++)
         for (size_t to = 0; to <= 4 * b; to++) {
             if (below(2) == 0)
@@ -57,17 +54,14 @@ static void moves_of(uint32_t cipher)
 void moves_at_edges(void)
 {
     group_begin("moves from every byte of three blocks to every byte of four");
-    for (uint32_t cipher = FOX64; cipher <= FOX128; cipher += FOX64) {
-        started(cipher);
-        moves_of(cipher);
-    }
+    for (size_t kind = 0; kind < KINDS; kind++)
+        moves_of(started(kind));
     group_end();
 }
 
 /* From every byte of the last two blocks, as many bytes as are left, fewer, and more. */
-static void last_blocks(uint32_t cipher)
+static void last_blocks(size_t b)
 {
-    const size_t b = block_of(cipher);
     for (size_t left = 0; left <= 2 * b + 1; left++)
         for (size_t len = 0; len <= left + 2; len++) {
             hold_move(&pair, FOX_RUN_END - left, FOX_SERVED);
@@ -78,9 +72,8 @@ static void last_blocks(uint32_t cipher)
 }
 
 /* From the end, to which a move or an advance has led, back to every byte of the last two blocks, and to the first. */
-static void back_from_end(uint32_t cipher)
+static void back_from_end(size_t b)
 {
-    const size_t b = block_of(cipher);
     for (size_t left = 0; left <= 2 * b + 1; left++) {
         const size_t len = below(2 * b);
         hold_move(&pair, FOX_RUN_END - len, FOX_SERVED);
@@ -108,10 +101,10 @@ static void longest_at_end(void)
 void run_end(void)
 {
     group_begin("the run's last blocks and its end, reached, passed and left again");
-    for (uint32_t cipher = FOX64; cipher <= FOX128; cipher += FOX64) {
-        started(cipher);
-        last_blocks(cipher);
-        back_from_end(cipher);
+    for (size_t kind = 0; kind < KINDS; kind++) {
+        const size_t b = started(kind);
+        last_blocks(b);
+        back_from_end(b);
         longest_at_end();
     }
     group_end();
@@ -130,10 +123,10 @@ static void set_counter(struct setting *s, size_t ones, uint64_t number)
 }
 
 /* Over the block after which something is carried: at once, byte by byte, forwards and back. */
-static void carried(uint32_t cipher, size_t ones, uint64_t number)
+static void carried(size_t kind, size_t ones, uint64_t number)
 {
-    const uint64_t b = block_of(cipher), from = number * b;
-    struct setting s = some_setting(cipher);
+    struct setting s = some_setting(kind);
+    const uint64_t b = s.counter_len, from = number * b;
     set_counter(&s, ones, number);
     hold_start(&pair, &s, FOX_SERVED);
     hold_move(&pair, from + below(b), FOX_SERVED);
@@ -153,12 +146,12 @@ static void carried(uint32_t cipher, size_t ones, uint64_t number)
 void carries(void)
 {
     group_begin("counters with something carried out of each of their bytes, near the run's start and far on");
-    for (uint32_t cipher = FOX64; cipher <= FOX128; cipher += FOX64) {
-        const uint64_t b = block_of(cipher), last = FOX_RUN_END / b - 8;
+    for (size_t kind = 0; kind < KINDS; kind++) {
+        const uint64_t b = some_setting(kind).counter_len, last = FOX_RUN_END / b - 8;
         const uint64_t numbers[] = {0, 1, 2, 3, 4, 5, 255, 256, 65535, last, last - 1, below(last)};
         for (size_t ones = 1; ones <= b; ones++)
             for (size_t i = 0; i < COUNT(numbers); i++)
-                carried(cipher, ones, numbers[i]);
+                carried(kind, ones, numbers[i]);
     }
     group_end();
 }

@@ -15,17 +15,20 @@ void moves_at_edges(void);
 void run_end(void);
 void carries(void);
 
-/* whole.c: long stretches, in pieces and in one, and copies that go ways of their own. */
+/* whole.c: long stretches, in pieces and in one, sealed and opened again, and copies that go ways of their own. */
 void long_advances(void);
 void whole_run(void);
 void copies(void);
 
-/* refusals.c: every set of faults at once, calls on what was not started, and lengths of 4 GiB and more. */
+/* refusals.c: every set of faults at once, in both directions, calls on what was not started, and lengths of 4 GiB and
+ * more. */
 void refused_starts(void);
 void refused_calls(void);
 void large_lengths(void);
 
-/* filled.c: words that no start has filled. */
+/* filled.c: words that no start has filled, and the direction that a start has put into them. */
 void filled_words(void);
+void filled_faults(void);
+void directions(void);
 
 #endif

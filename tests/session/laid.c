@@ -39,7 +39,7 @@ static struct session_call lay(enum session_verb verb, const struct session_call
 {
     struct session_call laid = *c;
     laid.session = (void *)room_lay(&rooms[WORDS], c->session, words_size, at_end);
-    if (verb == SESSION_START) {
+    if (is_start(verb)) {
         laid.key = room_lay(&rooms[KEY], c->key, c->key_len, at_end);
         laid.counter = room_lay(&rooms[COUNTER], c->counter, c->counter_len, at_end);
     }
@@ -64,8 +64,8 @@ static const char *wrong_beside(enum session_verb verb, const struct session_cal
         return "writes beside the session";
     if (verb == SESSION_ADVANCE && !room_holds(&rooms[OUTPUT], out, c->out_len, at_end))
         return "puts out other bytes, or writes beside them";
-    if ((verb == SESSION_START && !(room_holds(&rooms[KEY], c->key, c->key_len, at_end) &&
-                                    room_holds(&rooms[COUNTER], c->counter, c->counter_len, at_end))) ||
+    if ((is_start(verb) && !(room_holds(&rooms[KEY], c->key, c->key_len, at_end) &&
+                             room_holds(&rooms[COUNTER], c->counter, c->counter_len, at_end))) ||
         (verb == SESSION_ADVANCE && !room_holds(&rooms[INPUT], c->input, c->input_len, at_end)))
         return "changes what was lent for reading, or a byte beside it";
     return NULL;

@@ -57,9 +57,9 @@ static void refused_move(struct pair *p)
 static void refused_start(const struct pair *p)
 {
     static struct pair other;
-    struct setting s = some_setting(p->plain.cipher);
+    struct setting s = some_setting(below(KINDS));
     other = *p;
-    switch (below(4)) {
+    switch (below(5)) {
     case 0:
         s.cipher += 1;
         break;
@@ -68,6 +68,9 @@ static void refused_start(const struct pair *p)
         break;
     case 2:
         s.key_len = FOX_MOST_KEY + 1;
+        break;
+    case 3:
+        s.opening = 0, s.key_len = below(FOX_LEAST_SEAL_KEY);
         break;
     default:
         s.counter_len -= 1;
@@ -102,7 +105,7 @@ static void one_call(struct pair *p)
 
 static void start_anew(struct pair *p)
 {
-    struct setting s = some_setting(below(2) == 0 ? FOX64 : FOX128);
+    struct setting s = some_setting(below(KINDS));
     hold_start(p, &s, FOX_SERVED);
 }
 

@@ -14,8 +14,9 @@
 
 static void every_answer(void)
 {
-    static const uint32_t answers[] = {FOX_SERVED,        FOX_REFUSED_CIPHER, FOX_REFUSED_ROUNDS, FOX_REFUSED_KEY,
-                                       FOX_REFUSED_BLOCK, FOX_REFUSED_DATA,   FOX_REFUSED_OUTPUT, FOX_REFUSED_END};
+    static const uint32_t answers[] = {FOX_SERVED,         FOX_REFUSED_CIPHER, FOX_REFUSED_ROUNDS,
+                                       FOX_REFUSED_KEY,    FOX_REFUSED_BLOCK,  FOX_REFUSED_DATA,
+                                       FOX_REFUSED_OUTPUT, FOX_REFUSED_END,    FOX_REFUSED_SHORT_KEY};
     each_answered(answers, COUNT(answers));
 }
 
@@ -23,8 +24,9 @@ static void every_answer(void)
 int main(int count, char **words)
 {
     static void (*const groups[])(void) = {
-        starts, advances_at_edges, moves_at_edges, run_end,       carries, long_advances, whole_run,
-        copies, refused_starts,    refused_calls,  large_lengths, lists,   filled_words,  every_answer,
+        starts,    advances_at_edges, moves_at_edges, run_end,       carries,       long_advances,
+        whole_run, copies,            refused_starts, refused_calls, large_lengths, lists,
+        filled_words, filled_faults,  directions,     every_answer,
     };
     if (count > 2) {
         fprintf(stderr, "usage: session [SEED]\n");

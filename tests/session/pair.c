@@ -17,14 +17,22 @@ enum { PART_OF_WORK = 32 };
 
 static const uint64_t no_words[FOX_SESSION_WORDS];
 
-struct setting some_setting(uint32_t cipher)
+struct setting some_setting(size_t kind)
 {
-    struct setting s = {.cipher = cipher, .rounds = FOX_LEAST_ROUNDS + (uint32_t)below(4)};
-    s.key_len = below(FOX_MOST_KEY + 1);
-    s.counter_len = block_of(cipher);
+    struct setting s = {.opening = kind % KINDS >= KINDS / 2, .cipher = kind % 2 == 0 ? FOX64 : FOX128};
+    const size_t least = s.opening ? 0 : FOX_LEAST_SEAL_KEY;
+    s.rounds = FOX_LEAST_ROUNDS + (uint32_t)below(4);
+    s.key_len = least + below(FOX_MOST_KEY + 1 - least);
+    s.counter_len = block_of(s.cipher);
     fill(s.key, sizeof s.key);
     fill(s.counter, sizeof s.counter);
     return s;
+}
+
+uint32_t first_fault(const uint32_t *numbers, unsigned chosen, int opening)
+{
+    const unsigned looked_for = opening ? chosen & ~(unsigned)SHORT : chosen;
+    return looked_for == 0 ? FOX_SERVED : numbers[__builtin_ctz(looked_for)];
 }
 
 const uint8_t *some_input(size_t len)
@@ -44,7 +52,12 @@ uint64_t left_of(const struct pair *p)
 
 static void show_machine(const struct second_session *m)
 {
-    printf("cipher %" PRIu32 ", rounds %" PRIu32 ", key ", m->cipher, m->rounds);
+    if (m->cipher == 0) {
+        printf("on what was not started: ");
+        return;
+    }
+    printf("for %s, cipher %" PRIu32 ", rounds %" PRIu32 ", key ", m->sealing ? "sealing" : "opening", m->cipher,
+           m->rounds);
     hex_print(m->key, m->key_len);
     printf(", counter ");
     hex_print(m->counter, m->cipher / 8);
@@ -100,8 +113,8 @@ static const char *wrong_call(struct pair *p, enum session_verb verb, const stru
         return kept;
     if (right == FOX_SERVED)
         return stands(p) ? NULL : "leaves a session that goes on otherwise";
-    if (memcmp(p->words, verb == SESSION_START ? no_words : before, sizeof before) != 0)
-        return verb == SESSION_START ? "is refused, and not all words are zero" : "is refused, and changes the session";
+    if (memcmp(p->words, is_start(verb) ? no_words : before, sizeof before) != 0)
+        return is_start(verb) ? "is refused, and not all words are zero" : "is refused, and changes the session";
     return NULL;
 }
 
@@ -119,8 +132,9 @@ uint32_t try_start(struct pair *p, const struct setting *s)
     struct session_call c = {.cipher = s->cipher, .rounds = s->rounds, .key = s->key, .key_len = s->key_len,
                              .counter = s->counter, .counter_len = s->counter_len};
     const struct second_session none = {0};
-    uint32_t right = second_session_start(&p->plain, c.cipher, c.rounds, c.key, c.key_len, c.counter, c.counter_len);
-    hold(p, &none, SESSION_START, c, right, NULL);
+    uint32_t right = second_session_start(&p->plain, s->opening, c.cipher, c.rounds, c.key, c.key_len, c.counter,
+                                          c.counter_len);
+    hold(p, &none, start_verb(s->opening), c, right, NULL);
     return right;
 }
 
@@ -144,7 +158,7 @@ static void beside_engines(const struct second_session *m, const struct session_
         if (right == FOX_SERVED && c->input_len * m->rounds > e->work / PART_OF_WORK)
             continue;
         memcpy(out, c->out, c->out_len);
-        uint32_t found = make_caught(e, RUN, &run);
+        uint32_t found = make_caught(e, m->sealing ? SEAL_RUN : OPEN_RUN, &run);
         const char *wrong = found == right && memcmp(out, answer, c->out_len) == 0 ? NULL : "an engine's run differs";
         count_case(m, SESSION_ADVANCE, c, wrong);
     }

@@ -1,5 +1,4 @@
 /* Spoilt calls: of all that is wrong with one, what is looked for first is answered, and nothing is changed. */
-#include "call.h"
 #include "chance.h"
 #include "faults.h"
 #include "groups.h"
@@ -17,18 +16,20 @@ enum { MARGIN = 1 << 20 };
 
 static struct pair pair;
 
-/* By the bits of a number: cipher, rounds, key and counter. */
+/* By the bits of a number: cipher, rounds, a long key, a short one, and counter. A key that is to be both is long, and
+ * one that is to be neither is served in both directions. */
 static struct setting spoilt_setting(unsigned chosen)
 {
     static const uint32_t ciphers[] = {0, 1, FOX64 - 1, FOX64 + 1, FOX128 - 1, FOX128 + 1, 256 + FOX64, UINT32_MAX};
     static const uint32_t rounds[] = {0, FOX_LEAST_ROUNDS - 1, FOX_MOST_ROUNDS + 1, 256 + 16, UINT32_MAX};
-    static const size_t key_lens[] = {FOX_MOST_KEY + 1, FOX_MOST_KEY + 2, SETTING_ROOM};
-    struct setting s = some_setting(below(2) == 0 ? FOX64 : FOX128);
+    static const size_t long_keys[] = {FOX_MOST_KEY + 1, FOX_MOST_KEY + 2, SETTING_ROOM};
+    static const size_t short_keys[] = {0, 1, 4, 8, FOX_LEAST_SEAL_KEY - 2, FOX_LEAST_SEAL_KEY - 1};
+    struct setting s = some_setting(below(KINDS / 2));
     const size_t b = s.counter_len, counter_lens[] = {0, 1, b - 1, b + 1, FOX64_BLOCK + FOX128_BLOCK - b, 2 * b};
     s.cipher = chosen & 1 ? ONE_OF(ciphers) : s.cipher;
     s.rounds = chosen & 2 ? ONE_OF(rounds) : s.rounds;
-    s.key_len = chosen & 4 ? ONE_OF(key_lens) : s.key_len;
-    s.counter_len = chosen & 8 ? ONE_OF(counter_lens) : s.counter_len;
+    s.key_len = chosen & 4 ? ONE_OF(long_keys) : chosen & SHORT ? ONE_OF(short_keys) : s.key_len;
+    s.counter_len = chosen & 16 ? ONE_OF(counter_lens) : s.counter_len;
     return s;
 }
 
@@ -43,24 +44,49 @@ static void calls_on_none(void)
     }
 }
 
-/* Over words by chance, over those of a session that stands somewhere, and over zeros. */
+/* What the words are before a start: those of a session that stands somewhere, by chance, or as they were. */
+static void used_before(size_t which)
+{
+    struct setting s = some_setting(below(KINDS));
+    if (which == 0) {
+        hold_start(&pair, &s, FOX_SERVED);
+        hold_move(&pair, below(FOX_RUN_END), FOX_SERVED);
+    } else if (which == 1) {
+        fill((uint8_t *)pair.words, sizeof pair.words);
+    }
+}
+
+static void goes_on(size_t b)
+{
+    hold_advance(&pair, 2 * b + 1, 2 * b + 1, FOX_SERVED);
+    hold_move(&pair, below(FOX_RUN_END), FOX_SERVED);
+    hold_move(&pair, below(100), FOX_SERVED);
+    hold_advance(&pair, 3, 3, FOX_SERVED);
+}
+
+/* The same setting in both directions: with a short key alone it is served for opening, and the session goes on. */
+static void both_directions(struct setting s, unsigned chosen, size_t before)
+{
+    static const uint32_t numbers[] = {FOX_REFUSED_CIPHER, FOX_REFUSED_ROUNDS, FOX_REFUSED_KEY, FOX_REFUSED_SHORT_KEY,
+                                       FOX_REFUSED_BLOCK};
+    for (s.opening = 0; s.opening < 2; s.opening++) {
+        const uint32_t answer = first_fault(numbers, chosen, s.opening);
+        used_before(before);
+        hold_start(&pair, &s, answer);
+        if (answer == FOX_SERVED)
+            goes_on(s.counter_len);
+        else
+            calls_on_none();
+    }
+}
+
 void refused_starts(void)
 {
-    static const uint32_t numbers[] = {FOX_REFUSED_CIPHER, FOX_REFUSED_ROUNDS, FOX_REFUSED_KEY, FOX_REFUSED_BLOCK};
-    group_begin("refused starts, every set of faults at once: all words zero, and every call on them refused with 1");
-    for (unsigned i = 0; i < 15 * 30; i++) {
-        const unsigned chosen = 1 + i % 15;
-        struct setting s = some_setting(i % 2 == 0 ? FOX64 : FOX128);
-        if (i / 15 % 3 == 0) {
-            hold_start(&pair, &s, FOX_SERVED);
-            hold_move(&pair, below(FOX_RUN_END), FOX_SERVED);
-        } else if (i / 15 % 3 == 1) {
-            fill((uint8_t *)pair.words, sizeof pair.words);
-        }
-        s = spoilt_setting(chosen);
-        hold_start(&pair, &s, numbers[__builtin_ctz(chosen)]);
-        calls_on_none();
-    }
+    enum { SETS = 1 << 5, TIMES = 15 };
+    group_begin("refused starts, every set of faults at once, in both directions: all words zero, and no session");
+    for (unsigned chosen = 0; chosen < SETS; chosen++)
+        for (size_t i = 0; i < TIMES; i++)
+            both_directions(spoilt_setting(chosen), chosen, i % 3);
     group_end();
 }
 
@@ -82,7 +108,7 @@ void refused_calls(void)
     group_begin("refused advances and moves, every set of faults at once: words and output as they were");
     for (unsigned i = 0; i < 7 * 60; i++) {
         if (i % 14 == 0) {
-            struct setting s = some_setting(i % 28 == 0 ? FOX64 : FOX128);
+            struct setting s = some_setting(i / 14);
             hold_start(&pair, &s, FOX_SERVED);
         }
         spoilt_advance(1 + i % 7);
@@ -100,17 +126,18 @@ static void large(enum session_verb verb, const struct session_call *c, uint32_t
     const uint64_t none[FOX_SESSION_WORDS] = {0};
     memcpy(before, pair.words, sizeof before);
     uint32_t answer = caught_call(verb, c);
-    if (case_wrong(answer == right && memcmp(pair.words, verb == SESSION_START ? none : before, sizeof before) == 0))
+    if (case_wrong(answer == right && memcmp(pair.words, is_start(verb) ? none : before, sizeof before) == 0))
         printf("fox_%s, key of %zu, counter of %zu, input of %zu, output of %zu bytes: answers %" PRIu32
                " and not %" PRIu32 ", or leaves other words\n", session_verbs[verb], c->key_len, c->counter_len,
                c->input_len, c->out_len, answer, right);
 }
 
-static void large_of(uint32_t cipher)
+static void large_of(size_t kind)
 {
-    struct setting s = some_setting(cipher);
+    struct setting s = some_setting(kind);
     const size_t b = s.counter_len, g = (size_t)FOUR_GIB;
-    const struct session_call start = {.cipher = cipher, .rounds = s.rounds, .key = s.key, .key_len = 16,
+    const enum session_verb started = start_verb(s.opening);
+    const struct session_call start = {.cipher = s.cipher, .rounds = s.rounds, .key = s.key, .key_len = 16,
                                        .counter = s.counter, .counter_len = b, .session = pair.words};
     struct session_call c = {.session = pair.words, .input = nowhere, .input_len = g + b,
                              .out = (uint8_t *)nowhere, .out_len = g + b};
@@ -123,9 +150,13 @@ static void large_of(uint32_t cipher)
     c.input_len = 0, c.out_len = g;
     large(SESSION_ADVANCE, &c, FOX_REFUSED_OUTPUT);
     c = start, c.key = nowhere, c.key_len = g + 16;
-    large(SESSION_START, &c, FOX_REFUSED_KEY);
+    large(started, &c, FOX_REFUSED_KEY);
+    c.key_len = g + 4;
+    large(started, &c, FOX_REFUSED_KEY);
     c = start, c.counter = nowhere, c.counter_len = g + b;
-    large(SESSION_START, &c, FOX_REFUSED_BLOCK);
+    large(started, &c, FOX_REFUSED_BLOCK);
+    c.key_len = 4;
+    large(started, &c, s.opening ? FOX_REFUSED_BLOCK : FOX_REFUSED_SHORT_KEY);
 }
 
 void large_lengths(void)
@@ -135,7 +166,7 @@ void large_lengths(void)
     if (all == NULL && case_wrong(0))
         printf("this machine gives no addresses for 4 GiB\n");
     nowhere = all != NULL ? all + MARGIN : NULL;
-    for (uint32_t cipher = FOX64; all != NULL && cipher <= FOX128; cipher += FOX64)
-        large_of(cipher);
+    for (size_t kind = 0; all != NULL && kind < KINDS; kind++)
+        large_of(kind);
     group_end();
 }

@@ -7,10 +7,16 @@
 
 static struct pair pair;
 
-/* The first block and what follows it, from a session with these. */
+/* The first block and what follows it, from a session with these; or no session, where the key is too short to seal
+ * with. */
 static void one_start(struct setting s)
 {
     const size_t b = s.counter_len;
+    if (!s.opening && s.key_len < FOX_LEAST_SEAL_KEY) {
+        hold_start(&pair, &s, FOX_REFUSED_SHORT_KEY);
+        hold_advance(&pair, b - 3, b - 3, FOX_REFUSED_CIPHER);
+        return;
+    }
     hold_start(&pair, &s, FOX_SERVED);
     hold_advance(&pair, b - 3, b - 3, FOX_SERVED);
     hold_advance(&pair, 3, 3, FOX_SERVED);
@@ -18,20 +24,19 @@ static void one_start(struct setting s)
 
 static void keys_and_rounds(void)
 {
-    group_begin("starts: keys of 0 to 32 bytes, 12 to 255 rounds");
-    for (size_t key_len = 0; key_len <= FOX_MOST_KEY; key_len++)
-        for (uint32_t cipher = FOX64; cipher <= FOX128; cipher += FOX64) {
-            struct setting s = some_setting(cipher);
-            s.key_len = key_len;
-            one_start(s);
-        }
+    group_begin("starts: keys of 0 to 32 bytes, of which those from 16 on seal, 12 to 255 rounds");
+    for (size_t i = 0; i < KINDS * (FOX_MOST_KEY + 1); i++) {
+        struct setting s = some_setting(i % KINDS);
+        s.key_len = i / KINDS;
+        one_start(s);
+    }
     for (uint32_t rounds = FOX_LEAST_ROUNDS; rounds <= FOX_MOST_ROUNDS; rounds++) {
-        struct setting s = some_setting(rounds % 2 == 0 ? FOX64 : FOX128);
+        struct setting s = some_setting(rounds % KINDS);
         s.rounds = rounds;
         one_start(s);
     }
-    for (uint32_t cipher = FOX64; cipher <= FOX128; cipher += FOX64) {
-        struct setting s = some_setting(cipher);
+    for (size_t kind = 0; kind < KINDS; kind++) {
+        struct setting s = some_setting(kind);
         s.rounds = FOX_MOST_ROUNDS, s.key_len = FOX_MOST_KEY;
         one_start(s);
         hold_move(&pair, 1000, FOX_SERVED);
@@ -42,18 +47,18 @@ static void keys_and_rounds(void)
     group_end();
 }
 
-/* Over a session that stands somewhere, with a longer list of round keys, and over words by chance. What a start has
- * filled does not depend on them. */
+/* Over a session of any kind that stands somewhere, with a longer list of round keys, and over words by chance. What a
+ * start has filled does not depend on them. */
 static void used_words(void)
 {
     static struct pair other;
     group_begin("starts over words that were used before: position 0, and nothing of them is left");
-    for (int i = 0; i < 100; i++) {
-        struct setting s = some_setting(i % 2 == 0 ? FOX64 : FOX128);
+    for (size_t i = 0; i < KINDS * KINDS * 8; i++) {
+        struct setting s = some_setting(i / KINDS);
         fill((uint8_t *)pair.words, sizeof pair.words);
         try_start(&pair, &s);
         try_move(&pair, below(FOX_RUN_END));
-        s = some_setting(below(2) == 0 ? FOX64 : FOX128);
+        s = some_setting(i);
         try_start(&other, &s);
         try_move(&other, below(FOX_RUN_END));
         try_advance(&other, below(40), below(40));

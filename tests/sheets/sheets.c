@@ -52,23 +52,32 @@ static void put_sheet(uint32_t cipher, uint32_t rounds, size_t key_pairs, const 
     put("\n");
 }
 
+static const char *const both_ways[] = {"seal", "open"};
+
 static const char *some_way(void)
 {
-    return below(2) == 0 ? "seal" : "open";
+    return ONE_OF(both_ways);
+}
+
+/* One key in four is too short to seal with. */
+static size_t some_key(void)
+{
+    return below(4) == 0 ? below(16) : 16 + below(17);
 }
 
 static void put_some_sheet(void)
 {
     uint32_t cipher = below(2) == 0 ? 64 : 128;
-    put_sheet(cipher, 12 + (uint32_t)below(8), below(33), some_way(), cipher / 8);
+    put_sheet(cipher, 12 + (uint32_t)below(8), some_key(), some_way(), cipher / 8);
 }
 
 static void keys(void)
 {
-    group_begin("right sheets: keys of 0 to 64 bytes");
+    group_begin("right sheets: keys of 0 to 64 bytes, sealing and opening");
     for (size_t key = 0; key <= 64; key += key < 36 ? 1 : 7)
-        for (uint32_t cipher = 64; cipher <= 128; cipher += 64) {
-            put_sheet(cipher, 12 + (uint32_t)key, key, some_way(), cipher / 8);
+        for (uint32_t i = 0; i < 4; i++) {
+            uint32_t cipher = i < 2 ? 64 : 128;
+            put_sheet(cipher, 12 + (uint32_t)key, key, both_ways[i % 2], cipher / 8);
             try_sheet();
         }
     group_end();
@@ -81,7 +90,7 @@ static void right_numbers(void)
     group_begin("right sheets: ciphers and rounds");
     for (size_t i = 0; i < COUNT(rounds); i++)
         for (uint32_t cipher = 64; cipher <= 128; cipher += 64) {
-            put_sheet(cipher, rounds[i], below(33), some_way(), cipher / 8);
+            put_sheet(cipher, rounds[i], some_key(), some_way(), cipher / 8);
             try_sheet();
         }
     for (size_t i = 0; i < COUNT(ciphers); i++) {
@@ -94,15 +103,15 @@ static void right_numbers(void)
 /* Of several refusals the first is printed. */
 static void blocks(void)
 {
-    static const size_t lengths[] = {0, 1, 7, 8, 9, 15, 16, 17, 24, 31, 32};
+    static const size_t lengths[] = {0, 1, 7, 8, 9, 15, 16, 17, 24, 31, 32}, keys_of[] = {33, 15, 0, 16};
     group_begin("right sheets: blocks of 0 to 32 bytes, several refusals at once");
     for (size_t i = 0; i < COUNT(lengths); i++)
         for (uint32_t cipher = 64; cipher <= 128; cipher += 64) {
             put_sheet(cipher, 16, 16, some_way(), lengths[i]);
             try_sheet();
         }
-    for (size_t i = 0; i < 16; i++) {
-        put_sheet(i & 1 ? 64 : 65, i & 2 ? 12 : 11, i & 4 ? 32 : 33, some_way(), i & 8 ? 8 : 9);
+    for (size_t i = 0; i < 64; i++) {
+        put_sheet(i & 1 ? 64 : 65, i & 2 ? 12 : 11, keys_of[i / 16], both_ways[i / 8 % 2], i & 4 ? 8 : 9);
         try_sheet();
     }
     group_end();

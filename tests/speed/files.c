@@ -57,8 +57,8 @@ static uint32_t run_and_tag(uint64_t which, size_t len)
     (void)len;
     for (size_t at = 0; at < k->data_len && refusal == FOX_SERVED; at += FOX_MOST_DATA) {
         size_t piece = k->data_len - at < FOX_MOST_DATA ? k->data_len - at : FOX_MOST_DATA;
-        refusal = fox_server_run(cipher, ROUNDS, key, KEY_LEN, counter, cipher / 8, at, data + at, piece, sealed + at,
-                                 piece);
+        refusal = fox_server_seal_run(cipher, ROUNDS, key, KEY_LEN, counter, cipher / 8, at, data + at, piece,
+                                      sealed + at, piece);
     }
     if (refusal != FOX_SERVED)
         return refusal;

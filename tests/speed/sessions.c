@@ -37,7 +37,7 @@ static uint32_t advance(uint64_t offset, size_t len)
 
 static uint32_t run(uint64_t offset, size_t len)
 {
-    return fox_server_run(cipher, ROUNDS, key, KEY_LEN, counter, cipher / 8, offset, data, len, run_out, len);
+    return fox_server_seal_run(cipher, ROUNDS, key, KEY_LEN, counter, cipher / 8, offset, data, len, run_out, len);
 }
 
 /* Few bytes after few, from the run's start. */
@@ -53,8 +53,8 @@ static uint32_t display_by_runs(uint64_t offset, size_t len)
 {
     uint32_t refusal = FOX_SERVED;
     for (size_t at = 0; at < len && refusal == FOX_SERVED; at += BYTES_OF_DISPLAY)
-        refusal = fox_server_run(cipher, ROUNDS, key, KEY_LEN, counter, cipher / 8, offset + at, data + at,
-                                 BYTES_OF_DISPLAY, run_out + at, BYTES_OF_DISPLAY);
+        refusal = fox_server_seal_run(cipher, ROUNDS, key, KEY_LEN, counter, cipher / 8, offset + at, data + at,
+                                      BYTES_OF_DISPLAY, run_out + at, BYTES_OF_DISPLAY);
     return refusal;
 }
 
@@ -62,7 +62,7 @@ static uint32_t display_by_runs(uint64_t offset, size_t len)
 static int stand(uint64_t offset, size_t len)
 {
     uint64_t before[FOX_SESSION_WORDS];
-    int right = fox_session_start(cipher, ROUNDS, key, KEY_LEN, counter, cipher / 8, session) == FOX_SERVED &&
+    int right = fox_session_start_sealing(cipher, ROUNDS, key, KEY_LEN, counter, cipher / 8, session) == FOX_SERVED &&
                 fox_session_move(session, offset) == FOX_SERVED;
     memcpy(before, session, sizeof before);
     changes = 0;

@@ -31,12 +31,12 @@ static uint32_t cipher, rounds = ROUNDS;
 static size_t key_len;
 static struct plain_key prepared;
 
-/* What is compared. Each works on the first `len` bytes of the input; the prepared key is ready. Tags take no notice of
- * the offset. */
+/* What is compared. Each works on the first `len` bytes of the input; the prepared key is ready. Runs are opened, which
+ * every key does; sealing is the same XOR. Tags take no notice of the offset. */
 
 static uint32_t by_engine(const struct engine *engine, uint64_t offset, size_t len)
 {
-    return engine->run(cipher, rounds, key, key_len, counter, cipher / 8, offset, input, len, out, len);
+    return engine->open_run(cipher, rounds, key, key_len, counter, cipher / 8, offset, input, len, out, len);
 }
 
 static uint32_t server(uint64_t offset, size_t len)
@@ -51,12 +51,12 @@ static uint32_t card(uint64_t offset, size_t len)
 
 #ifdef BEFORE
 /* The card of another build, whose names have `before_` in front. */
-__typeof__(fox_card_run) before_fox_card_run;
+__typeof__(fox_card_open_run) before_fox_card_open_run;
 __typeof__(fox_card_make_tag) before_fox_card_make_tag;
 
 static uint32_t card_before(uint64_t offset, size_t len)
 {
-    return before_fox_card_run(cipher, rounds, key, key_len, counter, cipher / 8, offset, input, len, out, len);
+    return before_fox_card_open_run(cipher, rounds, key, key_len, counter, cipher / 8, offset, input, len, out, len);
 }
 
 static uint32_t tag_before(uint64_t offset, size_t len)
@@ -143,6 +143,17 @@ static int same(const char *name, uint32_t refusal, uint64_t offset, size_t len,
     return right;
 }
 
+/* Opening, and sealing where the key is long enough for it. */
+static int engine_agrees(const struct engine *engine, uint64_t offset, size_t len)
+{
+    int right = same(engine->name, by_engine(engine, offset, len), offset, len, len);
+    if (!right || key_len < FOX_LEAST_SEAL_KEY)
+        return right;
+    uint32_t refusal =
+        engine->seal_run(cipher, rounds, key, key_len, counter, cipher / 8, offset, input, len, out, len);
+    return same(engine->name, refusal, offset, len, len);
+}
+
 /* Holds every kind of plain code, every engine and the other build's card to the server's answer. */
 static int agrees(uint64_t offset, size_t len)
 {
@@ -156,7 +167,7 @@ static int agrees(uint64_t offset, size_t len)
     };
     int right = kept(server(offset, len), len);
     for (size_t i = 0; right && i < ENGINES; i++)
-        right = same(engines[i].name, by_engine(&engines[i], offset, len), offset, len, len);
+        right = engine_agrees(&engines[i], offset, len);
     for (size_t i = 0; right && i < COUNT(kinds); i++)
         right = same(kinds[i].name, kinds[i].work(offset, len), offset, len, len);
     return right;

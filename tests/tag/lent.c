@@ -23,8 +23,8 @@ void prepare_lent(void)
 
 struct call served_call(const struct engine *engine, uint32_t cipher)
 {
-    struct call c = {cipher, 16, lent.key, 16, lent.stored, block_of(cipher), 0, lent.message, CASE_LEN, lent.stored,
-                     block_of(cipher)};
+    struct call c = {cipher, 16, lent.key, below(FOX_MOST_KEY + 1), lent.stored, block_of(cipher), 0, lent.message,
+                     CASE_LEN, lent.stored, block_of(cipher)};
     check_answer(engine, MAKE_TAG, &c, FOX_SERVED);
     before = lent;
     c.out = lent.tag;

@@ -21,8 +21,8 @@ extern const uint8_t *nowhere;
 /* Called once, before all else. */
 void prepare_lent(void);
 
-/* A call over CASE_LEN bytes that is served where the tag is made, and where that at `stored`, which the engine makes
- * here, is tested. */
+/* A call over CASE_LEN bytes, with a key of any length, that is served where the tag is made, and where that at `stored`,
+ * which the engine makes here, is tested. */
 struct call served_call(const struct engine *engine, uint32_t cipher);
 
 /* Two cases: the call answers with this number, a refusal, and has changed nothing. */

@@ -1,6 +1,7 @@
 /* Long messages, whose tag is known from a short one. A period is a message after which the chain of sealed blocks is
  * back at the zeros from which it began; so any number of them may stand before a message, and the tag stays. The
- * period's blocks are sealed by the engine itself, and the short tag is another engine's. */
+ * period's blocks come of a chain that the engine itself has opened, which takes every key, as tags do; the short tag is
+ * another engine's. */
 #include "chance.h"
 #include "check.h"
 #include "faults.h"
@@ -21,26 +22,17 @@ static void add(uint8_t *to, const uint8_t *bytes, size_t len)
         to[i] ^= bytes[i];
 }
 
-static void turn(const struct engine *engine, enum verb verb, struct call c, const uint8_t *from, uint8_t *to)
+/* Each block is what leads from one sealed block of the chain to the next: zeros, any, and zeros again at last. */
+static void make_period(const struct engine *engine, struct call c, uint8_t *period)
 {
-    c.first = from, c.out = to;
-    check_answer(engine, verb, &c, FOX_SERVED);
-}
-
-/* Its last block makes the chain the block that is sealed to zeros. */
-static void make_period(const struct engine *engine, const struct call *c, uint8_t *period)
-{
-    const size_t b = c->first_len;
-    uint8_t chain[FOX128_BLOCK] = {0}, next[FOX128_BLOCK], *last = period + (PERIOD - 1) * b;
-    fill(period, PERIOD * b);
-    for (uint8_t *block = period; block < last; block += b) {
-        add(chain, block, b);
-        turn(engine, SEAL, *c, chain, next);
-        memcpy(chain, next, b);
+    const size_t b = c.first_len;
+    uint8_t chain[(PERIOD + 1) * FOX128_BLOCK] = {0};
+    fill(chain + b, (PERIOD - 1) * b);
+    for (size_t i = 0; i < PERIOD; i++) {
+        c.first = chain + (i + 1) * b, c.out = period + i * b;
+        check_answer(engine, OPEN, &c, FOX_SERVED);
+        add(c.out, chain + i * b, b);
     }
-    memset(next, 0, b);
-    turn(engine, OPEN, *c, next, last);
-    add(last, chain, b);
 }
 
 static const struct engine *another(const struct engine *engine)
@@ -84,7 +76,7 @@ static void of_cipher(const struct engine *engine, uint32_t cipher)
     if (message == NULL || end < 2 * period)
         abort();
     fill(key, sizeof key);
-    make_period(engine, &c, message);
+    make_period(engine, c, message);
     for (size_t at = period; at < end; at += period)
         memcpy(message + at, message, period);
     fill(message + end, 2 * b);

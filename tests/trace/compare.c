@@ -104,8 +104,10 @@ static void take(enum sort sort, struct seen s)
 static uint64_t entry_of(enum verb verb)
 {
     switch (verb) {
-    case RUN:
-        return (uintptr_t)engine->run;
+    case SEAL_RUN:
+        return (uintptr_t)engine->seal_run;
+    case OPEN_RUN:
+        return (uintptr_t)engine->open_run;
     case MAKE_TAG:
         return (uintptr_t)engine->make_tag;
     case TEST_TAG:
@@ -171,8 +173,8 @@ enum asked { SAME, DIFFERENT, EITHER };
 static enum asked asked(enum verb verb, enum sort sort)
 {
     static const enum asked of_faulty[VERBS][SORTS] = {
-        [SEAL] = {DIFFERENT, EITHER}, [OPEN] = {DIFFERENT, EITHER},     [RUN] = {SAME, DIFFERENT},
-        [MAKE_TAG] = {SAME, DIFFERENT}, [TEST_TAG] = {DIFFERENT, EITHER},
+        [SEAL] = {DIFFERENT, EITHER},   [OPEN] = {DIFFERENT, EITHER},   [SEAL_RUN] = {SAME, DIFFERENT},
+        [OPEN_RUN] = {SAME, DIFFERENT}, [MAKE_TAG] = {SAME, DIFFERENT}, [TEST_TAG] = {DIFFERENT, EITHER},
     };
     static const enum asked of_tables[SORTS] = {EITHER, DIFFERENT};
     if (engine == &faulty)

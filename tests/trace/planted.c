@@ -83,16 +83,19 @@ static uint32_t tested(step *by, struct call c, int exits)
 
 BLOCK_CALL(constant_seal, doubled)
 BLOCK_CALL(constant_open, doubled)
-RUN_CALL(constant_run, doubled)
+RUN_CALL(constant_seal_run, doubled)
+RUN_CALL(constant_open_run, doubled)
 TAG_CALLS(constant_make, constant_test, doubled, 0)
-const struct engine constant = {"constant",    constant_seal, constant_open, constant_run, constant_make,
-                                constant_test, 0,             0};
+const struct engine constant = {"constant",    constant_seal, constant_open, constant_seal_run, constant_open_run,
+                                constant_make, constant_test, 0,             0};
 
 BLOCK_CALL(faulty_seal, planted_double)
 BLOCK_CALL(faulty_open, planted_halve)
-RUN_CALL(faulty_run, looked_up)
+RUN_CALL(faulty_seal_run, looked_up)
+RUN_CALL(faulty_open_run, looked_up)
 TAG_CALLS(faulty_make, faulty_test, looked_up, 1)
-const struct engine faulty = {"faulty", faulty_seal, faulty_open, faulty_run, faulty_make, faulty_test, 0, 0};
+const struct engine faulty = {"faulty",    faulty_seal, faulty_open, faulty_seal_run, faulty_open_run,
+                              faulty_make, faulty_test, 0,           0};
 
 const struct engine *engine_of(const char *name)
 {

@@ -37,7 +37,7 @@ void mark_wrong(void);
 void mark_end(void);
 
 /* Engines that are no part of the library: `constant` has neither a branch nor an address by a secret byte; in `faulty`
- * sealing, opening and testing branch by one, and a run and the making of a tag look one up. */
+ * sealing and opening a block and testing a tag branch by one, and runs and the making of a tag look one up. */
 extern const struct engine constant, faulty;
 
 /* An engine of the library, or one of these; NULL for another name. */

@@ -3,6 +3,7 @@
  * Last line: 'N passed, M failed'. */
 #include "call.h"
 #include "count.h"
+#include "file.h"
 #include "file_call.h"
 #include "fox.h"
 #include "painted.h"
@@ -55,14 +56,15 @@ static void prepare(uint32_t cipher, size_t key_len)
     call.out_len = right_out_len(verb, &call);
 }
 
-/* A file of two scans, the first of which is read. The library writes it, and takes it up, before. */
+/* A file of two scans, the first of which is read. It is written before, under any key, and taken up by the library. */
 static void prepare_file(uint32_t cipher, size_t key_len)
 {
     static const uint64_t lengths[] = {LENGTH - 50, 50};
     struct file_call *c = &file_call;
     *c = (struct file_call){cipher, ROUNDS, key, key_len, first, block_of(cipher), data, sizeof data, lengths,
                             COUNT(lengths), file, 0, place, file, sizeof file, &count};
-    answer = (uint32_t)make_file_call(FILE_WRITE, c);
+    answer = second_old_file_write(cipher, ROUNDS, key, key_len, first, c->counter_len, data, sizeof data, lengths,
+                                   COUNT(lengths), file, sizeof file, &count);
     c->file_len = (size_t)count;
     answer += (uint32_t)make_file_call(FILE_TAKE_UP, c);
     if (file_verb == FILE_READ)
@@ -74,14 +76,15 @@ static void prepare_session(uint32_t cipher, size_t key_len)
 {
     session_call = (struct session_call){cipher, ROUNDS, key, key_len, first, block_of(cipher), words_of_session, data,
                                          sizeof data, out, sizeof data, 1000};
-    answer = make_session_call(SESSION_START, &session_call);
+    answer = make_session_call(SESSION_START_OPENING, &session_call);
 }
 
-/* How a call is prepared and made, by what name it goes, what it answers, and whether it may leave nothing behind. */
+/* How a call is prepared and made, by what name it goes, what it answers, to a key that is too short to seal with too,
+ * and whether it may leave nothing behind. */
 struct made {
     void (*prepare)(uint32_t cipher, size_t key_len), (*make)(void);
     char name[40];
-    uint32_t right;
+    uint32_t right, right_to_short;
     int none;
 };
 
@@ -103,7 +106,7 @@ static struct left left_by(const struct made *made, uint32_t cipher, size_t key_
                          words_left(round_keys, block * ROUNDS, WORD)};
 }
 
-/* Keys that are mixed and keys that are not, for each cipher. */
+/* Keys that are mixed and keys that are not, for each cipher. A call that is refused for its key leaves nothing of it. */
 static void one_call(const struct made *made)
 {
     static const size_t key_lens[] = {12, 16, 24, FOX_MOST_KEY};
@@ -111,8 +114,10 @@ static void one_call(const struct made *made)
     int some = 1;
     for (size_t i = 0; i < 2 * COUNT(key_lens); i++) {
         uint32_t cipher = i % 2 == 0 ? FOX64 : FOX128;
+        uint32_t right = key_lens[i / 2] < FOX_LEAST_SEAL_KEY ? made->right_to_short : made->right;
         struct left l = left_by(made, cipher, key_lens[i / 2], 0), w = left_by(made, cipher, key_lens[i / 2], 1);
-        some &= (made->none || l.keys + l.round_keys > 0) && answer == made->right;
+        int any = l.keys + l.round_keys > 0;
+        some &= answer == right && (made->none || any == (right != FOX_REFUSED_SHORT_KEY));
         without.keys += l.keys, without.round_keys += l.round_keys;
         after.keys += w.keys, after.round_keys += w.round_keys;
     }
@@ -124,7 +129,8 @@ static void one_call(const struct made *made)
 /* No tag that is tested here is right. */
 static void engine_call(void)
 {
-    struct made made = {prepare, caller, "", verb == TEST_TAG ? FOX_REFUSED_TAG : FOX_SERVED, 0};
+    const uint32_t right = verb == TEST_TAG ? FOX_REFUSED_TAG : FOX_SERVED;
+    struct made made = {prepare, caller, "", right, verbs[verb].seals ? FOX_REFUSED_SHORT_KEY : right, 0};
     snprintf(made.name, sizeof made.name, "%s_%s", engine->name, verbs[verb].name);
     one_call(&made);
 }
@@ -133,7 +139,9 @@ static void engine_call(void)
 static void calls_on_sessions(void)
 {
     for (session_verb = 0; session_verb < SESSION_VERBS; session_verb++) {
-        struct made made = {prepare_session, session_caller, "", FOX_SERVED, session_verb == SESSION_MOVE};
+        struct made made = {prepare_session, session_caller, "", FOX_SERVED, FOX_SERVED, session_verb == SESSION_MOVE};
+        if (session_verb == SESSION_START_SEALING)
+            made.right_to_short = FOX_REFUSED_SHORT_KEY;
         snprintf(made.name, sizeof made.name, "%s", session_verbs[session_verb]);
         one_call(&made);
     }
@@ -142,7 +150,9 @@ static void calls_on_sessions(void)
 static void calls_on_files(void)
 {
     for (file_verb = 0; file_verb < FILE_VERBS; file_verb++) {
-        struct made made = {prepare_file, file_caller, "", FOX_SERVED, 0};
+        struct made made = {prepare_file, file_caller, "", FOX_SERVED, FOX_SERVED, 0};
+        if (file_verb == FILE_WRITE)
+            made.right_to_short = FOX_REFUSED_SHORT_KEY;
         snprintf(made.name, sizeof made.name, "%s", file_verbs[file_verb].name);
         if (file_verbs[file_verb].has & HAS_KEY)
             one_call(&made);
@@ -175,7 +185,7 @@ static void one_array(void)
 static void with_session(void)
 {
     uint64_t session[FOX_SESSION_WORDS];
-    answer = fox_session_start(FOX128, ROUNDS, key, sizeof key, first, FOX128_BLOCK, session);
+    answer = fox_session_start_sealing(FOX128, ROUNDS, key, sizeof key, first, FOX128_BLOCK, session);
     answer += fox_session_advance(session, data, sizeof data, out, sizeof data);
     if (wiping & 1)
         fox_wipe_stack();

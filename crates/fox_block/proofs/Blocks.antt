@@ -15,7 +15,7 @@ use Rattle.fox_key_schedule.specs.Schedule.{roundKeys}
 use Rattle.fox_refusals.specs.Refusals.{blockSize, forBlock, Keyed, LongFor}
 use Rattle.fox_refusals.specs.Reply.{Served, Refused, Same}
 use Rattle.fox_refusals.specs.declared.answer.Answer.{Answer}
-use Rattle.fox_refusals.proofs.Laws.Refusals.{blocked-served}
+use Rattle.fox_refusals.proofs.Laws.Refusals.{blocked-served, to-open}
 use Rattle.fox_refusals.proofs.Laws.Reply.{served, short-key-refused, same}
 use Rattle.fox_block.specs.Block.{state, bytes, turnWith, sealBlock, openBlock, BlockOf}
 use Rattle.fox_block.specs.Promise.{TurnsWith, TurnedBack}
@@ -49,6 +49,13 @@ module _ (d : Bool) (c rounds keyLen : ℕ) (ks block : List ℕ) (k : Keyed c r
   block-served room call =
       let s = served call (blocked-served d (record { keyed = k; long = long; block = size; output = room ∙ sym size })) in
       record { refusal = s .refusal; count = s .count ∙ room; output = s .output }
+
+-- Old blocks open: a call that opens what the definition seals, with a key of any length from 0 to 32 bytes, gives the block back.
+pub old-block-opened : (c rounds keyLen : ℕ) (ks block : List ℕ) {before after : List ℕ} {r : Answer} → Keyed c rounds keyLen → BlockOf c block
+    → length before ≡ blockSize c → TurnsWith false c rounds keyLen ks (turnWith true c ks block) before after r → Served (blockSize c) block after r
+old-block-opened c rounds keyLen ks block k b room call =
+    let s = block-served false c rounds keyLen ks _ k (to-open keyLen) (length-turned true c ks block) room call in
+    record { refusal = s .refusal; count = s .count; output = s .output ∙ turn-back-with true c ks block b }
 
 -- A call that seals a block with a key under 16 bytes is refused with 13, with nothing else wrong with the key, whatever block and output are.
 pub short-key-block : (c rounds keyLen : ℕ) (ks block : List ℕ) {before after : List ℕ} {r : Answer} → Keyed c rounds keyLen → keyLen < 16

@@ -22,11 +22,16 @@ fn one_block(s: Schedule, rounds: u8, x: State, n: usize, input: &[u8], out: &mu
     xor_part(sealed, n % size, input, out)
 }
 
+// The first block stands before the loop: as it is called from two places, `one_block` has a frame of its own on the stack, which is not there while the key
+// is mixed.
 pub(crate) fn stretch(s: Schedule, rounds: u8, x: State, n: usize, input: &[u8], out: &mut [u8])
     requires { ⌜ (1 ≤ rounds) × (n + length (now input) ≤ 1073741824) × (length (now out) ≡ length (now input)) ⌝ }
     ensures { λ _. ⌜ now (out .exit) ≡ xorFrom (stream (roundKeysOf s rounds) x) n (now (input .entry)) ⌝ }
 {
-    let mut at = 0;
+    if input.len() == 0 {
+        return;
+    }
+    let mut at = one_block(s, rounds, x, n, input, out);
     while at < input.len() {
         let done = one_block(s, rounds, x, n + at, &input[at..], &mut out[at..]);
         at = at + done;

@@ -101,5 +101,5 @@ pub known-tags :
     ++ (9 ∷ 9 ∷ [])
     ++ (0 ∷ 0 ∷ [])
     ++ (10 ∷ [])
-unfolding refusalOf blockSize wrongCipher wrongRounds longKey longMessage wrongTagLength same otherTag forKey forTag forTagTest
+unfolding refusalOf blockSize wrongCipher wrongRounds longKey shortKey longMessage wrongTagLength same otherTag forKey forTurn forTag forTagTest
 known-tags = refl

@@ -4,12 +4,12 @@
 -- sealing with a key under 16 bytes is refused with 13.
 -- Assumes nothing.
 use mathlib.Core.Path.{_≡_, ap, _∙_}
-use mathlib.Core.Bool.{Bool, true}
+use mathlib.Core.Bool.{Bool, true, false}
 use mathlib.Core.List.{List}
 use Prim.Native.Nat.{ℕ, _<_}
 use native.Mathlib.Omega.{arith}
 use lib.ListN.{length}
-use Rattle.fox_refusals.specs.Refusals.{forRun, Keyed, LongFor}
+use Rattle.fox_refusals.specs.Refusals.{forRun, Keyed, LongFor, Stretched}
 use Rattle.fox_refusals.specs.Reply.{Served, Refused, Same}
 use Rattle.fox_refusals.specs.declared.answer.Answer.{Answer}
 use Rattle.fox_refusals.proofs.Laws.Reply.{short-key-refused, same}
@@ -40,6 +40,14 @@ module _ (c rounds k : ℕ) (rks counter : List ℕ) (offset : ℕ) (ds : List �
         count = opened .count ∙ long;
         output = opened .output ∙ ap (runWith c rks counter offset) sealed ∙ run-twice c rks counter offset ds;
       }
+
+  -- old runs open: a call that opens what the definition seals, with a key of any length from 0 to 32 bytes, gives the bytes back
+  pub old-run-opened : {before after : List ℕ} {r : Answer} → Stretched false c rounds k (length counter) offset (length ds) (length before)
+      → RunsWith false c rounds k rks counter offset (runWith c rks counter offset ds) before after r → Served (length ds) ds after r
+  old-run-opened h call =
+      let long = length-runWith c rks counter offset ds in
+      let s = call-served false c rounds k rks counter offset (runWith c rks counter offset ds) call (rw long h) in
+      record { refusal = s .refusal; count = s .count ∙ long; output = s .output ∙ run-twice c rks counter offset ds }
 
   -- sealing with a key under 16 bytes is refused with 13, with nothing else wrong with the key
   pub short-key-run : {before after : List ℕ} {r : Answer} → Keyed c rounds k → k < 16 → RunsWith true c rounds k rks counter offset ds before after r

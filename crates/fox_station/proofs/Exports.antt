@@ -1,7 +1,7 @@
 -- The theorems on the calls that C programs make, by either engine: what an export returns is a call's reply, so every theorem on calls holds of exports.
 -- Assumes nothing.
 use mathlib.Core.Path.{_≡_, refl, sym, ap, _∙_}
-use mathlib.Core.Bool.{Bool, true, not, cond}
+use mathlib.Core.Bool.{Bool, true, false, not, cond}
 use mathlib.Core.List.{List}
 use mathlib.Core.Logic.{_⊎_}
 use Prim.Native.Nat.{ℕ, _+_, _/_, _%_, _^_, _≤_, _<_}
@@ -17,14 +17,14 @@ use Rattle.fox_refusals.proofs.Laws.Reply.{refused, handed-reply}
 use Rattle.fox_key_schedule.specs.Schedule.{roundKeys}
 use Rattle.fox_block.specs.Block.{turnBlock, sealBlock, BlockOf}
 use Rattle.fox_block.specs.Promise.{TurnedBack}
-use Rattle.fox_block.proofs.Blocks.{block-served, short-key-block, blocks-same, turned-back-calls}
+use Rattle.fox_block.proofs.Blocks.{block-served, old-block-opened, short-key-block, blocks-same, turned-back-calls}
 use Rattle.fox_run.specs.Counter.{counterBlock, firstCounter}
 use Rattle.fox_run.specs.Run.{run}
 use Rattle.fox_run.specs.Promise.{Runs}
 use Rattle.fox_run.specs.Cuts.{Call, CallsOf, CutOf}
 use Rattle.fox_run.proofs.Laws.Served.{call-served}
 use Rattle.fox_run.proofs.Bytes.{call-byte}
-use Rattle.fox_run.proofs.Runs.{opened-sealed, short-key-run, runs-same}
+use Rattle.fox_run.proofs.Runs.{opened-sealed, old-run-opened, short-key-run, runs-same}
 use Rattle.fox_run.proofs.Numbers.{counter-made, made-apart}
 use Rattle.fox_run.proofs.Stretches.{stretch-opened-alone, cuts-joined, cuts-agree, cuts-undone, cuts-opened, stretch-of-cuts}
 use Rattle.fox_tag.specs.Tag.{tag}
@@ -58,6 +58,20 @@ pub run-exports-agree : (d : Bool) (c rounds : ℕ) (key counter : List ℕ) (of
     → Same before₁ before₂ after₁ after₂ (answer m (length before₁)) (answer n (length before₂))
 run-exports-agree d c rounds key counter offset ds l a b =
     runs-same c rounds (length key) (roundKeys c rounds key) counter offset ds d l (handed-reply a) (handed-reply b)
+
+-- old blocks and runs open: an export that opens what the definition seals, with a key of any length from 0 to 32 bytes, gives it back
+
+pub old-block-export : (c rounds : ℕ) (key block : List ℕ) {before after : List ℕ} {n : ℕ} → Keyed c rounds (length key) → BlockOf c block
+    → length before ≡ blockSize c → TurnHanded false c rounds key (sealBlock c rounds key block) before after n
+    → Served (blockSize c) block after (answer n (length before))
+old-block-export c rounds key block k b room call =
+    old-block-opened c rounds (length key) (roundKeys c rounds key) block k b room (handed-reply call)
+
+pub old-run-export : (c rounds : ℕ) (key counter : List ℕ) (offset : ℕ) (ds : List ℕ) {before after : List ℕ} {n : ℕ}
+    → Stretched false c rounds (length key) (length counter) offset (length ds) (length before)
+    → RunHanded false c rounds key counter offset (run c rounds key counter offset ds) before after n → Served (length ds) ds after (answer n (length before))
+old-run-export c rounds key counter offset ds h call =
+    old-run-opened c rounds (length key) (roundKeys c rounds key) counter offset ds h (handed-reply call)
 
 -- an export that seals with a key under 16 bytes is refused with 13, with nothing else wrong with the key
 

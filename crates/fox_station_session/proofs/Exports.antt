@@ -24,7 +24,7 @@ use Rattle.fox_server_key.specs.Prepared.{preparedKey}
 use Rattle.fox_server_session_step.specs.Step.{machineAt}
 use Rattle.fox_station.specs.Exports.{RunHanded}
 use Rattle.fox_station.proofs.Exports.{run-exports-agree, run-export-served, run-opened-sealed}
-use Rattle.fox_station_session.specs.Sessions.{sessionIn, machineIn, TrueIn, noWords, StartHanded, CallHanded, plainAt, Stands, refusedWith}
+use Rattle.fox_station_session.specs.Sessions.{directionWord, sessionIn, machineIn, TrueIn, noWords, StartHanded, CallHanded, plainAt, Stands, refusedWith}
 
 -- the order of the 519 words
 pub words-order : (keys : List ℕ) → length keys ≡ 510
@@ -115,7 +115,11 @@ module _ (d : Bool) (c r : ℕ) (key counter : List ℕ) where
         → (tolds ≡ map (refusedWith 1) calls) × (words' ≡ noWords)
     start-refused-calls isnt plays = zeros-refused (start-refused isnt .1) plays
 
-    -- where it is served, every word of the prepared key is this key's, whatever the words were before
+    -- where it is served, the last word is that of the direction, and every word of the prepared key is this key's, whatever the words were before
+    pub start-direction : n ≡ 0 → getD words 518 0 ≡ directionWord d
+    unfolding answer
+    start-direction e = start .direction e
+
     pub start-key : n ≡ 0 → sessionIn words .key ≡ preparedKey c r key
     unfolding answer
     start-key e = start .held e

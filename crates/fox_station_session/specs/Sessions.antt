@@ -46,10 +46,11 @@ abbrev pub noWords : List ℕ
 noWords = replicate 519 0
 
 -- a start for sealing or for opening, from cipher, rounds, key bytes and counter block, with the words afterwards: where it is served, all words of the
--- prepared key are this key's, and none of an earlier session is left
+-- prepared key are this key's, and the last word is that of the direction
 pub record StartHanded (sealing : Bool) (cipher rounds : ℕ) (key counter : List ℕ) (r : Answer) (words : List ℕ) : Type 0 where
   pub starts : Starts machineIn TrueIn noWords sealing cipher rounds (length key) (roundKeys cipher rounds key) counter r words
   pub held : r .refusal ≡ 0 → sessionIn words .key ≡ preparedKey cipher rounds key
+  pub direction : r .refusal ≡ 0 → getD words 518 0 ≡ directionWord sealing
 
 -- a call, with the words before, the output and the words afterwards
 abbrev pub CallHanded : List ℕ → Call → List ℕ → Answer → List ℕ → Type 0

@@ -1,10 +1,10 @@
 // The station's calls on sessions, by the server engine, over 519 words that the caller lends: the round keys, cipher, rounds, key length, first counter block,
-// position, block in use, and whether the session seals or opens. Each returns the refusal number, 0 for success, from which the count follows: of an advance the output length, or 0; of a start
-// or a move 0.
+// position, block in use, and whether the session seals or opens. Each returns the refusal number, 0 for success, from which the count follows: of an advance
+// the output length, or 0; of a start or a move 0.
 ghost use mathlib.Core.Path.{_≡_};
 ghost use mathlib.Core.Bool.{true, false};
 ghost use mathlib.Core.List.{[]};
-ghost use lib.ListN.{length};
+ghost use lib.ListN.{length, getD};
 ghost use Rattle.fox_refusals.specs.Handed.{answer};
 ghost use Rattle.fox_session.specs.Machine.{Advance, Move};
 ghost use Rattle.fox_server_session.specs.Session.{basisOf, sessionAt};
@@ -52,7 +52,8 @@ fn here_in(words: &[u64]) -> Here
 // Writes where the session stands.
 fn write_here(words: &mut [u64], here: Here)
     requires { ⌜ length (now words) ≡ 519 ⌝ }
-    ensures { λ _. ⌜ sessionIn (now (words .exit)) ≡ sessionAt (sessionIn (now (words .entry))) here ⌝ }
+    ensures { λ _. ⌜ (sessionIn (now (words .exit)) ≡ sessionAt (sessionIn (now (words .entry))) here)
+        × (getD (now (words .exit)) 518 0 ≡ getD (now (words .entry)) 518 0) ⌝ }
 {
     let block = here.block;
     words[515] = here.position;
@@ -83,7 +84,7 @@ fn direction(sealing: bool) -> u64
 }
 
 fn words_of(s: Session) -> [u64; 519]
-    ensures { λ r. ⌜ sessionIn r ≡ s ⌝ }
+    ensures { λ r. ⌜ (sessionIn r ≡ s) × (getD r 518 0 ≡ directionWord (s .sealing)) ⌝ }
 {
     let key = s.key;
     let keys = key.keys;

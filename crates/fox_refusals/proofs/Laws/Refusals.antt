@@ -249,6 +249,22 @@ wrong-output sealing {c} {r} {k} {b} {d} {o} n h long block short other =
     let p = keyed-passed h in
     rw (p .0, p .1 .0, p .1 .1 .0, long-passed sealing k long, differs-passed b (blockSize c) block, le-ltb 65536 d short, ne-eqb o d other)
 
+-- opening, and sealing with a key of 16 bytes or more, is refused as if there were no 13, whatever tests follow
+
+pub as-before : (sealing : Bool) (c r k : ℕ) (rest : List Refusal) → LongFor sealing k → refusalOf (forTurn sealing c r k ++ rest) ≡ refusalOf (forKey c r k ++ rest)
+unfolding refusalOf forKey forTurn
+as-before sealing c r k rest long = rw (long-passed sealing k long)
+
+pub block-as-before : (sealing : Bool) (c r k b o : ℕ) → LongFor sealing k
+    → refusalOf (forBlock sealing c r k b o) ≡ refusalOf (forKey c r k ++ (wrongBlockLength c b ∷ wrongOutputLength b o ∷ []))
+unfolding forBlock
+block-as-before sealing c r k b o long = as-before sealing c r k _ long
+
+pub run-as-before : (sealing : Bool) (c r k b n d o : ℕ) → LongFor sealing k
+    → refusalOf (forRun sealing c r k b n d o) ≡ refusalOf (forKey c r k ++ forStretch c b n d o)
+unfolding forRun
+run-as-before sealing c r k b n d o long = as-before sealing c r k _ long
+
 -- a key under 16 bytes that is to seal is refused with 13, where nothing is wrong with it as a key, whatever tests follow
 pub short-key : {c r k : ℕ} (rest : List Refusal) → Keyed c r k → k < 16 → refusalOf (forTurn true c r k ++ rest) ≡ 13
 unfolding Passed refusalOf forKey forTurn shortKey

@@ -39,6 +39,13 @@ module _ (f : ℕ → ℕ) (n : ℕ) (ds os : List ℕ) where
       en ∙ ap₂ (λ (xs ys : List ℕ). xs ++ ys) done (ep ∙ ap (λ (xs : List ℕ). more ++ drop m xs) left)
       ∙ sym (append-assoc front more (drop m (drop at os))) ∙ ap₂ (λ (xs ys : List ℕ). xs ++ ys) whole (drop-drop m at os)
 
+  -- what is XORed up to a place is so whatever the output was before, and so where it was that itself
+  pub xoredTo-self : (at : ℕ) {now : List ℕ} → at ≤ length ds → XoredTo f n ds os at now → XoredTo f n ds now at now
+  xoredTo-self at {now} h laid =
+      let front = xorFrom f n (take at ds) in
+      let size : length front ≡ at = length-xorFrom f n (take at ds) ∙ length-take-le at ds h in
+      laid ∙ ap (λ (xs : List ℕ). front ++ xs) (sym (ap (drop at) laid ∙ drop-at front (drop at os) at size))
+
   -- the same in the form of an obligation on parts from `at` to the end, one passed for reading and one for writing
   pub xoredTo-next : (at m : ℕ) (now part : List ℕ) → at + m ≤ length ds → length os ≡ length ds → XoredTo f n ds os at now
       → XoredTo f (n + at) (midOf at (length ds - at) ds) (midOf at (length now - at) now) m part

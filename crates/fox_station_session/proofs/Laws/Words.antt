@@ -49,6 +49,10 @@ stored (v ∷ vs) l i (suc k) h within =
 abbrev hereIn : Here → List ℕ
 hereIn here = here .position ∷ here .block .left ∷ here .block .right ∷ []
 
+-- where a session stands is stored before the last word
+pub last-kept : (words : List ℕ) (here : Here) → getD (sets words 515 (hereIn here)) 518 0 ≡ getD words 518 0
+last-kept words here = beyond (hereIn here) words 515 518 (omega arith)
+
 pub here-stored : (words : List ℕ) (here : Here) → length words ≡ 519 → sessionIn (sets words 515 (hereIn here)) ≡ sessionAt (sessionIn words) here
 unfolding sessionIn
 here-stored words here long =
@@ -56,7 +60,7 @@ here-stored words here long =
     let past : (j : ℕ) → ltb j 515 ≡ true → getD now j 0 ≡ getD words j 0 = λ j h. before (hereIn here) words 515 j (ltb-true j 515 h) in
     let there : (k : ℕ) → ltb k 3 ≡ true → getD now (515 + k) 0 ≡ getD (hereIn here) k 0 =
     λ k h. stored (hereIn here) words 515 k (omega (arith, ltb-true k 3 h)) (ltb-true k 3 h) in
-    simp (past, there 0, there 1, there 2, front (hereIn here) words 515 510 (omega arith), beyond (hereIn here) words 515 518 (omega arith))
+    simp (past, there 0, there 1, there 2, front (hereIn here) words 515 510 (omega arith), last-kept words here)
 
 -- the words with what stays the same in a session, but for the round keys
 abbrev basisIn : Session → List ℕ
@@ -68,6 +72,10 @@ unfolding directionWord
 direction-told true = refl
 direction-told false = refl
 
+-- the last word after all others
+pub last-stored : (words : List ℕ) (s : Session) (d : ℕ) → length words ≡ 519 → getD (set (sets words 510 (basisIn s)) 518 d) 518 0 ≡ d
+last-stored words s d long = getD-set-same (sets words 510 (basisIn s)) 518 d 0 (omega (arith, length-stored (basisIn s) words 510))
+
 pub all-stored : (words : List ℕ) (s : Session) → length words ≡ 519 → take 510 words ≡ s .key .keys → s .key .cipher < 2 ^ 32 → s .key .rounds < 2 ^ 32
     → {d : ℕ} → d ≡ directionWord (s .sealing) → sessionAt (sessionIn (set (sets words 510 (basisIn s)) 518 d)) (s .here) ≡ s
 unfolding sessionIn
@@ -77,7 +85,7 @@ all-stored words s long keys hc hr {d} e =
     λ k h. stored (basisIn s) words 510 k (omega (arith, ltb-true k 5 h)) (ltb-true k 5 h) in
     let past : (j : ℕ) → ltb j 518 ≡ true → getD (set now 518 d) j 0 ≡ getD now j 0 =
     λ j h. getD-set-other now 518 j d 0 (λ q. omega (arith, ltb-true j 518 h)) in
-    let last : getD (set now 518 d) 518 0 ≡ directionWord (s .sealing) = getD-set-same now 518 d 0 (omega (arith, length-stored (basisIn s) words 510)) ∙ e in
+    let last : getD (set now 518 d) 518 0 ≡ directionWord (s .sealing) = last-stored words s d long ∙ e in
     simp (
       past,
       there 0,

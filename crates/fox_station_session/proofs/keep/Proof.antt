@@ -8,7 +8,7 @@ use Rattle.fox_station_session.proofs.keep.Tie as tie
 returns : tie.Need-returns
 returns c =
     let served = c .before .before .before .before .if1 .taken in
-    record { refusal = refl; served = λ z. c .before .before .write-here .ensures; refused = λ isnt. absurd (isnt served) }
+    record { refusal = refl; served = λ z. c .before .before .write-here .ensures .0; refused = λ isnt. absurd (isnt served) }
 
 returns-2 : tie.Need-returns-2
 returns-2 c = record { refusal = refl; served = λ z. absurd (c .if1 .left z); refused = λ isnt. refl }

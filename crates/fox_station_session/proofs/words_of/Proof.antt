@@ -8,7 +8,7 @@ use native.Mathlib.Numerals.{add-one}
 use native.Mathlib.Omega.{arith}
 use lib.ListN.{length, take, length-set}
 use lib.Seq.{take-suc, take-suc-set, take-all}
-use Rattle.fox_station_session.proofs.Laws.Words.{all-stored}
+use Rattle.fox_station_session.proofs.Laws.Words.{last-stored, all-stored}
 use Rattle.fox_station_session.proofs.words_of.Statement.{statement}
 use Rattle.fox_station_session.proofs.words_of.Tie as tie
 
@@ -40,9 +40,12 @@ returns c =
     let start = known .before .before .before .before .before .before .before in
     let all : at .i ≡ 510 = omega arith in
     let keys = rw all at (at .inv .2) ∙ take-all 510 (start .args .s .key .keys) (omega (arith, keys-long start)) in
-    c .before .write-here .ensures
-    ∙ all-stored (at .words) (start .args .s) (at .inv .1) keys (known .before .struct-known .given .0 .fits) (known .struct-known2 .given .1 .0 .fits)
-    (made .direction .ensures)
+    let stored = c .before .write-here .ensures in (
+      stored .0
+      ∙ all-stored (at .words) (start .args .s) (at .inv .1) keys (known .before .struct-known .given .0 .fits) (known .struct-known2 .given .1 .0 .fits)
+      (made .direction .ensures),
+      stored .1 ∙ last-stored (at .words) (start .args .s) _ (at .inv .1) ∙ made .direction .ensures,
+    )
 
 pub words-of-spec : {M : Type 1} → statement M
 words-of-spec =
