@@ -46,14 +46,9 @@ static uint32_t nothing(uint32_t bits, uint32_t amount)
 enum { SHORT = 256, LONG = 768 };
 static uint8_t key[FOX_MOST_KEY], counter[FOX128_BLOCK], input[LONG], out[LONG];
 
-static uint32_t sealed_run(uint32_t bits, uint32_t bytes)
+static uint32_t server_run(uint32_t bits, uint32_t bytes)
 {
     return fox_server_seal_run(bits, 16, key, 16, counter, bits / 8, 0, input, bytes, out, bytes);
-}
-
-static uint32_t opened_run(uint32_t bits, uint32_t bytes)
-{
-    return fox_server_open_run(bits, 16, key, 16, counter, bits / 8, 0, input, bytes, out, bytes);
 }
 
 static uint32_t server_tag(uint32_t bits, uint32_t bytes)
@@ -135,10 +130,10 @@ static void of_bytes(work *job, const char *where, uint32_t bits, long limit)
 static void of_carries(uint32_t bits)
 {
     uint32_t bytes = 6 * bits / 8;
-    int served = sealed_run(bits, bytes) == FOX_SERVED;
-    long none = steps(sealed_run, bits, bytes);
+    int served = server_run(bits, bytes) == FOX_SERVED;
+    long none = steps(server_run, bits, bytes);
     memset(counter, 0xFF, sizeof counter);
-    long all = steps(sealed_run, bits, bytes);
+    long all = steps(server_run, bits, bytes);
     memset(counter, 0xA5, sizeof counter);
     figure(served && none > 0 && all == none,
            "instructions of the server's run on six FOX%u blocks: %ld where nothing is carried, %ld where every word is",
@@ -185,14 +180,13 @@ void instructions(void)
     }
     of_block(FOX64, INSTRUCTIONS_64);
     of_block(FOX128, INSTRUCTIONS_128);
-    of_bytes(sealed_run, "sealed in the server's run", FOX64, RUN_INSTRUCTIONS_64);
-    of_bytes(sealed_run, "sealed in the server's run", FOX128, RUN_INSTRUCTIONS_128);
+    of_bytes(server_run, "in the server's run", FOX64, RUN_INSTRUCTIONS_64);
+    of_bytes(server_run, "in the server's run", FOX128, RUN_INSTRUCTIONS_128);
     of_carries(FOX64);
     of_carries(FOX128);
     of_session(FOX64);
     of_session(FOX128);
     /* Both ciphers go by the same code there, and stepping takes its time. */
-    of_bytes(opened_run, "opened in the server's run", FOX64, RUN_INSTRUCTIONS_64);
     beyond(FOX64, RUN_INSTRUCTIONS_64);
     of_bytes(server_tag, "in the server's tag", FOX64, TAG_INSTRUCTIONS_64);
     of_bytes(server_tag, "in the server's tag", FOX128, TAG_INSTRUCTIONS_128);

@@ -7,10 +7,11 @@ use mathlib.Core.List.{List}
 use lib.ListN.{length}
 use Rattle.fox_refusals.specs.Refusals.{forRun, forCounter}
 use Rattle.fox_refusals.specs.Reply.{Reply}
+use Rattle.fox_refusals.specs.Handed.{Handed}
 use Rattle.fox_refusals.specs.declared.answer.Answer.{Answer}
 use Rattle.fox_key_schedule.specs.Schedule.{roundKeys}
 use Rattle.fox_run.specs.Counter.{firstCounter}
-use Rattle.fox_run.specs.Run.{runWith}
+use Rattle.fox_run.specs.Run.{runWith, run}
 
 -- from cipher, rounds, key length, a list of round keys, counter block, offset and input, with the output before and after
 abbrev pub RunsWith : Bool → ℕ → ℕ → ℕ → List ℕ → List ℕ → ℕ → List ℕ → List ℕ → List ℕ → Answer → Type 0
@@ -20,6 +21,12 @@ RunsWith sealing cipher rounds keyLen rks counter offset input before after r =
 -- from cipher, rounds and key bytes, with the round keys of this key
 abbrev pub Runs : Bool → ℕ → ℕ → List ℕ → List ℕ → ℕ → List ℕ → List ℕ → List ℕ → Answer → Type 0
 Runs sealing cipher rounds key = RunsWith sealing cipher rounds (length key) (roundKeys cipher rounds key)
+
+-- the same as the refusal number alone, from which the count follows
+abbrev pub RunsHanded : Bool → ℕ → ℕ → List ℕ → List ℕ → ℕ → List ℕ → List ℕ → List ℕ → ℕ → Type 0
+RunsHanded sealing cipher rounds key counter offset input before after r =
+    Handed (forRun sealing cipher rounds (length key) (length counter) offset (length input) (length before)) (run cipher rounds key counter offset input)
+    before after r
 
 -- from cipher and the run's number, with the output before and after
 abbrev pub MakesCounter : ℕ → ℕ → List ℕ → List ℕ → Answer → Type 0

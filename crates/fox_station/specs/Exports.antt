@@ -6,12 +6,12 @@ use mathlib.Core.List.{List}
 use Prim.Native.Nat.{ℕ}
 use lib.Dec.{eqb}
 use lib.ListN.{length}
-use Rattle.fox_refusals.specs.Refusals.{refusalOf, forBlock, forRun, forCounter, forTag, forTagTest}
+use Rattle.fox_refusals.specs.Refusals.{refusalOf, forBlock, forCounter, forTag, forTagTest}
 use Rattle.fox_refusals.specs.Handed.{Handed}
 use Rattle.fox_refusals.specs.declared.answer.Answer.{Answer}
 use Rattle.fox_block.specs.Block.{turnBlock}
 use Rattle.fox_run.specs.Counter.{firstCounter}
-use Rattle.fox_run.specs.Run.{run}
+use Rattle.fox_run.specs.Promise.{RunsHanded}
 use Rattle.fox_tag.specs.Tag.{tag}
 
 -- one block sealed or opened, from cipher, rounds, key bytes and block, with the output before and after
@@ -21,9 +21,7 @@ TurnHanded sealing cipher rounds key block before after r =
 
 -- a stretch of a run sealed or opened, from cipher, rounds, key bytes, counter block, offset and input, with the output before and after
 abbrev pub RunHanded : Bool → ℕ → ℕ → List ℕ → List ℕ → ℕ → List ℕ → List ℕ → List ℕ → ℕ → Type 0
-RunHanded sealing cipher rounds key counter offset input before after r =
-    Handed (forRun sealing cipher rounds (length key) (length counter) offset (length input) (length before)) (run cipher rounds key counter offset input)
-    before after r
+RunHanded = RunsHanded
 
 -- a run's first counter block, from cipher and the run's number, with the output before and after
 abbrev pub CounterHanded : ℕ → ℕ → List ℕ → List ℕ → ℕ → Type 0

@@ -3,7 +3,7 @@
 ghost use mathlib.Core.Bool.{true, false};
 ghost use Rattle.fox_station.specs.Exports.{RunHanded, TurnHanded, MakeTagHanded, TestTagHanded};
 use fox_card_block::block::turn;
-use fox_card_run::run::run;
+use fox_card_run::run::handed;
 use fox_card_tag::tag::make;
 use fox_card_tag::tag::test;
 
@@ -47,8 +47,7 @@ pub extern "C" fn fox_card_seal_run(
 ) -> u32
     ensures { λ r. ⌜ RunHanded true cipher rounds (now (key .entry)) (now (counter .entry)) offset (now (input .entry)) (now (out .entry)) (now (out .exit)) r ⌝ }
 {
-    let answer = run(true, cipher, rounds, key, counter, offset, input, out);
-    answer.refusal
+    handed(true, cipher, rounds, key, counter, offset, input, out)
 }
 
 #[no_mangle]
@@ -63,8 +62,7 @@ pub extern "C" fn fox_card_open_run(
 ) -> u32
     ensures { λ r. ⌜ RunHanded false cipher rounds (now (key .entry)) (now (counter .entry)) offset (now (input .entry)) (now (out .entry)) (now (out .exit)) r ⌝ }
 {
-    let answer = run(false, cipher, rounds, key, counter, offset, input, out);
-    answer.refusal
+    handed(false, cipher, rounds, key, counter, offset, input, out)
 }
 
 #[no_mangle]

@@ -113,9 +113,23 @@ same {rs₁} {rs₂} {value} e l a b =
       same-before = λ q. a .output ∙ ap₂ (λ (rs : List Refusal) (old : List ℕ). cond (eqb (refusalOf rs) 0) value old) e q ∙ sym (b .output);
     }
 
+-- a call that returns the number alone: where code refuses with it, and where it serves
+
+pub handed-refused : {rs : List Refusal} {value before : List ℕ} {n : ℕ} → n ≡ refusalOf rs → (n ≡ 0 → ⊥) → Handed rs value before before n
+handed-refused {rs} {value} {before} e isnt = record { refusal = e; output = passed-over (refusalOf rs) value before (λ z. isnt (e ∙ z)) }
+
+pub handed-served : {rs : List Refusal} {value before after : List ℕ} → refusalOf rs ≡ 0 → after ≡ value → Handed rs value before after 0
+handed-served {rs} {value} {before} zero is = record { refusal = sym zero; output = is ∙ chosen (refusalOf rs) value before zero }
+
 -- what a call over the C interface returns is a reply, with the count that follows from the number
 pub handed-reply : {rs : List Refusal} {value before after : List ℕ} {r : ℕ}
     → Handed rs value before after r → Reply rs value before after (answer r (length before))
 unfolding answer
 handed-reply {before = before} h =
     record { refusal = h .refusal; count = ap (λ (n : ℕ). cond (eqb n 0) (length before) 0) (h .refusal); output = h .output }
+
+-- and so is an answer with that number, and the count that follows
+pub handed-answer : {rs : List Refusal} {value before after : List ℕ} {n : ℕ} {r : Answer} → Handed rs value before after n → r .refusal ≡ n
+    → r .count ≡ cond (eqb n 0) (length before) 0 → Reply rs value before after r
+handed-answer {before = before} h refusal count =
+    record { refusal = refusal ∙ h .refusal; count = count ∙ ap (λ (m : ℕ). cond (eqb m 0) (length before) 0) (h .refusal); output = h .output }

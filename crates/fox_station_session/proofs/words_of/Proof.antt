@@ -42,8 +42,8 @@ returns c =
     let keys = rw all at (at .inv .2) ∙ take-all 510 (start .args .s .key .keys) (omega (arith, keys-long start)) in
     let stored = c .before .write-here .ensures in (
       stored .0
-      ∙ all-stored (at .words) (start .args .s) (at .inv .1) keys (known .before .struct-known .given .0 .fits) (known .struct-known2 .given .1 .0 .fits)
-      (made .direction .ensures),
+          ∙ all-stored (at .words) (start .args .s) (at .inv .1) keys (known .before .struct-known .given .0 .fits) (known .struct-known2 .given .1 .0 .fits)
+          (made .direction .ensures),
       stored .1 ∙ last-stored (at .words) (start .args .s) _ (at .inv .1) ∙ made .direction .ensures,
     )
 

@@ -1,58 +1,23 @@
--- `run::run` meets its contract: a refused call returns the first refusal that applies and writes nothing; past the refusals the key's schedule gives the
--- round keys of the definition, and what is written is the definition's value.
+-- `run::run` meets its contract: it is the same call, with the count that follows from the number.
 -- Assumes nothing.
+use mathlib.Core.Path.{sym, _∙_}
+use Rattle.fox_refusals.proofs.Laws.Reply.{chosen, passed-over, handed-answer}
 use borrow.Author.Needs.{needs}
-use mathlib.Core.Path.{sym, ap, ap₂, _∙_}
-use mathlib.Core.List.{List}
-use Prim.Native.Nat.{ℕ}
-use native.Mathlib.Omega.{arith}
-use Rattle.fox_rounds.specs.declared.state.State.{State}
-use Rattle.fox_key_schedule.specs.Schedule.{roundKeys}
-use Rattle.fox_key_schedule.proofs.Laws.Schedules.{roundKeys-scheduled}
-use Rattle.fox_refusals.proofs.Laws.Refusals.{stretched}
-use Rattle.fox_refusals.proofs.Laws.Reply.{served-reply, refused-reply}
-use Rattle.fox_block.proofs.Laws.Block.{rounds-whole}
-use Rattle.fox_run.specs.Run.{xorFrom}
-use Rattle.fox_run.specs.States.{stream}
-use Rattle.fox_run.proofs.Laws.Streams.{run-streamed}
 use Rattle.fox_card_run.proofs.run.run.Statement.{statement}
 use Rattle.fox_card_run.proofs.run.run.Tie as tie
 
 returns : tie.Need-returns
-returns c = let at = c .before in refused-reply (at .before .for-run .ensures) (at .if1 .taken) (c .refused .ensures)
-
-of-requires : tie.Need-of-requires
-of-requires c κs = stretched _ _ _ _ _ _ _ _ (sym (c .before .for-run .ensures) ∙ c .if1 .left) .keyed .key
-
-read-requires : tie.Need-read-requires
-read-requires c κs =
-    let at = c .before in
-    stretched _ _ _ _ _ _ _ _ (sym (at .before .for-run .ensures) ∙ at .if1 .left) .counter
-
-stretch-requires : tie.Need-stretch-requires
-stretch-requires c κs =
-    let at = c .before .before .before in
-    let known = stretched _ _ _ _ _ _ _ _ (sym (at .before .for-run .ensures) ∙ at .if1 .left) in
-    (omega (arith, known .keyed .low, known .keyed .high), known .end, known .output)
+returns c =
+    let test = c .before in
+    handed-answer (test .before .before .before .handed .ensures) (c .refused .ensures .0) (c .refused .ensures .1 ∙ passed-over _ _ _ (test .if1 .taken))
 
 returns-2 : tie.Need-returns-2
 returns-2 c =
-    let laid = c .before .before .before in
-    let read = laid .before .before in
-    let of = read .before in
-    let at = of .before in
-    let a = at .before .before .before .before .before .before .args in
-    let zero = sym (at .before .for-run .ensures) ∙ at .if1 .left in
-    let known = stretched _ _ _ _ _ _ _ _ zero in
-    served-reply _ _ _ _ _ zero (c .served .ensures .0) (c .served .ensures .1 ∙ laid .stretch .kept .1 .1 .1 .1 .1 .0)
-    (laid .stretch .ensures
-    ∙ ap₂ (λ (ks : List ℕ) (x : State). xorFrom (stream ks x) (a .offset) (a .input .now))
-    (sym (roundKeys-scheduled (a .cipher) _ (a .key .now) (of .of .result) (of .of .ensures))
-    ∙ ap (λ (n : ℕ). roundKeys (a .cipher) n (a .key .now)) (rounds-whole (known .keyed)))
-    (read .read .ensures)
-    ∙ run-streamed (a .cipher) (roundKeys (a .cipher) (a .rounds) (a .key .now)) (a .counter .now) (a .offset) (a .input .now) (known .counter))
+    let test = c .before in
+    let call = test .before .before .before in
+    handed-answer (call .handed .ensures) (c .served .ensures .0 ∙ sym (test .if1 .left))
+    (c .served .ensures .1 ∙ call .handed .kept .1 .1 .1 .1 .1 .1 .1 .0 ∙ chosen _ _ _ (test .if1 .left))
 
 pub run-spec : {M : Type 1} → statement M
 run-spec =
-    tie.close (tie.spec (λ c κs. search needs) (λ c κs. search needs) returns of-requires read-requires (λ c. search needs) stretch-requires
-    (λ c κs. search needs) (λ c. search needs) returns-2)
+    tie.close (tie.spec (λ c κs. search needs) (λ c κs. search needs) (λ c. search needs) returns (λ c κs. search needs) (λ c. search needs) returns-2)
