@@ -3,7 +3,7 @@
 -- changes nothing.
 -- Assumes nothing.
 use mathlib.Core.Path.{_≡_, refl, sym, ap, ap₂, _∙_}
-use mathlib.Core.Bool.{Bool, true, cond}
+use mathlib.Core.Bool.{Bool, true, false, cond}
 use mathlib.Core.List.{List, [], _∷_, _++_, map}
 use Prim.Native.Nat.{ℕ, _+_, _≤_, _<_}
 use native.Mathlib.Omega.{arith}
@@ -40,6 +40,11 @@ words-order keys long =
     let last : List ℕ = 64 ∷ 12 ∷ 16 ∷ 1 ∷ 2 ∷ 3 ∷ 4 ∷ 5 ∷ 6 ∷ [] in
     let there : (k : ℕ) → getD (keys ++ last) (510 + k) 0 ≡ getD last k 0 = λ k. rw long at (getD-append-add keys last k 0) in
     simp (there 0, there 1, there 2, there 3, there 4, there 5, there 6, there 7, there 8, take-at keys last 510 long)
+
+-- the last word that a start stores, for sealing and for opening, computed
+pub direction-words : directionWord true ∷ directionWord false ∷ [] ≡ 1 ∷ 0 ∷ []
+unfolding directionWord
+direction-words = refl
 
 -- the position is word 515
 pub position-word : (d : Bool) (c r : ℕ) (key counter words : List ℕ) {p : ℕ} → Stands d c r key counter words p → getD words 515 0 ≡ p

@@ -14,7 +14,7 @@ use Rattle.fox_text.proofs.Laws.Tests.{by-test, neither}
 use borrow.Author.Tests.{ltb-false, eqb-true, le-ltb, eq-eqb, not-false}
 use Rattle.fox_refusals.specs.Refusals.{Refusal, refusalOf, differs, blockSize, wrongCipher, wrongRounds, longKey, shortKey, wrongBlockLength, forKey}
 use Rattle.fox_refusals.specs.Refusals.{forTurn, Keyed}
-use Rattle.fox_refusals.proofs.Laws.Refusals.{Passed, numbered, passed-served, served-passed, keyed, keyed-served, turnable, turnable-served}
+use Rattle.fox_refusals.proofs.Laws.Refusals.{Passed, numbered, passed-served, served-passed, keyed, keyed-served, turnable, turnable-served, as-before}
 use Rattle.fox_run_file.specs.Sizes.{total, fileSize, pastLimit}
 use Rattle.fox_run_file.specs.Refusals.{largeFile, wrongSizes, smallOutput, forSize, forWrite}
 
@@ -88,6 +88,12 @@ writable-served {c} {r} {k} {b} {d} sizes {o} w =
     found-later (forTurn true c r k) (wrongBlockLength c b ∷ wrongSizes c r sizes d ∷ smallOutput c r sizes o ∷ []) refl
     (turnable-served true (w .keyed) (λ _. w .long))
     ∙ rw (eq-eqb b (blockSize c) (w .counter), w .limits, eq-eqb (total sizes) d (w .all), le-ltb o (fileSize c r sizes) (w .room))
+
+-- with a key of 16 bytes or more, writing is refused as if there were no 13
+pub write-as-before : (c r k b d : ℕ) (sizes : List ℕ) (o : ℕ) → 16 ≤ k
+    → refusalOf (forWrite c r k b d sizes o) ≡ refusalOf (forKey c r k ++ (wrongBlockLength c b ∷ wrongSizes c r sizes d ∷ smallOutput c r sizes o ∷ []))
+unfolding forWrite
+write-as-before c r k b d sizes o long = as-before true c r k _ (λ _. long)
 
 -- the size is told exactly of a cipher and rounds that no key is refused for, and of lengths within the limits
 
