@@ -1,2 +1,3 @@
 -- Laws on the definitions, which proofs cite in place of a definition's text.
+pub mod Lookups
 pub mod Tables

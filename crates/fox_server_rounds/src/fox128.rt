@@ -7,6 +7,7 @@ ghost use Rattle.fox_rounds.specs.Skeleton.{turned};
 ghost use Rattle.fox_rounds.specs.declared.state.State.the-variants.{Of128};
 ghost use Rattle.fox_rounds.specs.RoundKeys.{roundKeyIn128, roundKeysIn128};
 ghost use Rattle.fox_server_rounds.specs.Tables.{TablesOf};
+use crate::lookups::byte_mask;
 use crate::lookups::pick4;
 use crate::lookups::pick8;
 use crate::order::place;
@@ -17,9 +18,10 @@ pub fn elmid128(s: &[u32; 1024], t: &[u64; 2048], x: Fox128, k: u64, l: u64) -> 
     requires { ⌜ TablesOf mu8Rows (now s) (now t) ⌝ }
     ensures { λ r. ⌜ r ≡ elmid128 (k * 2 ^ 64 + l) x ⌝ }
 {
-    let m = pick8(t, x.round_input() ^ k) ^ l;
-    let p = pick4(s, (m / 0x1_0000_0000) as u32) ^ ((k / 0x1_0000_0000) as u32);
-    let q = pick4(s, (m % 0x1_0000_0000) as u32) ^ ((k % 0x1_0000_0000) as u32);
+    let mask = byte_mask(s);
+    let m = pick8(t, mask, x.round_input() ^ k) ^ l;
+    let p = pick4(s, mask, (m / 0x1_0000_0000) as u32) ^ ((k / 0x1_0000_0000) as u32);
+    let q = pick4(s, mask, (m % 0x1_0000_0000) as u32) ^ ((k % 0x1_0000_0000) as u32);
     Fox128 {
         ll: x.ll ^ p,
         lr: x.lr ^ p,

@@ -7,6 +7,7 @@ ghost use Rattle.fox_rounds.specs.Skeleton.{turned};
 ghost use Rattle.fox_rounds.specs.declared.state.State.the-variants.{Of64};
 ghost use Rattle.fox_rounds.specs.RoundKeys.{roundKeysIn64};
 ghost use Rattle.fox_server_rounds.specs.Tables.{TablesOf};
+use crate::lookups::byte_mask;
 use crate::lookups::pick4;
 use crate::order::place;
 use fox_rounds::fox64::Fox64;
@@ -17,7 +18,8 @@ pub fn f32(s: &[u32; 1024], t: &[u32; 1024], x: u32, rk: u64) -> u32
 {
     let k = (rk / 0x1_0000_0000) as u32;
     let l = (rk % 0x1_0000_0000) as u32;
-    pick4(s, pick4(t, x ^ k) ^ l) ^ k
+    let mask = byte_mask(s);
+    pick4(s, mask, pick4(t, mask, x ^ k) ^ l) ^ k
 }
 
 pub fn lmid64(s: &[u32; 1024], t: &[u32; 1024], x: Fox64, rk: u64) -> Fox64

@@ -2,45 +2,100 @@
 //
 // A lookup's promise holds for any tables. In the shifted S-box (TBS) a lookup is sigma, and in the joined S-box/diffusion tables (TBSM) of a matrix it is mu
 // after sigma: so say the laws picked-TBS, picked-mu4 and picked-mu8.
+//
+// Some bytes are taken by a remainder, some by a mask, which is 255 and which the compiler cannot know: a remainder it joins with the scaling of the index, so
+// that on Arm a lookup takes one instruction more. Which bytes go by the mask was chosen by counting instructions on both processors (docs/SPEED.md).
 ghost use mathlib.Core.Path.{_≡_};
-ghost use Prim.Native.Nat.{_+_, _*_, _%_, _<_};
+ghost use Prim.Native.Nat.{_+_, _*_, _/_, _%_, _^_, _<_};
 ghost use lib.ListN.{getD};
-ghost use Rattle.fox_layers.specs.Tables.{picked};
+ghost use Rattle.fox_layers.specs.Tables.{TBS, picked};
+use fox_rounds::fox128::pair;
 
-// The entry at byte i of table number j of four.
-fn of4(t: &[u32; 1024], j: usize, i: u32) -> u32
-    requires { ⌜ j < 4 ⌝ }
-    ensures { λ r. ⌜ r ≡ getD (now (t .entry)) (j * 256 + i % 256) 0 ⌝ }
+// The mask of a byte, read from the shifted S-box: the S-box has FF at F9.
+pub fn byte_mask(s: &[u32; 1024]) -> u32
+    requires { ⌜ now s ≡ TBS 4 ⌝ }
+    ensures { λ r. ⌜ r ≡ 255 ⌝ }
 {
-    t[j * 256 + (i % 256) as usize]
+    s[0x3F9]
 }
 
-// The entry at byte i of table number j of eight.
-fn of8(t: &[u64; 2048], j: usize, i: u64) -> u64
-    requires { ⌜ j < 8 ⌝ }
-    ensures { λ r. ⌜ r ≡ getD (now (t .entry)) (j * 256 + i % 256) 0 ⌝ }
+// The last byte of a word: by a remainder, and by the mask.
+fn last(w: u64) -> usize
+    ensures { λ r. ⌜ r ≡ w % 256 ⌝ }
 {
-    t[j * 256 + (i % 256) as usize]
+    (w % 256) as usize
 }
 
-pub fn pick4(t: &[u32; 1024], w: u32) -> u32
+fn under(mask: u32, w: u64) -> usize
+    requires { ⌜ mask ≡ 255 ⌝ }
+    ensures { λ r. ⌜ r ≡ w % 256 ⌝ }
+{
+    (w & (mask as u64)) as usize
+}
+
+// The entry of table number j at a byte, of four tables and of eight.
+fn of4(t: &[u32; 1024], j: usize, byte: usize) -> u32
+    requires { ⌜ (j < 4) × (byte < 256) ⌝ }
+    ensures { λ r. ⌜ r ≡ getD (now (t .entry)) (j * 256 + byte) 0 ⌝ }
+{
+    t[j * 256 + byte]
+}
+
+fn of8(t: &[u64; 2048], j: usize, byte: usize) -> u64
+    requires { ⌜ (j < 8) × (byte < 256) ⌝ }
+    ensures { λ r. ⌜ r ≡ getD (now (t .entry)) (j * 256 + byte) 0 ⌝ }
+{
+    t[j * 256 + byte]
+}
+
+pub fn pick4(t: &[u32; 1024], mask: u32, w: u32) -> u32
+    requires { ⌜ mask ≡ 255 ⌝ }
     ensures { λ r. ⌜ r ≡ picked 4 (now (t .entry)) w ⌝ }
 {
-    of4(t, 0, w / 0x0100_0000)
-        ^ of4(t, 1, w / 0x0001_0000)
-        ^ of4(t, 2, w / 0x0000_0100)
-        ^ of4(t, 3, w)
+    of4(t, 0, last((w / 0x0100_0000) as u64))
+        ^ of4(t, 1, under(mask, (w / 0x0001_0000) as u64))
+        ^ of4(t, 2, under(mask, (w / 0x0000_0100) as u64))
+        ^ of4(t, 3, last(w as u64))
 }
 
-pub fn pick8(t: &[u64; 2048], w: u64) -> u64
+pub fn pick8(t: &[u64; 2048], mask: u32, w: u64) -> u64
+    requires { ⌜ mask ≡ 255 ⌝ }
     ensures { λ r. ⌜ r ≡ picked 8 (now (t .entry)) w ⌝ }
 {
-    of8(t, 0, w / 0x0100_0000_0000_0000)
-        ^ of8(t, 1, w / 0x0001_0000_0000_0000)
-        ^ of8(t, 2, w / 0x0000_0100_0000_0000)
-        ^ of8(t, 3, w / 0x0000_0001_0000_0000)
-        ^ of8(t, 4, w / 0x0000_0000_0100_0000)
-        ^ of8(t, 5, w / 0x0000_0000_0001_0000)
-        ^ of8(t, 6, w / 0x0000_0000_0000_0100)
-        ^ of8(t, 7, w)
+    of8(t, 0, last(w / 0x0100_0000_0000_0000))
+        ^ of8(t, 1, under(mask, w / 0x0001_0000_0000_0000))
+        ^ of8(t, 2, under(mask, w / 0x0000_0100_0000_0000))
+        ^ of8(t, 3, under(mask, w / 0x0000_0001_0000_0000))
+        ^ of8(t, 4, under(mask, w / 0x0000_0000_0100_0000))
+        ^ of8(t, 5, under(mask, w / 0x0000_0000_0001_0000))
+        ^ of8(t, 6, last(w / 0x0000_0000_0000_0100))
+        ^ of8(t, 7, last(w))
+}
+
+// Both halves of a word of eight bytes looked up in four tables, from the word as it is: the left half, the right half, and both.
+fn pick_left(t: &[u32; 1024], mask: u32, w: u64) -> u32
+    requires { ⌜ mask ≡ 255 ⌝ }
+    ensures { λ r. ⌜ r ≡ picked 4 (now (t .entry)) (w / 2 ^ 32) ⌝ }
+{
+    of4(t, 0, last(w / 0x0100_0000_0000_0000))
+        ^ of4(t, 1, under(mask, w / 0x0001_0000_0000_0000))
+        ^ of4(t, 2, under(mask, w / 0x0000_0100_0000_0000))
+        ^ of4(t, 3, under(mask, w / 0x0000_0001_0000_0000))
+}
+
+fn pick_right(t: &[u32; 1024], mask: u32, w: u64) -> u32
+    requires { ⌜ mask ≡ 255 ⌝ }
+    ensures { λ r. ⌜ r ≡ picked 4 (now (t .entry)) (w % 2 ^ 32) ⌝ }
+{
+    of4(t, 0, last(w / 0x0000_0000_0100_0000))
+        ^ of4(t, 1, under(mask, w / 0x0000_0000_0001_0000))
+        ^ of4(t, 2, last(w / 0x0000_0000_0000_0100))
+        ^ of4(t, 3, last(w))
+}
+
+pub fn pick_halves(t: &[u32; 1024], mask: u32, w: u64) -> u64
+    requires { ⌜ mask ≡ 255 ⌝ }
+    ensures { λ r. ⌜ r ≡ picked 4 (now (t .entry)) (w / 2 ^ 32) * 2 ^ 32 + picked 4 (now (t .entry)) (w % 2 ^ 32) ⌝ }
+{
+    pair(pick_left(t, mask, w), pick_right(t, mask, w))
 }

@@ -16,7 +16,7 @@ use Rattle.fox_server_rounds.proofs.fox128.elmid128.Statement.{statemen
 use Rattle.fox_server_rounds.proofs.fox128.elmid128.Tie as tie
 
 cast-pick4 : tie.Need-cast-pick4
-cast-pick4 c = omega (arith, xor-lt 64 (c .pick8 .result) (c .before .before .args .l) (search needs) (search needs))
+cast-pick4 c = omega (arith, xor-lt 64 (c .pick8 .result) (c .before .before .before .args .l) (search needs) (search needs))
 
 returns : tie.Need-returns
 unfolding f64 elmid128
@@ -25,7 +25,7 @@ returns c =
     let first = second .before in
     let mixed = first .before in
     let xorOver = mixed .before in
-    let start = xorOver .before in
+    let start = xorOver .before .before in
     let a = start .args in
     let k = a .k in
     let l = a .l in
@@ -43,5 +43,5 @@ returns c =
 
 pub elmid128-spec : {M : Type 1} → statement M
 elmid128-spec =
-    tie.close (tie.spec (λ c κs. search needs) (λ c κs. search needs) cast-pick4 (λ c κs. search needs) (λ c. search needs) (λ c. search needs)
+    tie.close (tie.spec (λ c κs. search needs) (λ c κs. search needs) (λ c κs. search needs) cast-pick4 (λ c κs. search needs) (λ c. search needs) (λ c. search needs)
     (λ c κs. search needs) (λ c. search needs) returns)

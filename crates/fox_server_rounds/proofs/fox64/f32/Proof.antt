@@ -14,10 +14,10 @@ returns : tie.Need-returns
 unfolding f32 right
 returns c =
     let c1 = c .before in
-    let c2 = c1 .before in
+    let c2 = c1 .before .before in
     let rk = c2 .args .rk in
     f-made 4 mu4 (c2 .args .x) rk (left-div 32 rk (c2 .fits .rk .fits)) refl (c1 .pick4 .ensures ∙ tables-mu4 (c2 .pre) _)
     (c .pick42 .ensures ∙ tables-sigma4 (c2 .pre) _)
 
 pub f32-spec : {M : Type 1} → statement M
-f32-spec = tie.close (tie.spec (λ c. search needs) (λ c. search needs) (λ c κs. search needs) (λ c κs. search needs) returns)
+f32-spec = tie.close (tie.spec (λ c. search needs) (λ c. search needs) (λ c κs. search needs) (λ c κs. search needs) (λ c κs. search needs) returns)

@@ -1,2 +1,0 @@
--- Four blocks sealed side by side: what the rounds and the sealing of four blocks are.
-pub mod Four

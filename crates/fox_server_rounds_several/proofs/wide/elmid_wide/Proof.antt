@@ -1,0 +1,34 @@
+-- `wide::elmid_wide` meets its contract: in the tables that it needs, lookups are the round function's steps, and its value is XORed with both words.
+-- Assumes nothing.
+use borrow.Author.Needs.{needs}
+use mathlib.Core.Path.{_≡_, sym, ap, _∙_}
+use Prim.Native.Nat.{ℕ, _+_, _*_, _^_}
+use Rattle.fox_layers.specs.Words.{_⊕_}
+use Rattle.fox_layers.specs.Diffusion.{mu8}
+use Rattle.fox_rounds.specs.Rounds.{f64, xor128, elmid128}
+use Rattle.fox_rounds.proofs.Laws.Halves.{left-pair, right-pair}
+use Rattle.fox_rounds.proofs.Laws.Rounds.{f-made}
+use Rattle.fox_server_rounds.proofs.Laws.Tables.{tables-sigma8, tables-mu8}
+use Rattle.fox_server_rounds_several.specs.Wide.{narrow}
+use Rattle.fox_server_rounds_several.proofs.Laws.Wide.{input-xor, narrow-xored}
+use Rattle.fox_server_rounds_several.proofs.wide.elmid_wide.Statement.{statement}
+use Rattle.fox_server_rounds_several.proofs.wide.elmid_wide.Tie as tie
+
+returns : tie.Need-returns
+unfolding f64 elmid128
+returns c =
+    let done = c .before .before in
+    let mixed = done .before in
+    let start = mixed .before .before .before in
+    let a = start .args in
+    let x = a .x in
+    let k = a .k in
+    let l = a .l in
+    let made = f-made 8 mu8 (x .l ⊕ x .r) (k * 2 ^ 64 + l) (left-pair 64 k l (start .fits .k .fits) (start .fits .l .fits))
+    (right-pair 64 k l (start .fits .l .fits)) (mixed .pick8 .ensures ∙ tables-mu8 (start .pre) _)
+    (done .pick-halves .ensures ∙ tables-sigma8 (start .pre) _) in
+    narrow-xored _ x
+    ∙ ap (λ (t : ℕ). xor128 t (narrow x)) (made ∙ ap (λ (n : ℕ). f64 n (k * 2 ^ 64 + l)) (sym (input-xor x (search needs) (search needs))))
+
+pub elmid-wide-spec : {M : Type 1} → statement M
+elmid-wide-spec = tie.close (tie.spec (λ c κs. search needs) (λ c κs. search needs) (λ c κs. search needs) returns)

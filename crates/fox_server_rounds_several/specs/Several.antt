@@ -1,0 +1,18 @@
+-- Several blocks side by side: what holds of each block and what became of it, of four blocks of FOX64 and of three of FOX128.
+-- Assumes nothing.
+use Rattle.fox_rounds.specs.declared.fox64.Fox64.{Fox64}
+use Rattle.fox_rounds.specs.declared.fox128.Fox128.{Fox128}
+use Rattle.fox_server_rounds_several.specs.Wide.{narrow}
+use Rattle.fox_server_rounds_several.specs.declared.fox64.Four64.{Four64}
+use Rattle.fox_server_rounds_several.specs.declared.fox128.Three128.{Three128}
+
+pub record EachOfFour (P : Fox64 → Fox64 → Type 0) (x y : Four64) : Type 0 where
+  pub first : P (x .first) (y .first)
+  pub second : P (x .second) (y .second)
+  pub third : P (x .third) (y .third)
+  pub fourth : P (x .fourth) (y .fourth)
+
+pub record EachOfThree (P : Fox128 → Fox128 → Type 0) (x y : Three128) : Type 0 where
+  pub first : P (narrow (x .first)) (narrow (y .first))
+  pub second : P (narrow (x .second)) (narrow (y .second))
+  pub third : P (narrow (x .third)) (narrow (y .third))
