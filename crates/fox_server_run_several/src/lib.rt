@@ -1,3 +1,4 @@
-// Four counter blocks of a run side by side, for the server engine: counted, sealed, and XORed with their bytes of the input.
+// Several counter blocks of a run side by side, for the server engine, four of FOX64 or three of FOX128: counted, sealed, and XORed with their bytes of the
+// input.
 pub mod fox128;
 pub mod fox64;

@@ -5,7 +5,7 @@ use lib.ListN.{length}
 use mathlib.Core.Path.{refl}
 use Rattle.fox_block.specs.Block.{bytes128}
 use Rattle.fox_layers.specs.Words.{split}
-use Rattle.fox_run.proofs.Laws.FourBlocks.{xoredTo-two}
+use Rattle.fox_run.proofs.Laws.SideBySide.{xoredTo-two}
 use borrow.Author.Needs.{needs}
 use Rattle.fox_server_run_several.proofs.fox128.xor_two128.Statement.{statement}
 use Rattle.fox_server_run_several.proofs.fox128.xor_two128.Tie as tie
@@ -17,7 +17,7 @@ returns c =
     let second = c .before .before in
     let a = first .before .before .before .before .args in
     let wide : 16 ≤ length (a .input .now) = search needs in
-    xoredTo-two 16 (bytes128 (a .x)) (bytes128 (a .y)) (a .input .now) (a .out .now) (first .xor-whole128 .last .1 .1 .0) (second .xor-whole1282 .last .1 .1 .0)
+    xoredTo-two 16 16 (bytes128 (a .x)) (bytes128 (a .y)) (a .input .now) (a .out .now) (first .xor-whole128 .last .1 .1 .0) (second .xor-whole1282 .last .1 .1 .0)
     refl wide (first .xor-whole128 .ensures) (second .xor-whole1282 .ensures)
 
 pub xor-two128-spec : {M : Type 1} → statement M
