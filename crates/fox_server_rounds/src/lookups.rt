@@ -55,7 +55,7 @@ pub fn pick4(t: &[u32; 1024], mask: u32, w: u32) -> u32
     of4(t, 0, last((w / 0x0100_0000) as u64))
         ^ of4(t, 1, under(mask, (w / 0x0001_0000) as u64))
         ^ of4(t, 2, under(mask, (w / 0x0000_0100) as u64))
-        ^ of4(t, 3, last(w as u64))
+        ^ of4(t, 3, under(mask, w as u64))
 }
 
 pub fn pick8(t: &[u64; 2048], mask: u32, w: u64) -> u64

@@ -19,11 +19,11 @@ returns c =
     let t = a .t .now in
     rw (split-left (a .w))
     (running-terms (
-      at-byte t 0 (c0 .of4 .ensures) (c0 .before .last .ensures) ▸
-      at-byte t 1 (c1 .of42 .ensures) (c1 .before .under .ensures) ▸
-      at-byte t 2 (c2 .of43 .ensures) (c2 .before .under2 .ensures) ▸
-      at-byte t 3 (c3 .of44 .ensures) (c3 .before .under3 .ensures) ▸
-      done
+    at-byte t 0 (c0 .of4 .ensures) (c0 .before .last .ensures) ▸
+    at-byte t 1 (c1 .of42 .ensures) (c1 .before .under .ensures) ▸
+    at-byte t 2 (c2 .of43 .ensures) (c2 .before .under2 .ensures) ▸
+    at-byte t 3 (c3 .of44 .ensures) (c3 .before .under3 .ensures) ▸
+    done
     ))
 
 pub pick-left-spec : {M : Type 1} → statement M
