@@ -3,7 +3,7 @@ ghost use mathlib.Core.Path.{_≡_};
 ghost use Prim.Native.Nat.{_≤_};
 ghost use Rattle.fox_layers.specs.Diffusion.{mu4Rows};
 ghost use Rattle.fox_rounds.specs.Rounds.{f32, lmid64};
-ghost use Rattle.fox_rounds.specs.Skeleton.{turned};
+ghost use Rattle.fox_rounds.specs.Skeleton.{turned, seal64};
 ghost use Rattle.fox_rounds.specs.declared.state.State.the-variants.{Of64};
 ghost use Rattle.fox_rounds.specs.RoundKeys.{roundKeysIn64};
 ghost use Rattle.fox_server_rounds.specs.Tables.{TablesOf};
@@ -54,4 +54,25 @@ pub fn turn64(
     }
     let end = place(sealing, rounds, last);
     lmid64(s, t, y, keys[end])
+}
+
+// A block sealed, for a chain of blocks: it is called at one place only, so that the compiler inlines it and the state stays in registers from one block to
+// the next.
+pub fn seal64(
+    s: &[u32; 1024],
+    t: &[u32; 1024],
+    keys: &[u64; 510],
+    rounds: usize,
+    x: Fox64,
+) -> Fox64
+    requires { ⌜ TablesOf mu4Rows (now s) (now t) ⌝ }
+    requires { ⌜ (1 ≤ rounds) × (rounds ≤ 255) ⌝ }
+    ensures { λ r. ⌜ r ≡ seal64 (roundKeysIn64 (now (keys .entry)) rounds) x ⌝ }
+{
+    let last = rounds - 1;
+    let mut y = x;
+    for i in 0..last {
+        y = lmid64(s, t, y, keys[i]).or();
+    }
+    lmid64(s, t, y, keys[last])
 }

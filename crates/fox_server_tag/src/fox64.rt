@@ -15,6 +15,7 @@ use fox_engine_subkeys::parts::last_part;
 use fox_engine_tag::states::last64;
 use fox_engine_tag::states::xor64;
 use fox_rounds::fox64::Fox64;
+use fox_server_rounds::fox64::seal64;
 use fox_server_rounds::fox64::turn64;
 use fox_server_tables::tbs;
 use fox_server_tables::tbsm4;
@@ -35,7 +36,7 @@ fn chain64(
     let mut y = Fox64::new(0, 0);
     for i in 0..n {
         let x = read64(block_part(message, 8, i));
-        y = turn64(true, s, t, keys, rounds, xor64(y, x));
+        y = seal64(s, t, keys, rounds, xor64(y, x));
     }
     y
 }

@@ -8,6 +8,7 @@ use Rattle.fox_rounds.specs.Skeleton.{turned}
 use Rattle.fox_rounds.specs.declared.fox64.Fox64.{Fox64}
 use Rattle.fox_rounds.specs.declared.state.State.the-variants.{Of64}
 use Rattle.fox_rounds.specs.RoundKeys.{roundKeysIn64}
+use Rattle.fox_rounds.proofs.Laws.Skeleton.{sealed-64}
 use Rattle.fox_refusals.specs.Refusals.{blockSize}
 use Rattle.fox_block.specs.Block.{state64}
 use Rattle.fox_block.proofs.Laws.Block.{state-64}
@@ -43,7 +44,7 @@ loop-again c =
       chainedState-on 64 rks (blockAt (blockSize 64) (a .message .now)) (at .loop .i)
           (block-of 64 (a .message .now) (at .loop .i) (λ i. known .shared-slice-known .given i .fits) (search needs)) (at .loop .inv .1)
           (ap Of64 (read .read64 .ensures ∙ ap state64 (part .block-part .ensures .0)) ∙ sym (state-64 64 _ refl))
-          (c .turn64 .ensures ∙ ap (λ (w : Fox64). turned true rks (Of64 w)) (xor .xor64 .ensures)),
+          (ap Of64 (c .seal64 .ensures) ∙ sym (sealed-64 rks _) ∙ ap (λ (w : Fox64). turned true rks (Of64 w)) (xor .xor64 .ensures)),
     )
 
 returns : tie.Need-returns Inv-loop μ-loop
