@@ -1,5 +1,6 @@
 // Runs the compiled layers: values of the specification, then the card engine's layers against the server engine's lookups on words of a fixed sequence.
 // What it prints is compared with the file `stdout`.
+ghost use mathlib.Core.Path.{_≡_};
 ghost use Prim.Native.Nat.{_≤_};
 use fox_layers::diffusion;
 use fox_layers::substitution;
@@ -45,14 +46,15 @@ fn next(w: u64) -> u64 {
 }
 
 // 1 where both engines substitute and diffuse the word alike.
-fn same4(s: &[u32; 1024], t: &[u32; 1024], w: u32) -> u32
+fn same4(s: &[u32; 1024], t: &[u32; 1024], mask: u32, w: u32) -> u32
+    requires { ⌜ mask ≡ 255 ⌝ }
     ensures { λ r. ⌜ r ≤ 1 ⌝ }
 {
     let x = substitution::sigma4(w);
-    if x != lookups::pick4(s, w) {
+    if x != lookups::pick4(s, mask, w) {
         return 0;
     }
-    if diffusion::mu4(x) != lookups::pick4(t, w) {
+    if diffusion::mu4(x) != lookups::pick4(t, mask, w) {
         return 0;
     }
     1
@@ -61,26 +63,26 @@ fn same4(s: &[u32; 1024], t: &[u32; 1024], w: u32) -> u32
 fn alike4() -> u32 {
     let s = tbs::tbs();
     let t = tbsm4::tbsm();
+    let mask = lookups::byte_mask(&s);
     let mut alike: u32 = 0;
     let mut w: u64 = 0x0123_4567_89AB_CDEF;
     for i in 0..WORDS {
         w = next(w);
-        alike += same4(&s, &t, (w % 0x1_0000_0000) as u32);
+        alike += same4(&s, &t, mask, (w % 0x1_0000_0000) as u32);
     }
     alike
 }
 
 // 1 where both engines substitute and diffuse the word alike.
-fn same8(s: &[u32; 1024], t: &[u64; 2048], w: u64) -> u32
+fn same8(s: &[u32; 1024], t: &[u64; 2048], mask: u32, w: u64) -> u32
+    requires { ⌜ mask ≡ 255 ⌝ }
     ensures { λ r. ⌜ r ≤ 1 ⌝ }
 {
     let x = substitution::sigma8(w);
-    let l = lookups::pick4(s, (w / 0x1_0000_0000) as u32);
-    let r = lookups::pick4(s, (w % 0x1_0000_0000) as u32);
-    if x != (l as u64) * 0x1_0000_0000 + r as u64 {
+    if x != lookups::pick_halves(s, mask, w) {
         return 0;
     }
-    if diffusion::mu8(x) != lookups::pick8(t, w) {
+    if diffusion::mu8(x) != lookups::pick8(t, mask, w) {
         return 0;
     }
     1
@@ -89,11 +91,12 @@ fn same8(s: &[u32; 1024], t: &[u64; 2048], w: u64) -> u32
 fn alike8() -> u32 {
     let s = tbs::tbs();
     let t = tbsm8::tbsm();
+    let mask = lookups::byte_mask(&s);
     let mut alike: u32 = 0;
     let mut w: u64 = 0x0123_4567_89AB_CDEF;
     for i in 0..WORDS {
         w = next(w);
-        alike += same8(&s, &t, w);
+        alike += same8(&s, &t, mask, w);
     }
     alike
 }
