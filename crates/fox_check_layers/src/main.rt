@@ -4,7 +4,7 @@ ghost use mathlib.Core.Path.{_≡_};
 ghost use Prim.Native.Nat.{_≤_};
 use fox_layers::diffusion;
 use fox_layers::substitution;
-use fox_server_rounds::lookups;
+use fox_server_lookups::lookups;
 use fox_server_tables::tbs;
 use fox_server_tables::tbsm4;
 use fox_server_tables::tbsm8;

@@ -26,14 +26,14 @@ use fox_sheet_answer::answer;
 pub extern "C" fn fox_probe_pick4(t: &[u32; 1024], w: u32) -> u32
     ensures { λ r. ⌜ r ≡ picked 4 (now (t .entry)) w ⌝ }
 {
-    fox_server_rounds::lookups::pick4(t, 255, w)
+    fox_server_lookups::lookups::pick4(t, 255, w)
 }
 
 #[no_mangle]
 pub extern "C" fn fox_probe_pick8(t: &[u64; 2048], w: u64) -> u64
     ensures { λ r. ⌜ r ≡ picked 8 (now (t .entry)) w ⌝ }
 {
-    fox_server_rounds::lookups::pick8(t, 255, w)
+    fox_server_lookups::lookups::pick8(t, 255, w)
 }
 
 // One block sealed `blocks` times with the first 16 of the round keys passed by reference: its left word.

@@ -1,3 +1,2 @@
 -- Laws on the definitions, which proofs cite in place of a definition's text.
-pub mod Lookups
 pub mod Tables

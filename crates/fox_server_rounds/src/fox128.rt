@@ -7,11 +7,11 @@ ghost use Rattle.fox_rounds.specs.Skeleton.{turned};
 ghost use Rattle.fox_rounds.specs.declared.state.State.the-variants.{Of128};
 ghost use Rattle.fox_rounds.specs.RoundKeys.{roundKeyIn128, roundKeysIn128};
 ghost use Rattle.fox_server_rounds.specs.Tables.{TablesOf};
-use crate::lookups::byte_mask;
-use crate::lookups::pick4;
-use crate::lookups::pick8;
 use crate::order::place;
 use fox_rounds::fox128::Fox128;
+use fox_server_lookups::lookups::byte_mask;
+use fox_server_lookups::lookups::pick4;
+use fox_server_lookups::lookups::pick8;
 
 // One round: the second substitution and the XORs after it are done on halves of 32 bits, which are the state's words.
 pub fn elmid128(s: &[u32; 1024], t: &[u64; 2048], x: Fox128, k: u64, l: u64) -> Fox128

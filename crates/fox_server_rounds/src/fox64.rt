@@ -7,10 +7,10 @@ ghost use Rattle.fox_rounds.specs.Skeleton.{turned, seal64};
 ghost use Rattle.fox_rounds.specs.declared.state.State.the-variants.{Of64};
 ghost use Rattle.fox_rounds.specs.RoundKeys.{roundKeysIn64};
 ghost use Rattle.fox_server_rounds.specs.Tables.{TablesOf};
-use crate::lookups::byte_mask;
-use crate::lookups::pick4;
 use crate::order::place;
 use fox_rounds::fox64::Fox64;
+use fox_server_lookups::lookups::byte_mask;
+use fox_server_lookups::lookups::pick4;
 
 pub fn f32(s: &[u32; 1024], t: &[u32; 1024], x: u32, rk: u64) -> u32
     requires { ⌜ TablesOf mu4Rows (now s) (now t) ⌝ }
@@ -58,13 +58,7 @@ pub fn turn64(
 
 // A block sealed, for a chain of blocks: it is called at one place only, so that the compiler inlines it and the state stays in registers from one block to
 // the next.
-pub fn seal64(
-    s: &[u32; 1024],
-    t: &[u32; 1024],
-    keys: &[u64; 510],
-    rounds: usize,
-    x: Fox64,
-) -> Fox64
+pub fn seal64(s: &[u32; 1024], t: &[u32; 1024], keys: &[u64; 510], rounds: usize, x: Fox64) -> Fox64
     requires { ⌜ TablesOf mu4Rows (now s) (now t) ⌝ }
     requires { ⌜ (1 ≤ rounds) × (rounds ≤ 255) ⌝ }
     ensures { λ r. ⌜ r ≡ seal64 (roundKeysIn64 (now (keys .entry)) rounds) x ⌝ }

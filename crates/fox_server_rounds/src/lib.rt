@@ -1,5 +1,4 @@
-// Lookups, and the rounds of FOX64 and FOX128 by the server engine (001 §4.2.2), in tables and with round keys that are passed by reference.
+// The rounds of FOX64 and FOX128 by the server engine (001 §4.2.2), in tables and with round keys that are passed by reference.
 pub mod fox128;
 pub mod fox64;
-pub mod lookups;
 mod order;

@@ -8,9 +8,9 @@ ghost use Rattle.fox_server_rounds.specs.Tables.{TablesOf};
 ghost use Rattle.fox_server_rounds_several.specs.Wide.{narrow};
 use fox_rounds::fox128::Fox128;
 use fox_rounds::fox128::pair;
-use fox_server_rounds::lookups::byte_mask;
-use fox_server_rounds::lookups::pick_halves;
-use fox_server_rounds::lookups::pick8;
+use fox_server_lookups::lookups::byte_mask;
+use fox_server_lookups::lookups::pick_halves;
+use fox_server_lookups::lookups::pick8;
 
 // `l` has LL and then RL, `r` has LR and then RR: the words that "or" changes stand in one word.
 pub struct Wide128 {

@@ -4,8 +4,8 @@ use borrow.Author.Needs.{needs}
 use mathlib.Core.Path.{ap, _∙_}
 use Prim.Native.Nat.{ℕ}
 use lib.Bits.{bitAnd, and-mask}
-use Rattle.fox_server_rounds.proofs.lookups.under.Statement.{statement}
-use Rattle.fox_server_rounds.proofs.lookups.under.Tie as tie
+use Rattle.fox_server_lookups.proofs.lookups.under.Statement.{statement}
+use Rattle.fox_server_lookups.proofs.lookups.under.Tie as tie
 
 returns : tie.Need-returns
 returns c = ap (λ (m : ℕ). bitAnd (c .args .w) m) (c .pre) ∙ and-mask (c .args .w) 8

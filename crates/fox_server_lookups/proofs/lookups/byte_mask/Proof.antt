@@ -8,8 +8,8 @@ use lib.ListN.{getD}
 use Rattle.fox_layers.specs.Words.{_⊕_}
 use Rattle.fox_layers.specs.Substitution.{S₁, S₂, S₃, halves, whole, or4, lmid4, lmor4, sbox}
 use Rattle.fox_layers.proofs.Laws.Tables.{TBS-entry}
-use Rattle.fox_server_rounds.proofs.lookups.byte_mask.Statement.{statement}
-use Rattle.fox_server_rounds.proofs.lookups.byte_mask.Tie as tie
+use Rattle.fox_server_lookups.proofs.lookups.byte_mask.Statement.{statement}
+use Rattle.fox_server_lookups.proofs.lookups.byte_mask.Tie as tie
 
 ones : sbox (0x3F9 % 256) * 2 ^ (8 * (4 - 1 - 0x3F9 / 256)) ≡ 0xFF
 unfolding sbox S₁ S₂ S₃ halves whole or4 lmid4 lmor4

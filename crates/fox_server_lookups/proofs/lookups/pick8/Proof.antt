@@ -5,9 +5,9 @@ use Rattle.fox_layers.specs.Lists.{numbered}
 use Rattle.fox_layers.specs.Tables.{picked}
 use Rattle.fox_layers.proofs.Laws.Words.{split-8}
 use Rattle.fox_layers.proofs.Laws.Xor.{done, _▸_, running-terms}
-use Rattle.fox_server_rounds.proofs.Laws.Lookups.{at-byte}
-use Rattle.fox_server_rounds.proofs.lookups.pick8.Statement.{statement}
-use Rattle.fox_server_rounds.proofs.lookups.pick8.Tie as tie
+use Rattle.fox_server_lookups.proofs.Laws.Lookups.{at-byte}
+use Rattle.fox_server_lookups.proofs.lookups.pick8.Statement.{statement}
+use Rattle.fox_server_lookups.proofs.lookups.pick8.Tie as tie
 
 returns : tie.Need-returns
 unfolding numbered picked

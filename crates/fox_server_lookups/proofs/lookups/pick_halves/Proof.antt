@@ -3,8 +3,8 @@
 use borrow.Author.Needs.{needs}
 use mathlib.Core.Path.{ap₂, _∙_}
 use Prim.Native.Nat.{ℕ, _+_, _*_, _^_}
-use Rattle.fox_server_rounds.proofs.lookups.pick_halves.Statement.{statement}
-use Rattle.fox_server_rounds.proofs.lookups.pick_halves.Tie as tie
+use Rattle.fox_server_lookups.proofs.lookups.pick_halves.Statement.{statement}
+use Rattle.fox_server_lookups.proofs.lookups.pick_halves.Tie as tie
 
 returns : tie.Need-returns
 returns c =
