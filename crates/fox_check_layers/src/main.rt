@@ -79,7 +79,9 @@ fn same8(s: &[u32; 1024], t: &[u64; 2048], mask: u32, w: u64) -> u32
     ensures { λ r. ⌜ r ≤ 1 ⌝ }
 {
     let x = substitution::sigma8(w);
-    if x != lookups::pick_halves(s, mask, w) {
+    let l = lookups::pick_left(s, mask, w);
+    let r = lookups::pick_right(s, mask, w);
+    if x != (l as u64) * 0x1_0000_0000 + r as u64 {
         return 0;
     }
     if diffusion::mu8(x) != lookups::pick8(t, mask, w) {

@@ -5,5 +5,5 @@ pub mod Streams
 pub mod Loop
 pub mod Parts
 pub mod Served
-pub mod SideBySide
+pub mod FourBlocks
 pub mod Numbers

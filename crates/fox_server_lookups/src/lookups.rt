@@ -3,15 +3,15 @@
 // A lookup's promise holds for any tables. In the shifted S-box (TBS) a lookup is sigma, and in the joined S-box/diffusion tables (TBSM) of a matrix it is mu
 // after sigma: so say the laws picked-TBS, picked-mu4 and picked-mu8.
 //
-// Some bytes are taken by a remainder, some by a mask, which is 255 and which the compiler cannot know: a remainder it joins with the scaling of the index, so
-// that on Arm a lookup takes one instruction more. Which bytes go by the mask was chosen by counting instructions on both processors (docs/SPEED.md).
+// A word's byte is taken by a remainder or by a mask. The mask is 255, and comes in as a number that the compiler cannot know. The compiler joins a remainder
+// with the scaling of the index, which on Arm takes two instructions for a byte; by the mask it takes one. Which bytes go by the mask is settled by counting
+// instructions on both processors and by timing (docs/SPEED.md, "What was tried").
 ghost use mathlib.Core.Path.{_≡_};
 ghost use Prim.Native.Nat.{_+_, _*_, _/_, _%_, _^_, _<_};
 ghost use lib.ListN.{getD};
 ghost use Rattle.fox_layers.specs.Tables.{TBS, picked};
-use fox_rounds::fox128::pair;
 
-// The mask of a byte, read from the shifted S-box: the S-box has FF at F9.
+// The mask of a byte. The last table of the shifted S-box, at entry 300 (hex), is the S-box itself, which has FF at F9.
 pub fn byte_mask(s: &[u32; 1024]) -> u32
     requires { ⌜ now s ≡ TBS 4 ⌝ }
     ensures { λ r. ⌜ r ≡ 255 ⌝ }
@@ -54,7 +54,7 @@ pub fn pick4(t: &[u32; 1024], mask: u32, w: u32) -> u32
 {
     of4(t, 0, last((w / 0x0100_0000) as u64))
         ^ of4(t, 1, under(mask, (w / 0x0001_0000) as u64))
-        ^ of4(t, 2, under(mask, (w / 0x0000_0100) as u64))
+        ^ of4(t, 2, last((w / 0x0000_0100) as u64))
         ^ of4(t, 3, under(mask, w as u64))
 }
 
@@ -67,13 +67,13 @@ pub fn pick8(t: &[u64; 2048], mask: u32, w: u64) -> u64
         ^ of8(t, 2, under(mask, w / 0x0000_0100_0000_0000))
         ^ of8(t, 3, under(mask, w / 0x0000_0001_0000_0000))
         ^ of8(t, 4, under(mask, w / 0x0000_0000_0100_0000))
-        ^ of8(t, 5, under(mask, w / 0x0000_0000_0001_0000))
+        ^ of8(t, 5, last(w / 0x0000_0000_0001_0000))
         ^ of8(t, 6, last(w / 0x0000_0000_0000_0100))
         ^ of8(t, 7, last(w))
 }
 
-// Both halves of a word of eight bytes looked up in four tables, from the word as it is: the left half, the right half, and both.
-fn pick_left(t: &[u32; 1024], mask: u32, w: u64) -> u32
+// The left half, and the right half, of a word of eight bytes, looked up in four tables. The bytes are taken from the whole word.
+pub fn pick_left(t: &[u32; 1024], mask: u32, w: u64) -> u32
     requires { ⌜ mask ≡ 255 ⌝ }
     ensures { λ r. ⌜ r ≡ picked 4 (now (t .entry)) (w / 2 ^ 32) ⌝ }
 {
@@ -83,7 +83,7 @@ fn pick_left(t: &[u32; 1024], mask: u32, w: u64) -> u32
         ^ of4(t, 3, under(mask, w / 0x0000_0001_0000_0000))
 }
 
-fn pick_right(t: &[u32; 1024], mask: u32, w: u64) -> u32
+pub fn pick_right(t: &[u32; 1024], mask: u32, w: u64) -> u32
     requires { ⌜ mask ≡ 255 ⌝ }
     ensures { λ r. ⌜ r ≡ picked 4 (now (t .entry)) (w % 2 ^ 32) ⌝ }
 {
@@ -91,11 +91,4 @@ fn pick_right(t: &[u32; 1024], mask: u32, w: u64) -> u32
         ^ of4(t, 1, under(mask, w / 0x0000_0000_0001_0000))
         ^ of4(t, 2, last(w / 0x0000_0000_0000_0100))
         ^ of4(t, 3, last(w))
-}
-
-pub fn pick_halves(t: &[u32; 1024], mask: u32, w: u64) -> u64
-    requires { ⌜ mask ≡ 255 ⌝ }
-    ensures { λ r. ⌜ r ≡ picked 4 (now (t .entry)) (w / 2 ^ 32) * 2 ^ 32 + picked 4 (now (t .entry)) (w % 2 ^ 32) ⌝ }
-{
-    pair(pick_left(t, mask, w), pick_right(t, mask, w))
 }

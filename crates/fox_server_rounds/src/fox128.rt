@@ -13,7 +13,7 @@ use fox_server_lookups::lookups::byte_mask;
 use fox_server_lookups::lookups::pick4;
 use fox_server_lookups::lookups::pick8;
 
-// One round: the second substitution and the XORs after it are done on halves of 32 bits, which are the state's words.
+// One round: the second substitution and the XORs after it are done on halves of 32 bits, as wide as the state's words.
 pub fn elmid128(s: &[u32; 1024], t: &[u64; 2048], x: Fox128, k: u64, l: u64) -> Fox128
     requires { ⌜ TablesOf mu8Rows (now s) (now t) ⌝ }
     ensures { λ r. ⌜ r ≡ elmid128 (k * 2 ^ 64 + l) x ⌝ }

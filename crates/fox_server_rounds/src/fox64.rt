@@ -56,8 +56,8 @@ pub fn turn64(
     lmid64(s, t, y, keys[end])
 }
 
-// A block sealed, for a chain of blocks: it is called at one place only, so that the compiler inlines it and the state stays in registers from one block to
-// the next.
+// A block sealed, for a chain of blocks. This function is called at one place only, so that the compiler inlines it and the state stays in registers from one
+// block to the next.
 pub fn seal64(s: &[u32; 1024], t: &[u32; 1024], keys: &[u64; 510], rounds: usize, x: Fox64) -> Fox64
     requires { ⌜ TablesOf mu4Rows (now s) (now t) ⌝ }
     requires { ⌜ (1 ≤ rounds) × (rounds ≤ 255) ⌝ }

@@ -15,7 +15,7 @@ use fox_engine_counter::states::counted128;
 use fox_engine_run::key_stream::xor_part128;
 use fox_rounds::fox128::Fox128;
 use fox_server_rounds::fox128::turn128;
-use fox_server_run_several::fox128::three_blocks128;
+use fox_server_run_four::fox128::four_blocks128;
 use fox_server_tables::tbs;
 use fox_server_tables::tbsm8;
 
@@ -39,7 +39,7 @@ fn one_block128(
     xor_part128(sealed, n % 16, input, out)
 }
 
-// Seals three whole blocks where byte n begins a block and the input has three, or else the rest of byte n's block; returns the bytes done.
+// Seals four whole blocks where byte n begins a block and the input has four, or else the rest of byte n's block; returns the bytes done.
 fn part128(
     s: &[u32; 1024],
     t: &[u64; 2048],
@@ -54,10 +54,10 @@ fn part128(
     requires { ⌜ (1 ≤ rounds) × (rounds ≤ 255) × (n + length (now input) ≤ 1073741824) × (length (now out) ≡ length (now input)) ⌝ }
     ensures { λ r. ⌜ Part (stream (roundKeysIn128 (now (keys .entry)) rounds) (Of128 x)) n (now (input .entry)) (now (out .entry)) (now (out .exit)) r ⌝ }
 {
-    if input.len() >= 48 {
+    if input.len() >= 64 {
         if n % 16 == 0 {
-            three_blocks128(s, t, keys, rounds, x, n, input, out);
-            return 48;
+            four_blocks128(s, t, keys, rounds, x, n, input, out);
+            return 64;
         }
     }
     one_block128(s, t, keys, rounds, x, n, input, out)

@@ -15,7 +15,7 @@ use fox_engine_counter::states::counted64;
 use fox_engine_run::key_stream::xor_part64;
 use fox_rounds::fox64::Fox64;
 use fox_server_rounds::fox64::turn64;
-use fox_server_run_several::fox64::four_blocks64;
+use fox_server_run_four::fox64::four_blocks64;
 use fox_server_tables::tbs;
 use fox_server_tables::tbsm4;
 

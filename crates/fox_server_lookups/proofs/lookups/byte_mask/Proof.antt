@@ -5,7 +5,6 @@ use mathlib.Core.Path.{_≡_, refl, ap, _∙_}
 use mathlib.Core.List.{List}
 use Prim.Native.Nat.{ℕ, _*_, _-_, _/_, _%_, _^_}
 use lib.ListN.{getD}
-use Rattle.fox_layers.specs.Words.{_⊕_}
 use Rattle.fox_layers.specs.Substitution.{S₁, S₂, S₃, halves, whole, or4, lmid4, lmor4, sbox}
 use Rattle.fox_layers.proofs.Laws.Tables.{TBS-entry}
 use Rattle.fox_server_lookups.proofs.lookups.byte_mask.Statement.{statement}

@@ -22,8 +22,8 @@ returns c =
     (running-terms (
     at-byte t 0 (c0 .of4 .ensures) (c0 .before .last .ensures) ▸
     at-byte t 1 (c1 .of42 .ensures) (c1 .before .under .ensures) ▸
-    at-byte t 2 (c2 .of43 .ensures) (c2 .before .under2 .ensures) ▸
-    at-byte t 3 (c3 .of44 .ensures) (c3 .before .under3 .ensures) ▸
+    at-byte t 2 (c2 .of43 .ensures) (c2 .before .last2 .ensures) ▸
+    at-byte t 3 (c3 .of44 .ensures) (c3 .before .under2 .ensures) ▸
     done
     ))
 

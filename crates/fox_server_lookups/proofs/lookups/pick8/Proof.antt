@@ -29,9 +29,9 @@ returns c =
     at-byte t 2 (c2 .of83 .ensures) (c2 .before .under2 .ensures) ▸
     at-byte t 3 (c3 .of84 .ensures) (c3 .before .under3 .ensures) ▸
     at-byte t 4 (c4 .of85 .ensures) (c4 .before .under4 .ensures) ▸
-    at-byte t 5 (c5 .of86 .ensures) (c5 .before .under5 .ensures) ▸
-    at-byte t 6 (c6 .of87 .ensures) (c6 .before .last2 .ensures) ▸
-    at-byte t 7 (c7 .of88 .ensures) (c7 .before .last3 .ensures) ▸
+    at-byte t 5 (c5 .of86 .ensures) (c5 .before .last2 .ensures) ▸
+    at-byte t 6 (c6 .of87 .ensures) (c6 .before .last3 .ensures) ▸
+    at-byte t 7 (c7 .of88 .ensures) (c7 .before .last4 .ensures) ▸
     done
     ))
 

@@ -1,6 +1,5 @@
 -- `lookups::under` meets its contract: the mask is 2 ^ 8 - 1, so what is left is the word modulo 2 ^ 8.
 -- Assumes nothing.
-use borrow.Author.Needs.{needs}
 use mathlib.Core.Path.{ap, _∙_}
 use Prim.Native.Nat.{ℕ}
 use lib.Bits.{bitAnd, and-mask}

@@ -1,0 +1,3 @@
+-- Laws on the definitions, which proofs cite in place of a definition's text.
+pub mod Wide
+pub mod Each

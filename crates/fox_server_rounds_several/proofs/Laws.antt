@@ -1,3 +1,0 @@
--- Laws on the definitions, which proofs cite in place of a definition's text.
-pub mod Wide
-pub mod Several

@@ -1,4 +1,0 @@
-// Several counter blocks of a run side by side, for the server engine, four of FOX64 or three of FOX128: counted, sealed, and XORed with their bytes of the
-// input.
-pub mod fox128;
-pub mod fox64;
