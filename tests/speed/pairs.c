@@ -7,6 +7,8 @@
 #include <stdlib.h>
 #include <time.h>
 
+enum { PLACES = 16, PAGE = 4096 };
+
 static volatile uint32_t sink;
 
 static double now(clockid_t clock)
@@ -53,9 +55,14 @@ static double tick_rate(void)
     return rates[COUNT(rates) / 2];
 }
 
-/* Nanoseconds of one byte in so many calls. */
+/* Nanoseconds of one byte in so many calls. Each time the stack lies some pages further on: with the stack in one
+ * place, a run of the program may be slower by a tenth from start to end in all that uses some of its tables. */
 static double timed(const struct side *s, int calls)
 {
+    static size_t times;
+    volatile uint8_t room[1 + times++ % PLACES * PAGE];
+    room[0] = 0;
+    sink += room[0];
     double began = spent();
     for (int i = 0; i < calls; i++)
         sink += s->work(s->offset, s->len);
@@ -69,6 +76,11 @@ static int calls_of(const struct side *s)
     while (timed(s, calls) * calls * (double)s->len < 4e6 && calls < 1 << 20)
         calls *= 2;
     return calls;
+}
+
+double rate_of(const struct side *s)
+{
+    return 1e3 / timed(s, calls_of(s));
 }
 
 struct figure {
@@ -104,7 +116,7 @@ static char setting[16];
 void show_heads(void)
 {
     rate = tick_rate();
-    printf("%-7s %3s  %-44s %6s  %6s %6s  %8s %8s  %7s %7s  %s\n", "cipher", "key", "what", "ratio", "lower", "upper",
+    printf("%-7s %3s  %-48s %6s  %6s %6s  %8s %8s  %7s %7s  %s\n", "cipher", "key", "what", "ratio", "lower", "upper",
            "MB/s", "other's", "ticks/B", "other's", "asked");
 }
 
@@ -130,6 +142,6 @@ void show(const struct side *a, const struct side *b, double asked, enum where w
     snprintf(what, sizeof what, "%s / %s", a->name, b->name);
     if (where != NOWHERE)
         snprintf(verdict, sizeof verdict, "%.2g %s", asked, verdict_of(f.ratio, asked, where));
-    printf("%s  %-44s %6.2f  %6.2f %6.2f  %8.2f %8.2f  %7.1f %7.1f  %s\n", setting, what, f.ratio, f.low, f.high,
+    printf("%s  %-48s %6.2f  %6.2f %6.2f  %8.2f %8.2f  %7.1f %7.1f  %s\n", setting, what, f.ratio, f.low, f.high,
            1e3 / f.a, 1e3 / f.b, f.a * rate, f.b * rate, verdict);
 }

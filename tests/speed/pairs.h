@@ -21,7 +21,10 @@ struct side {
 /* Where a ratio is asked for; nowhere, it is only shown. */
 enum where { NOWHERE, ON_X86_64, EVERYWHERE };
 
-/* The heads of the columns, to be called first. */
+/* MB/s in a short while. */
+double rate_of(const struct side *s);
+
+/* The heads of the columns, to be called before anything is shown below them. */
 void show_heads(void);
 
 /* The cipher and the key that stand before each line from here on. */

@@ -95,6 +95,21 @@ static inline uint64_t mu8(uint64_t w)
     return all;
 }
 
+uint8_t plain_box(uint8_t x)
+{
+    return box(x);
+}
+
+uint32_t plain_mu4(uint32_t w)
+{
+    return mu4(w);
+}
+
+uint64_t plain_mu8(uint64_t w)
+{
+    return mu8(w);
+}
+
 /* The round function worked out, and the rounds over it and over tables. A state goes by its address: handed over by
  * value, its two words would be packed into one register and taken apart again in each round. */
 
@@ -687,10 +702,11 @@ static void write128(const struct state128 *s, uint8_t *out)
     store4(out + 12, s->d);
 }
 
-static void tag64(const struct plain_key *k, const uint8_t *message, size_t len, uint8_t *tag)
+static void tag64(const struct plain_key *k, const uint8_t *chained, const uint8_t *message, size_t len, uint8_t *tag)
 {
     struct state64 zero = {0, 0}, s = {0, 0};
     seal64(k, &zero);
+    take64(&s, chained);
     for (; len > 8; message += 8, len -= 8) {
         take64(&s, message);
         seal64(k, &s);
@@ -700,10 +716,11 @@ static void tag64(const struct plain_key *k, const uint8_t *message, size_t len,
     write64(&s, tag);
 }
 
-static void tag128(const struct plain_key *k, const uint8_t *message, size_t len, uint8_t *tag)
+static void tag128(const struct plain_key *k, const uint8_t *chained, const uint8_t *message, size_t len, uint8_t *tag)
 {
     struct state128 zero = {0, 0, 0, 0}, s = {0, 0, 0, 0};
     seal128(k, &zero);
+    take128(&s, chained);
     for (; len > 16; message += 16, len -= 16) {
         take128(&s, message);
         seal128(k, &s);
@@ -713,12 +730,19 @@ static void tag128(const struct plain_key *k, const uint8_t *message, size_t len
     write128(&s, tag);
 }
 
-void plain_tag(const struct plain_key *prepared, const uint8_t *message, size_t len, uint8_t *tag)
+void plain_tag_end(const struct plain_key *prepared, const uint8_t *chained, const uint8_t *message, size_t len,
+                   uint8_t *tag)
 {
     if (prepared->cipher == 64)
-        tag64(prepared, message, len, tag);
+        tag64(prepared, chained, message, len, tag);
     else
-        tag128(prepared, message, len, tag);
+        tag128(prepared, chained, message, len, tag);
+}
+
+void plain_tag(const struct plain_key *prepared, const uint8_t *message, size_t len, uint8_t *tag)
+{
+    static const uint8_t none[16];
+    plain_tag_end(prepared, none, message, len, tag);
 }
 
 static void small_tag64(const struct mixed *m, const uint8_t *message, size_t len, uint8_t *tag)

@@ -12,8 +12,13 @@ struct plain_key {
     uint64_t keys[2 * 255];
 };
 
-/* To be called once, before any other function here. */
+/* To be called once, before any function below. */
 void plain_tables(void);
+
+/* What tables are made of: the S-box, and a word times the matrix of FOX64 and of FOX128. */
+uint8_t plain_box(uint8_t x);
+uint32_t plain_mu4(uint32_t w);
+uint64_t plain_mu8(uint64_t w);
 
 void plain_prepare(struct plain_key *prepared, uint32_t cipher, uint32_t rounds, const uint8_t *key, size_t key_len);
 
@@ -34,5 +39,10 @@ void plain_run_small(uint32_t cipher, uint32_t rounds, const uint8_t *key, size_
 void plain_tag(const struct plain_key *prepared, const uint8_t *message, size_t len, uint8_t *tag);
 void plain_tag_small(uint32_t cipher, uint32_t rounds, const uint8_t *key, size_t key_len, const uint8_t *message,
                      size_t len, uint8_t *tag);
+
+/* The tag of a message of which the blocks so far are chained to the block `chained`. The rest of it is handed over,
+ * which is empty only where the whole message is. */
+void plain_tag_end(const struct plain_key *prepared, const uint8_t *chained, const uint8_t *message, size_t len,
+                   uint8_t *tag);
 
 #endif

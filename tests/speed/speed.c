@@ -2,6 +2,7 @@
  * runs and tags, side by side in one process. The C code and every engine are first held to the server's answers, and
  * nothing is measured where they differ. A figure that is missed is said and is no error. */
 #include "chance.h"
+#include "compilers.h"
 #include "count.h"
 #include "engines.h"
 #include "files.h"
@@ -271,7 +272,7 @@ int main(void)
     fill_from(1, key, sizeof key);
     fill_from(3, input, sizeof input);
     plain_tables();
-    if (!others_agree() || !timed_agree())
+    if (!others_agree() || !timed_agree() || !compilers_agree())
         return 1;
     printf("speed: the C code answers as the library does; %d bytes (card: %d), %d rounds, medians of %d pairs "
            "(16 MiB: %d), processor time\n",
@@ -286,5 +287,8 @@ int main(void)
         show_runs(settings[i].asked);
         show_tags();
     }
-    return show_files() && show_sessions() ? 0 : 1;
+    if (!show_files() || !show_sessions())
+        return 1;
+    show_compilers();
+    return 0;
 }
