@@ -22,6 +22,7 @@ use fox_server_tables::tbsm4;
 use fox_server_tables::tbsm8;
 use fox_sheet_answer::answer;
 
+// The lookups, with a mask that is a constant here.
 #[no_mangle]
 pub extern "C" fn fox_probe_pick4(t: &[u32; 1024], w: u32) -> u32
     ensures { λ r. ⌜ r ≡ picked 4 (now (t .entry)) w ⌝ }
