@@ -43,5 +43,6 @@ returns c =
 
 pub elmid128-spec : {M : Type 1} → statement M
 elmid128-spec =
-    tie.close (tie.spec (λ c κs. search needs) (λ c κs. search needs) (λ c κs. search needs) cast-pick4 (λ c κs. search needs) (λ c. search needs) (λ c. search needs)
+    tie.close (tie.spec (λ c κs. search needs) (λ c κs. search needs) (λ c κs. search needs) cast-pick4 (λ c κs. search needs) (λ c. search needs)
+    (λ c. search needs)
     (λ c κs. search needs) (λ c. search needs) returns)

@@ -1,5 +1,5 @@
--- `fox128::seal_four128` meets its contract: whenever the loop's test is reached, the rounds that are left turn each of the four states into what all rounds turn
--- its block into. After the loop one round is left.
+-- `fox128::seal_four128` meets its contract: whenever the loop's test is reached, the rounds that are left turn each of the four states into what all rounds
+-- turn its block into. After the loop one round is left.
 -- Assumes nothing.
 use borrow.Author.Needs.{needs}
 use Prim.Native.Nat.{_-_, _≤_}
