@@ -12,7 +12,7 @@ use fox_refusals::answer::Answer;
 use fox_refusals::refusals::for_block;
 
 // What a call on part of a block's rounds returns: the answer, and the register's value for the next round, 0 where the call is refused.
-#[derive(Drop)]
+#[derive(Clone, Copy)]
 pub struct PartAnswer {
     pub answer: Answer,
     pub reg: u32,

@@ -9,7 +9,7 @@ use fox_key_schedule::schedule::Schedule;
 use fox_rounds::state::State;
 
 // A block between two rounds: its state as the last round left it, before "or" or "io", and the register's value for the next round.
-#[derive(Drop)]
+#[derive(Clone, Copy)]
 pub struct Hold {
     pub state: State,
     pub reg: u32,

@@ -1,1 +1,2 @@
 // No code: proofs/Vectors.antt has the prover compute 001's test vectors of FOX64 by the definitions.
+#![tactic(auto)]

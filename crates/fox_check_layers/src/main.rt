@@ -1,5 +1,7 @@
 // Runs the compiled layers: values of the specification, then the card engine's layers against the server engine's lookups on words of a fixed sequence.
 // What it prints is compared with the file `stdout`.
+#![tactic(auto)]
+
 ghost use Rattle.std.specs.Prelude.{◌≡◌, ◌≤◌};
 
 use fox_layers::{diffusion, substitution};

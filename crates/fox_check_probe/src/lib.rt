@@ -1,6 +1,8 @@
 // Exported functions whose instructions the gate counts (tests/instructions.sh, tests/measure.sh), part of a block's rounds (tests/part.sh), and the bench
 // sheet for a fuzzer to call (tests/fuzz.sh).
 // No product uses this crate.
+#![tactic(auto)]
+
 ghost use Rattle.std.specs.Prelude.{◌≡◌, length};
 ghost use Rattle.fox_layers.specs.Tables.{picked};
 ghost use Rattle.fox_rounds.specs.Skeleton.{seal64, seal128};

@@ -1,6 +1,8 @@
 // Plays the calls on sessions that its input lists, and prints what each told. A session begins with five lines, `way` (`seal` or `open`), `cipher`, `rounds`,
 // `key` and `counter`; a line `advance` has the next bytes, and a line `move` a position. What is printed for the file `stdin` is compared with the file `stdout`, which was written by the
 // plain machine of the second implementation.
+#![tactic(auto)]
+
 ghost use Rattle.std.specs.Prelude.{◌-◌, ◌≤◌, length};
 
 use fox_server_key::prepared::prepare;

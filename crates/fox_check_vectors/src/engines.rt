@@ -10,7 +10,7 @@ use fox_text_lines::lines::{same, starts_with};
 const PAINT: u8 = 0xA5;
 
 // What a row asks of an engine (`engine` 0: the card, 1: the server from key bytes, 2: the server from a prepared key), and the refusal that is due, or 0.
-#[derive(Drop)]
+#[derive(Clone, Copy)]
 struct Call {
     engine: u32,
     seals: bool,

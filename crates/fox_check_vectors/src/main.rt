@@ -1,5 +1,7 @@
 // Runs the rows of vectors in its input, each by every engine, and prints a line for each row and how many rows differ.
 // A row is seven lines: `cipher`, `rounds`, `key`, `block`, `seal` and `open`, which are the refusals of either direction, or 0, and `sealed`. What is printed for the file `stdin` is compared with the file `stdout`.
+#![tactic(auto)]
+
 ghost use Rattle.std.specs.Prelude.{◌-◌, ◌≤◌, length};
 
 use fox_text_lines::lines::{after_line, rest};

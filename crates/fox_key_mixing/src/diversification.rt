@@ -37,7 +37,7 @@ fn word_233(x: u32, y: u32, z: u32) -> u64
 }
 
 // The first sixteen bytes of register values, and the value that they end in, of which two bytes are left.
-#[derive(Drop)]
+#[derive(Clone, Copy)]
 struct Sixteen {
     a: u64,
     b: u64,

@@ -4,13 +4,13 @@ ghost use Rattle.fox_key_mixing.specs.KeyBytes.{bytes16, bytes32};
 
 use fox_bytes::bytes::load8;
 
-#[derive(Drop)]
+#[derive(Clone, Copy)]
 pub struct Key16 {
     pub a: u64,
     pub b: u64,
 }
 
-#[derive(Drop)]
+#[derive(Clone, Copy)]
 pub struct Key32 {
     pub a: u64,
     pub b: u64,

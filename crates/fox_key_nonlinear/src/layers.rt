@@ -8,7 +8,7 @@ use fox_layers::diffusion::{mu4, mu8};
 use fox_layers::substitution::sigma8;
 use fox_rounds::fox128::pair;
 
-#[derive(Drop)]
+#[derive(Clone, Copy)]
 pub struct Words2 {
     pub w0: u32,
     pub w1: u32,

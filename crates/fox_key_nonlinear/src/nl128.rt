@@ -8,7 +8,7 @@ use crate::layers::{first8, second8};
 use fox_key_mixing::key_bytes::Key32;
 use fox_rounds::fox128::{Fox128, pair};
 
-#[derive(Drop)]
+#[derive(Clone, Copy)]
 struct Longs4 {
     w0: u64,
     w1: u64,
@@ -17,7 +17,7 @@ struct Longs4 {
 }
 
 // A round key of 128 bits.
-#[derive(Drop)]
+#[derive(Clone, Copy)]
 pub struct Key128 {
     pub left: u64,
     pub right: u64,

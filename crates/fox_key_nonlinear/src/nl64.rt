@@ -9,7 +9,7 @@ use fox_key_mixing::key_bytes::Key16;
 use fox_rounds::fox64::Fox64;
 use fox_rounds::fox128::pair;
 
-#[derive(Drop)]
+#[derive(Clone, Copy)]
 struct Words4 {
     w0: u32,
     w1: u32,

@@ -9,7 +9,7 @@ use crate::nl64::number;
 use fox_key_mixing::key_bytes::Key32;
 use fox_rounds::fox64::Fox64;
 
-#[derive(Drop)]
+#[derive(Clone, Copy)]
 struct Words8 {
     w0: u32,
     w1: u32,

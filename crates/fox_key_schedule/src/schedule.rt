@@ -16,7 +16,7 @@ use fox_rounds::fox128::Fox128;
 
 // A round key, as two words of 64 bits, of which FOX64 takes the right one and has 0 in the left, and the register's value for the next round key and for the
 // one before.
-#[derive(Drop)]
+#[derive(Clone, Copy)]
 pub struct RoundKey {
     pub key: Key128,
     pub next: u32,
@@ -36,7 +36,7 @@ impl RoundKey {
 }
 
 // KS64, KS64h or KS128, and whether the key has ek bytes.
-#[derive(Drop)]
+#[derive(Clone, Copy)]
 pub enum Schedule {
     Ks64(Key16, bool),
     Ks64h(Key32, bool),

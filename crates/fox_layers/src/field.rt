@@ -30,7 +30,7 @@ pub fn times_fd(x: u8) -> u8
 }
 
 // A byte's products by the coefficients of mu8 other than 01.
-#[derive(Drop)]
+#[derive(Clone, Copy)]
 pub struct Multiples {
     pub m02: u8,
     pub m03: u8,

@@ -9,7 +9,7 @@ ghost use Rattle.fox_layers.specs.Structs.{Held, Each, EachXor};
 pub(crate) const ONES: u64 = 0x0101_0101_0101_0101;
 
 // Eight numbers of four bits, one for each byte of a word. b3 has the highest bit of each, as the lowest bit of its byte.
-#[derive(Drop)]
+#[derive(Clone, Copy)]
 pub struct Nibbles {
     pub b3: u64,
     pub b2: u64,

@@ -2,7 +2,7 @@
 ghost use Rattle.std.specs.Prelude.{◌≡◌, [], ◌∷◌};
 ghost use Rattle.fox_layers.specs.Words.{joined, split, xor_all};
 
-#[derive(Drop)]
+#[derive(Clone, Copy)]
 pub struct Bytes4 {
     pub x0: u8,
     pub x1: u8,
@@ -10,7 +10,7 @@ pub struct Bytes4 {
     pub x3: u8,
 }
 
-#[derive(Drop)]
+#[derive(Clone, Copy)]
 pub struct Bytes8 {
     pub x0: u8,
     pub x1: u8,

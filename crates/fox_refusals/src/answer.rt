@@ -1,7 +1,7 @@
 // What a call returns besides its output: the refusal number, 0 for success, and the count of bytes written.
 ghost use Rattle.std.specs.Prelude.{◌≡◌};
 
-#[derive(Drop)]
+#[derive(Clone, Copy)]
 pub struct Answer {
     pub refusal: u32,
     pub count: usize,

@@ -1,4 +1,6 @@
 // What all calls have in common: the refusals in their order, and the answer.
+#![tactic(auto)]
+
 pub mod answer;
 pub mod counters;
 pub mod refusals;

@@ -9,7 +9,7 @@ use crate::fox64::{io, or};
 use fox_layers::diffusion::mu8;
 use fox_layers::substitution::sigma8;
 
-#[derive(Drop)]
+#[derive(Clone, Copy)]
 pub struct Fox128 {
     pub ll: u32,
     pub lr: u32,

@@ -7,7 +7,7 @@ ghost use Rattle.fox_rounds.specs.declared.state.State.TheVariants.{Of64};
 use fox_layers::diffusion::mu4;
 use fox_layers::substitution::sigma4;
 
-#[derive(Drop)]
+#[derive(Clone, Copy)]
 pub struct Fox64 {
     pub l: u32,
     pub r: u32,

@@ -5,7 +5,7 @@ ghost use Rattle.fox_rounds.specs.Skeleton.{size, round, between};
 use crate::fox64::Fox64;
 use crate::fox128::Fox128;
 
-#[derive(Drop)]
+#[derive(Clone, Copy)]
 pub enum State {
     Of64(Fox64),
     Of128(Fox128),

@@ -1,5 +1,7 @@
 // The reader of a run file as one value: the file, its refusal, and the place of the next scan, with thin functions over it. The borrow checker covers no
 // function over a struct that holds a reference, so each is proved by a walk by hand; the work is in fox_run_file_take_up and fox_run_file_read, on slices and places.
+#![tactic(auto)]
+
 ghost use Rattle.std.specs.Prelude.{◌≡◌};
 ghost use Rattle.fox_server_key.specs.Prepared.{round_keys_in};
 ghost use Rattle.fox_run_file.specs.Promise.{TakesUpWith, next_at, ReadsWith};

@@ -1,2 +1,4 @@
 // How long a run file is, from the lengths of its scans.
+#![tactic(auto)]
+
 pub mod sizes;

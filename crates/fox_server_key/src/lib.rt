@@ -1,2 +1,4 @@
 // The server engine's prepared key.
+#![tactic(auto)]
+
 pub mod prepared;

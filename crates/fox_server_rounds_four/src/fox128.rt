@@ -11,7 +11,7 @@ ghost use Rattle.fox_server_rounds_four.specs.Each.{Each128};
 
 use crate::wide::{Wide128, elmid_wide};
 
-#[derive(Drop)]
+#[derive(Clone, Copy)]
 pub struct Four128 {
     pub first: Wide128,
     pub second: Wide128,

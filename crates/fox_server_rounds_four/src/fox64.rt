@@ -14,7 +14,7 @@ ghost use Rattle.fox_server_rounds_four.specs.Each.{Each64};
 use fox_rounds::fox64::{Fox64, or};
 use fox_server_rounds::fox64::f32;
 
-#[derive(Drop)]
+#[derive(Clone, Copy)]
 pub struct Four64 {
     pub first: Fox64,
     pub second: Fox64,

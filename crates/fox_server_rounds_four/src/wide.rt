@@ -10,7 +10,7 @@ use fox_rounds::fox128::{Fox128, pair};
 use fox_server_lookups::lookups::{byte_mask, pick_left, pick_right, pick8};
 
 // `l` has LL and then RL, `r` has LR and then RR. So what "or" changes stands in `l` alone.
-#[derive(Drop)]
+#[derive(Clone, Copy)]
 pub struct Wide128 {
     pub l: u64,
     pub r: u64,

@@ -1,3 +1,5 @@
 // Blocks in two words, as a session keeps them, by the server engine.
+#![tactic(auto)]
+
 pub mod block;
 mod seal;

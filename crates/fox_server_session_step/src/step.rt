@@ -16,7 +16,7 @@ use fox_server_session_block::block::{block_at, whole_blocks, xor_block};
 use fox_session::{Here, Pair};
 
 // What stays the same in a session, but for the round keys: whether it seals or opens among it.
-#[derive(Drop)]
+#[derive(Clone, Copy)]
 pub struct Basis {
     pub sealing: bool,
     pub cipher: u32,
@@ -26,7 +26,7 @@ pub struct Basis {
 }
 
 // What a call on a session returns: its answer, and where the session then stands.
-#[derive(Drop)]
+#[derive(Clone, Copy)]
 pub struct Step {
     pub answer: Answer,
     pub here: Here,

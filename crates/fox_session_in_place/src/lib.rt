@@ -1,5 +1,7 @@
 // The calls on a session that change it where the caller has it. Each reads the session, calls the function of fox_server_session and keeps where the session
 // then stands; the prepared key and the counter stay. The borrow checker covers no function over a reference to a struct, so each is proved by a walk by hand.
+#![tactic(auto)]
+
 ghost use Rattle.std.specs.Prelude.{[]};
 ghost use Rattle.fox_session.specs.Machine.{Advance, Move};
 ghost use Rattle.fox_server_session.specs.Session.{Changes};

@@ -1,5 +1,7 @@
 // The station's calls by the card engine, on numbers and byte slices. Each returns the refusal number, 0 for success, from which the count follows: the
 // output length, or 0; a test of a tag has no output, and count 0.
+#![tactic(auto)]
+
 ghost use Rattle.std.specs.Prelude.{true, false};
 ghost use Rattle.fox_station.specs.Exports.{RunHanded, TurnHanded, MakeTagHanded, TestTagHanded};
 

@@ -1,5 +1,7 @@
 // The station's call that makes the first counter block of a run from the run's number. It returns the refusal number, 0 for success, from which the count
 // follows: the output length, or 0.
+#![tactic(auto)]
+
 ghost use Rattle.fox_station.specs.Exports.{CounterHanded};
 
 use crate::counter::make;

@@ -1,5 +1,7 @@
 // The station's calls on run files, on numbers and byte slices, by the server engine. The key is prepared within the call. A call with refusals returns the
 // refusal number, 0 for success; counts and the place go through numbers that the caller lends.
+#![tactic(auto)]
+
 ghost use Rattle.std.specs.Prelude.{◌≡◌};
 ghost use Rattle.fox_run_file.specs.declared.place.Place.{Place};
 ghost use Rattle.fox_run_file.specs.declared.reading.Next.{Next};

@@ -1,6 +1,8 @@
 // The station's calls on sessions, by the server engine, over 519 words that the caller lends: the round keys, cipher, rounds, key length, first counter block,
 // position, block in use, and whether the session seals or opens. Each returns the refusal number, 0 for success, from which the count follows: of an advance
 // the output length, or 0; of a start or a move 0.
+#![tactic(auto)]
+
 ghost use Rattle.std.specs.Prelude.{◌≡◌, true, false, [], length, get_or};
 ghost use Rattle.fox_refusals.specs.Handed.{answer};
 ghost use Rattle.fox_session.specs.Machine.{Advance, Move};

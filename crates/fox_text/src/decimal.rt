@@ -1,5 +1,5 @@
 // What reading a decimal returns: whether the text is one in range, and its value.
-#[derive(Drop)]
+#[derive(Clone, Copy)]
 pub struct Decimal {
     pub right: bool,
     pub value: u32,

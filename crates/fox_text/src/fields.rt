@@ -1,5 +1,5 @@
 // What reading a line of pairs returns: whether it is pairs of hex digits after its name, and how many bytes they are.
-#[derive(Drop)]
+#[derive(Clone, Copy)]
 pub struct Pairs {
     pub right: bool,
     pub count: usize,

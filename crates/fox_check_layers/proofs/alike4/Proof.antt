@@ -12,8 +12,8 @@ invariant-loop s t mask alike₀ w₀ i₀ alike w i = (alike ≤ i) × (i ≤ 4
 abbrev decreases-loop : tie.decreases-loop
 decreases-loop s t mask alike₀ w₀ i₀ alike w i = 4096 - i
 
-pub alike4-spec : {M : Type 1} → statement M
-alike4-spec =
+pub alike4_spec : {M : Type 1} → statement M
+alike4_spec =
     tie.close (tie.spec invariant-loop decreases-loop (λ c κs. search rules) (λ c κs. search rules) (λ c κs. search rules) (λ c. search rules) (λ c κs. search rules)
     (λ c. search rules)
     (λ c κs. search rules) (λ c. search rules) (λ c. search rules) (λ c. search rules) (λ c. search rules) (λ c. search rules))

@@ -12,7 +12,7 @@ invariant-loop s t mask alike₀ w₀ i₀ alike w i = (alike ≤ i) × (i ≤ 4
 abbrev decreases-loop : tie.decreases-loop
 decreases-loop s t mask alike₀ w₀ i₀ alike w i = 4096 - i
 
-pub alike8-spec : {M : Type 1} → statement M
-alike8-spec =
+pub alike8_spec : {M : Type 1} → statement M
+alike8_spec =
     tie.close (tie.spec invariant-loop decreases-loop (λ c κs. search rules) (λ c κs. search rules) (λ c κs. search rules) (λ c. search rules) (λ c κs. search rules)
     (λ c κs. search rules) (λ c. search rules) (λ c. search rules) (λ c. search rules) (λ c. search rules) (λ c. search rules))

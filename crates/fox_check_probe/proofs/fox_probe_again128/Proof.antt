@@ -48,7 +48,7 @@ returns c =
     λ i. record { ll = new.0 i; lr = new.1 i; rl = new.2 i; rr = new.3 i } in
     rw (at.loop.invariant.1, all, start)
 
-pub fox-probe-again128-spec : {M : Type 1} → statement M
-fox-probe-again128-spec =
+pub fox_probe_again128_spec : {M : Type 1} → statement M
+fox_probe_again128_spec =
     tie.close (tie.spec invariant-loop decreases-loop (λ c κs. search rules) (λ c κs. search rules) (λ c κs. search rules) loop-holds turn128-requires
     (λ c. search rules) (λ c. search rules) loop-again returns)

@@ -47,7 +47,7 @@ returns c =
     let start : at.before.new.result ≡ record { l = a.l; r = a.r } = λ i. record { l = new.0 i; r = new.1 i } in
     rw (at.loop.invariant.1, all, start)
 
-pub fox-probe-again64-spec : {M : Type 1} → statement M
-fox-probe-again64-spec =
+pub fox_probe_again64_spec : {M : Type 1} → statement M
+fox_probe_again64_spec =
     tie.close (tie.spec invariant-loop decreases-loop (λ c κs. search rules) (λ c κs. search rules) (λ c κs. search rules) loop-holds turn64-requires
     (λ c. search rules) (λ c. search rules) loop-again returns)

@@ -12,5 +12,5 @@ returns c =
     let done = c.before.before.before.before.turn-in-two.ensures in
     record { reply = handed-reply (record { refusal = done.reply.refusal; output = done.reply.output }); kept = done.kept }
 
-pub fox-probe-in-two-spec : {M : Type 1} → statement M
-fox-probe-in-two-spec = tie.close (tie.spec (λ c κs. search rules) (λ c. search rules) (λ c. search rules) returns)
+pub fox_probe_in_two_spec : {M : Type 1} → statement M
+fox_probe_in_two_spec = tie.close (tie.spec (λ c κs. search rules) (λ c. search rules) (λ c. search rules) returns)

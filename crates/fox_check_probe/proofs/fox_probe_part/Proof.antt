@@ -30,6 +30,6 @@ returns : tie.Need-returns
 unfolding asks_to_seal
 returns c = let call = c.before.before.before.before.turn-part in unpacks call.result (search rules) call.ensures
 
-pub fox-probe-part-spec : {M : Type 1} → statement M
-fox-probe-part-spec =
+pub fox_probe_part_spec : {M : Type 1} → statement M
+fox_probe_part_spec =
     tie.close (tie.spec (λ c κs. search rules) (λ c. search rules) (λ c. search rules) (λ c. search rules) (λ c. search rules) (λ c. search rules) returns)

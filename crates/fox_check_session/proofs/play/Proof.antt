@@ -29,7 +29,7 @@ loop-less c = omega (arith, less c)
 loop-again : tie.Need-loop-preserved invariant-loop decreases-loop
 loop-again c = omega (arith, less c)
 
-pub play-spec : {M : Type 1} → statement M
-play-spec =
+pub play_spec : {M : Type 1} → statement M
+play_spec =
     tie.close (tie.spec invariant-loop decreases-loop (λ c. search rules) (λ c. search rules) (λ c κs. search rules) (λ c κs. search rules)
     (λ c κs. search rules) loop-less loop-again (λ c. search rules))

@@ -9,7 +9,7 @@ use Rattle.fox_check_session.proofs.play_advance.Tie as tie
 slice-aggregate-advance-into-2 : tie.Need-slice-aggregate-advance-into-2
 slice-aggregate-advance-into-2 c = sym (length-take-le _ _ (search rules))
 
-pub play-advance-spec : {M : Type 1} → statement M
-play-advance-spec =
+pub play_advance_spec : {M : Type 1} → statement M
+play_advance_spec =
     tie.close (tie.spec (λ c. search rules) (λ c. search rules) (λ c κs. search rules) (λ c κs. search rules) (λ c. search rules) (λ c. search rules)
     (λ c. search rules) (λ c. search rules) slice-aggregate-advance-into-2 (λ c κs. search rules) (λ c. search rules))

@@ -29,8 +29,8 @@ loop-less c = omega (arith, less c)
 loop-again : tie.Need-loop-preserved invariant-loop decreases-loop
 loop-again c = omega (arith, less c)
 
-pub run-rows-spec : {M : Type 1} → statement M
-run-rows-spec =
+pub run_rows_spec : {M : Type 1} → statement M
+run_rows_spec =
     tie.close (tie.spec invariant-loop decreases-loop (λ c. search rules) (λ c. search rules) (λ c κs. search rules) (λ c. search rules) (λ c κs. search rules)
     (λ c. search rules) (λ c κs. search rules) loop-less loop-again (λ c. search rules) (λ c. search rules) (λ c κs. search rules)
     (λ c. search rules))

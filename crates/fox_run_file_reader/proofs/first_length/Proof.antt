@@ -93,8 +93,8 @@ module _ (w : World) (κ : Lft) (q : Share) (p : Prepared) (f : Bor (List ℕ)) 
       ends w F at r _ (ensures w NextLength.says (to d) r)
       (so w F NextLength.says at (to d) r r (λ _. (tt, (tt, tt))) (λ _. emp∗ w.𝓤 _) (λ _. fact_mono w.𝓤 _ _ (tells p f d e r))))))))))
 
-pub first-length-spec : {M : Type 1} → stated.statement M
+pub first_length_spec : {M : Type 1} → stated.statement M
 unfolding code.routine
-first-length-spec =
+first_length_spec =
     closes F (λ κs. (prepared, (shared (named 0) κs.0, tt))) code.env key.name code.function (λ w. code.unfolded w.𝓤 w.𝓛.H w.𝓜 w.𝓡)
     (λ w y ts. walk w y.0.0.0 y.0.1.0 y.0.3.0 y.0.3.1.0 ts.0 ts.1.0)

@@ -47,8 +47,8 @@ module _ (w : World) (κ : Lft) (q : Share) (d : Reader) (p : Place) where
       ends w F at (reader_at d p) _ (‵ ftrue)
       (outright w F at (reader_at d p) (tt, (tt, tt)) (via w.𝓤 _ (emp∗ w.𝓤 (emp w.𝓤)) (emp∗ w.𝓤 _)) (fact_i w.𝓤 _ (emp w.𝓤) refl)))))))
 
-pub moved-spec : {M : Type 1} → stated.statement M
+pub moved_spec : {M : Type 1} → stated.statement M
 unfolding code.routine
-moved-spec =
+moved_spec =
     closes F (λ κs. (reader (named_lft 1 0 tt κs), (place, tt))) code.env key.name code.function (λ w. code.unfolded w.𝓤 w.𝓛.H w.𝓜 w.𝓡)
     (λ w y ts. walk w y.0.0.0 y.0.1.0 y.0.3.0 y.0.3.1.0 ts.0 ts.1.0)

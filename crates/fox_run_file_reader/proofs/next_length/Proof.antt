@@ -59,8 +59,8 @@ module _ (w : World) (κ : Lft) (q : Share) (d : Reader) where
       returns ! (look ! 9 refl) $ move ! (9 ∷ 10 ∷ 7 ∷ 8 ∷ 5 ∷ 6 ∷ 3 ∷ 4 ∷ []) $ freed ! $ freed ! $ freed ! $ freed ! $ free0 ! $ move ! (2 ∷ []) $
       ends w F at r _ (ensures w G.says to r) (so w F G.says at to r r (λ _. (tt, tt)) (λ _. snd∗ w.𝓤 (emp w.𝓤) _) (λ _. id⊢ w.𝓤 _)))))))
 
-pub next-length-spec : {M : Type 1} → stated.statement M
+pub next_length_spec : {M : Type 1} → stated.statement M
 unfolding code.routine
-next-length-spec =
+next_length_spec =
     closes F (λ κs. (reader (named_lft 1 0 tt κs), tt)) code.env key.name code.function (λ w. code.unfolded w.𝓤 w.𝓛.H w.𝓜 w.𝓡)
     (λ w y ts. walk w y.0.0.0 y.0.1.0 y.0.3.0 ts.0)

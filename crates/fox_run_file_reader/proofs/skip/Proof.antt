@@ -87,8 +87,8 @@ module _ (w : World) (κ : Lft) (q : Share) (d : Reader) where
       ends w F at r _ (ensures w Moved.says (then p) r)
       (so w F Moved.says at (then p) r r (λ _. (tt, tt)) (λ _. snd∗ w.𝓤 (emp w.𝓤) _) (λ _. fact_mono w.𝓤 _ _ (λ x. x ∙ ap (reader_at d) e))))))))))))
 
-pub skip-spec : {M : Type 1} → stated.statement M
+pub skip_spec : {M : Type 1} → stated.statement M
 unfolding code.routine
-skip-spec =
+skip_spec =
     closes F (λ κs. (reader (named_lft 1 0 tt κs), tt)) code.env key.name code.function (λ w. code.unfolded w.𝓤 w.𝓛.H w.𝓜 w.𝓡)
     (λ w y ts. walk w y.0.0.0 y.0.1.0 y.0.3.0 ts.0)

@@ -70,8 +70,8 @@ module _ (w : World) (κ : Lft) (q : Share) (p : Prepared) (f : Bor (List ℕ)) 
       ends w F at (reader_of f t) _ (ensures w G.says at t)
       (so w F G.says at at (reader_of f t) t (λ ws. ws) (λ _. id⊢ w.𝓤 _) (λ _. fact_mono w.𝓤 _ _ (λ x. (refl, x)))))))))
 
-pub take-up-spec : {M : Type 1} → stated.statement M
+pub take_up_spec : {M : Type 1} → stated.statement M
 unfolding code.routine
-take-up-spec =
+take_up_spec =
     closes F (λ κs. (prepared, (shared (named 0) κs.0, tt))) code.env key.name code.function (λ w. code.unfolded w.𝓤 w.𝓛.H w.𝓜 w.𝓡)
     (λ w y ts. walk w y.0.0.0 y.0.1.0 y.0.3.0 y.0.3.1.0 ts.0 ts.1.0)

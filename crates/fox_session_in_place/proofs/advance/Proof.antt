@@ -79,9 +79,9 @@ module _ (w : World) (κ κ' κ'' : Lft) (q q' q'' : Share) (x : Bor Session) (i
       (so-first w F G.says at to r.answer r (Last x r.here) (λ ws. (session_at x.now r.here, ws.1)) (λ _. refl) (λ _. refl)
       (λ _. fact_mono w.𝓤 _ _ (λ f. record { follows = f; stays = refl })))))))))))))
 
-pub advance-spec : {M : Type 1} → stated.statement M
+pub advance_spec : {M : Type 1} → stated.statement M
 unfolding code.routine
-advance-spec =
+advance_spec =
     closes F (λ κs. (behind (named 0) κs.0 S.the_row, (shared (named 1) κs.1.0, (lent (named 2) κs.1.1.0, tt)))) code.env key.name code.function
     (λ w. code.unfolded w.𝓤 w.𝓛.H w.𝓜 w.𝓡)
     (λ w y ts.

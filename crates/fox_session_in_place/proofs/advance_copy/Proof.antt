@@ -93,9 +93,9 @@ module _ (w : World) (κ κ' : Lft) (q q' : Share) (s : Session) (i o : MutBor (
       ends w F at (both r ws.0) _ (lastly w F at (tt, ws.1) ⊛ raw (says w F at (both r ws.0) (tt, ws.1)))
       (at_last w F at (both r ws.0) (tt, ws.1)))))))))))))))))
 
-pub advance-copy-spec : {M : Type 1} → stated.statement M
+pub advance_copy_spec : {M : Type 1} → stated.statement M
 unfolding code.routine
-advance-copy-spec =
+advance_copy_spec =
     closes F (λ κs. (session, (shared (named 0) κs.0, (lent (named 1) κs.1.0, tt)))) code.env key.name code.function
     (λ w. code.unfolded w.𝓤 w.𝓛.H w.𝓜 w.𝓡)
     (λ w y ts.

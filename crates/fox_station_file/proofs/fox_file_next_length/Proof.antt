@@ -10,5 +10,5 @@ use Rattle.fox_station_file.proofs.fox_file_next_length.Tie as tie
 returns : tie.Need-returns
 returns c = c.length-of.ensures ∙ ap length_of (c.before.next-at.ensures ∙ ap (next_at _) c.before.before.IsPlace-in.ensures)
 
-pub fox-file-next-length-spec : {M : Type 1} → statement M
-fox-file-next-length-spec = tie.close (tie.spec (λ c κs. search rules) (λ c κs. search rules) (λ c κs. search rules) returns)
+pub fox_file_next_length_spec : {M : Type 1} → statement M
+fox_file_next_length_spec = tie.close (tie.spec (λ c κs. search rules) (λ c κs. search rules) (λ c κs. search rules) returns)

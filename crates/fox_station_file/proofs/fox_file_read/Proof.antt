@@ -32,8 +32,8 @@ returns c =
     handed reading.before.before.IsPlace-in.ensures reading.read-from-key.ensures later.before.place_of.ensures later.words_of.ensures
     c.before.count_of.ensures c.number-of.ensures
 
-pub fox-file-read-spec : {M : Type 1} → statement M
-fox-file-read-spec =
+pub fox_file_read_spec : {M : Type 1} → statement M
+fox_file_read_spec =
     tie.close
     (tie.spec (λ c κs. search rules) (λ c κs. search rules) (λ c κs. search rules) (λ c κs. search rules) (λ c κs. search rules) (λ c κs. search rules)
     (λ c. search rules) returns)

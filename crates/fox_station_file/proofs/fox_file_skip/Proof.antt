@@ -9,5 +9,5 @@ use Rattle.fox_station_file.proofs.fox_file_skip.Tie as tie
 returns : tie.Need-returns
 returns c = c.words_of.ensures ∙ c.before.pass-over.ensures ∙ ap (passed_over _) c.before.before.IsPlace-in.ensures
 
-pub fox-file-skip-spec : {M : Type 1} → statement M
-fox-file-skip-spec = tie.close (tie.spec (λ c κs. search rules) (λ c κs. search rules) (λ c κs. search rules) returns)
+pub fox_file_skip_spec : {M : Type 1} → statement M
+fox_file_skip_spec = tie.close (tie.spec (λ c κs. search rules) (λ c κs. search rules) (λ c κs. search rules) returns)

@@ -10,5 +10,5 @@ returns c =
     let taken = c.before.before.take-up-from-key.ensures in
     record { refusal = taken.refusal; place = c.words_of.ensures ∙ taken.place }
 
-pub fox-file-take-up-spec : {M : Type 1} → statement M
-fox-file-take-up-spec = tie.close (tie.spec (λ c κs. search rules) (λ c κs. search rules) returns)
+pub fox_file_take_up_spec : {M : Type 1} → statement M
+fox_file_take_up_spec = tie.close (tie.spec (λ c κs. search rules) (λ c κs. search rules) returns)

@@ -9,5 +9,5 @@ returns : tie.Need-returns
 unfolding place_in
 returns c = search rules
 
-pub place-in-spec : {M : Type 1} → statement M
-place-in-spec = tie.close (tie.spec (λ c. search rules) (λ c. search rules) (λ c. search rules) returns)
+pub place_in_spec : {M : Type 1} → statement M
+place_in_spec = tie.close (tie.spec (λ c. search rules) (λ c. search rules) (λ c. search rules) returns)

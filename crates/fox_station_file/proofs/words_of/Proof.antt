@@ -9,5 +9,5 @@ returns : tie.Need-returns
 unfolding place_in
 returns c = refl
 
-pub words-of-spec : {M : Type 1} → statement M
-words-of-spec = tie.close (tie.spec returns)
+pub words_of_spec : {M : Type 1} → statement M
+words_of_spec = tie.close (tie.spec returns)

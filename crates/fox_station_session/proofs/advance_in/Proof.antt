@@ -11,7 +11,7 @@ returns c =
     step_kept a.before.before.before.before.before.before.before.before.before.args.words.now a.before.before.before.before.basis-in.ensures
     a.before.before.here_in.ensures a.advance.ensures c.before.before.keep.ensures
 
-pub advance-in-spec : {M : Type 1} → statement M
-advance-in-spec =
+pub advance_in_spec : {M : Type 1} → statement M
+advance_in_spec =
     tie.close
     (tie.spec (λ c κs. search rules) (λ c κs. search rules) (λ c κs. search rules) (λ c κs. search rules) (λ c. search rules) (λ c. search rules) returns)

@@ -9,7 +9,7 @@ returns : tie.Need-returns
 unfolding session_in
 returns c = search rules
 
-pub basis-in-spec : {M : Type 1} → statement M
-basis-in-spec =
+pub basis_in_spec : {M : Type 1} → statement M
+basis_in_spec =
     tie.close
     (tie.spec (λ c. search rules) (λ c. search rules) (λ c. search rules) (λ c. search rules) (λ c. search rules) (λ c. search rules) (λ c. search rules) (λ c. search rules) returns)

@@ -12,5 +12,5 @@ returns-2 : tie.Need-returns-2
 unfolding direction_word
 returns-2 c = rw c.if1.false
 
-pub direction-spec : {M : Type 1} → statement M
-direction-spec = tie.close (tie.spec returns returns-2)
+pub direction_spec : {M : Type 1} → statement M
+direction_spec = tie.close (tie.spec returns returns-2)

@@ -9,5 +9,5 @@ returns : tie.Need-returns
 unfolding session_in
 returns c = search rules
 
-pub here-in-spec : {M : Type 1} → statement M
-here-in-spec = tie.close (tie.spec (λ c. search rules) (λ c. search rules) (λ c. search rules) returns)
+pub here_in_spec : {M : Type 1} → statement M
+here_in_spec = tie.close (tie.spec (λ c. search rules) (λ c. search rules) (λ c. search rules) returns)

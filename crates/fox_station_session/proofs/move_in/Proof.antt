@@ -11,7 +11,7 @@ returns c =
     step_kept a.before.before.before.before.before.before.args.words.now a.before.before.before.basis-in.ensures a.before.here_in.ensures
     a.move-to.ensures c.before.before.keep.ensures
 
-pub move-in-spec : {M : Type 1} → statement M
-move-in-spec =
+pub move_in_spec : {M : Type 1} → statement M
+move_in_spec =
     tie.close
     (tie.spec (λ c κs. search rules) (λ c κs. search rules) (λ c κs. search rules) (λ c κs. search rules) (λ c. search rules) returns)

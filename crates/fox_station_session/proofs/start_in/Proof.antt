@@ -27,5 +27,5 @@ returns-2 c =
     let begun = c.before.before.before.before.start-from-key.ensures in
     record { starts = start-refused begun.starts c.before.if1.false; held = λ z. absurd (c.before.if1.false z); direction = λ z. absurd (c.before.if1.false z) }
 
-pub start-in-spec : {M : Type 1} → statement M
-start-in-spec = tie.close (tie.spec (λ c κs. search rules) (λ c κs. search rules) returns returns-2)
+pub start_in_spec : {M : Type 1} → statement M
+start_in_spec = tie.close (tie.spec (λ c κs. search rules) (λ c κs. search rules) returns returns-2)

@@ -47,8 +47,8 @@ returns c =
       stored.1 ∙ last_stored at.words start.args.s _ at.invariant.1 ∙ made.direction.ensures,
     )
 
-pub words-of-spec : {M : Type 1} → statement M
-words-of-spec =
+pub words_of_spec : {M : Type 1} → statement M
+words_of_spec =
     tie.close
     (tie.spec invariant-loop decreases-loop (λ c. (omega arith, refl, refl)) (λ c. search rules) (λ c. search rules) (λ c. search rules) (λ c. search rules)
     (λ c. search rules) (λ c. search rules) loop-again (λ c. search rules) (λ c. search rules) (λ c. search rules) (λ c. search rules) (λ c. search rules)

@@ -9,5 +9,5 @@ use Rattle.fox_station_session.proofs.write_here.Tie as tie
 returns : tie.Need-returns
 returns c = (here-stored _ _ (omega arith), last-kept c.before.args.words.now c.before.args.here)
 
-pub write-here-spec : {M : Type 1} → statement M
-write-here-spec = tie.close (tie.spec (λ c. search rules) (λ c. search rules) (λ c. search rules) (λ c. search rules) returns)
+pub write_here_spec : {M : Type 1} → statement M
+write_here_spec = tie.close (tie.spec (λ c. search rules) (λ c. search rules) (λ c. search rules) (λ c. search rules) returns)

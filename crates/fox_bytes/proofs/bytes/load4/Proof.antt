@@ -15,7 +15,7 @@ returns c =
     let h : a.at + 4 ≤ length a.s.now = c.before.before.before.before.before.before.requires in
     c.join4.ensures ∙ ap joined (sym (take-four a.s.now a.at h))
 
-pub load4-spec : {M : Type 1} → statement M
-load4-spec =
+pub load4_spec : {M : Type 1} → statement M
+load4_spec =
     tie.close (tie.spec (λ c. search rules) (λ c. search rules) (λ c. search rules) (λ c. search rules) (λ c. search rules) (λ c. search rules)
     (λ c. search rules) (λ c κs. search rules) returns)

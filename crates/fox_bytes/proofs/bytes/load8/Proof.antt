@@ -20,8 +20,8 @@ returns c =
     (ap length eight)
     (c.join8.ensures ∙ ap joined (sym eight))
 
-pub load8-spec : {M : Type 1} → statement M
-load8-spec =
+pub load8_spec : {M : Type 1} → statement M
+load8_spec =
     tie.close (tie.spec (λ c. search rules) (λ c. search rules) (λ c. search rules) (λ c. search rules) (λ c. search rules) (λ c. search rules)
     (λ c. search rules) (λ c. search rules) (λ c. search rules) (λ c. search rules) (λ c. search rules) (λ c. search rules) (λ c. search rules)
     (λ c. search rules) (λ c. search rules) (λ c κs. search rules) returns)

@@ -19,7 +19,7 @@ returns c =
     put-end 8 (first.store8.new.0 ++ rest) second.store82.new.0
     ∙ ap₂ (λ (xs ys : List ℕ). xs ++ ys) (ap (λ (xs : List ℕ). take 8 (xs ++ rest)) first.store8.ensures) second.store82.ensures
 
-pub store16-spec : {M : Type 1} → statement M
-store16-spec =
+pub store16_spec : {M : Type 1} → statement M
+store16_spec =
     tie.close (tie.spec (λ c. search rules) (λ c. search rules) (λ c. search rules) (λ c κs. search rules) (λ c. search rules) (λ c. search rules)
     (λ c. search rules) (λ c κs. search rules) (λ c. search rules) returns)

@@ -24,7 +24,7 @@ returns c =
     sets-eq bytes a.out.now 0 c.before.before.requires
     ∙ ap (λ (xs : List ℕ). xs ++ drop 4 a.out.now) c.split4.ensures
 
-pub store4-spec : {M : Type 1} → statement M
-store4-spec =
+pub store4_spec : {M : Type 1} → statement M
+store4_spec =
     tie.close (tie.spec (λ c κs. search rules) (λ c. search rules) slice-write-out-2 slice-write-out-3 (λ c. search rules) (λ c. search rules)
     returns)

@@ -25,7 +25,7 @@ returns c =
     (ap (λ (xs : List ℕ). take 4 xs) first.store4.ensures)
     (second.store42.ensures ∙ ap (λ (xs : List ℕ). split 4 a.b ++ xs) (end-spent 4 4 l whole))
 
-pub store8-spec : {M : Type 1} → statement M
-store8-spec =
+pub store8_spec : {M : Type 1} → statement M
+store8_spec =
     tie.close (tie.spec (λ c κs. search rules) (λ c. search rules) (λ c. search rules) (λ c. search rules) (λ c κs. search rules) (λ c. search rules)
     returns)

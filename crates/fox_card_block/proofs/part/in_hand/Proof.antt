@@ -17,5 +17,5 @@ returns-2 c =
     let a = c.before.args in
     (sym (in_hand-later a.sealing _ a.rounds a.from a.reg c.if1.false), omega arith)
 
-pub in-hand-spec : {M : Type 1} → statement M
-in-hand-spec = tie.close (tie.spec (λ c κs. search rules) returns returns-2)
+pub in_hand_spec : {M : Type 1} → statement M
+in_hand_spec = tie.close (tie.spec (λ c κs. search rules) returns returns-2)

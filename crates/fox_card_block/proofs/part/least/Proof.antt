@@ -13,5 +13,5 @@ returns c = let a = c.before.args in omega (arith, least-below a.a a.b c.if1.tru
 returns-2 : tie.Need-returns-2
 returns-2 c = let a = c.before.args in sym (least_above a.a a.b c.if1.false)
 
-pub least-spec : {M : Type 1} → statement M
-least-spec = tie.close (tie.spec (λ c. search rules) returns returns-2)
+pub least_spec : {M : Type 1} → statement M
+least_spec = tie.close (tie.spec (λ c. search rules) returns returns-2)

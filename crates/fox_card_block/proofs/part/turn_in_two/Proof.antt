@@ -28,6 +28,6 @@ returns-2 c =
     let block : BlockOf a.cipher a.block.now = record { size = size; bytes = λ i. (known.shared-slice-known2.given i).fits } in
     two-served a.sealing a.cipher a.rounds a.key.now a.block.now block a.stop went test.if1.false second.turn-part2.ensures
 
-pub turn-in-two-spec : {M : Type 1} → statement M
-turn-in-two-spec =
+pub turn_in_two_spec : {M : Type 1} → statement M
+turn_in_two_spec =
     tie.close (tie.spec (λ c κs. search rules) (λ c. search rules) returns (λ c κs. search rules) (λ c. search rules) (λ c. search rules) returns-2)

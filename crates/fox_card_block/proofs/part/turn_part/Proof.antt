@@ -82,7 +82,7 @@ returns-2 c =
       handed = ap (λ (h : Hold). h.reg) (done made) ∙ chosen _ _ _ zero;
     }
 
-pub turn-part-spec : {M : Type 1} → statement M
-turn-part-spec =
+pub turn_part_spec : {M : Type 1} → statement M
+turn_part_spec =
     tie.close (tie.spec (λ c κs. search rules) (λ c κs. search rules) returns of-requires read-requires (λ c. search rules) in-hand-requires
     (λ c κs. search rules) (λ c κs. search rules) rounds-on-requires write-requires (λ c κs. search rules) (λ c. search rules) returns-2)

@@ -16,5 +16,5 @@ returns-2 c =
     let a = c.before.before.args in
     c.between.ensures ∙ sym (led-later a.sealing a.i a.y c.before.if1.false)
 
-pub led-spec : {M : Type 1} → statement M
-led-spec = tie.close (tie.spec returns (λ c κs. search rules) returns-2)
+pub led_spec : {M : Type 1} → statement M
+led_spec = tie.close (tie.spec returns (λ c κs. search rules) returns-2)

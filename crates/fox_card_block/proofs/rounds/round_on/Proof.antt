@@ -11,5 +11,5 @@ returns c =
     let a = led.before.before.args in
     round_on-made a.sealing a.s a.i a.h led.before.round-key.ensures led.led.ensures c.before.round.ensures c.onward.ensures
 
-pub round-on-spec : {M : Type 1} → statement M
-round-on-spec = tie.close (tie.spec (λ c κs. search rules) (λ c κs. search rules) (λ c κs. search rules) (λ c κs. search rules) returns)
+pub round_on_spec : {M : Type 1} → statement M
+round_on_spec = tie.close (tie.spec (λ c κs. search rules) (λ c κs. search rules) (λ c κs. search rules) (λ c κs. search rules) returns)

@@ -49,5 +49,5 @@ returns c =
     let all : at.loop.i - a.from ≡ a.until - a.from = search rules in
     at.loop.invariant.2 ∙ ap (λ (n : ℕ). rounds_on a.sealing (round_key_at a.s) (steps a.s) a.from n a.h) all
 
-pub rounds-on-spec : {M : Type 1} → statement M
-rounds-on-spec = tie.close (tie.spec invariant-loop decreases-loop loop-holds round-on-requires (λ c. search rules) (λ c. search rules) loop-again returns)
+pub rounds_on_spec : {M : Type 1} → statement M
+rounds_on_spec = tie.close (tie.spec invariant-loop decreases-loop loop-holds round-on-requires (λ c. search rules) (λ c. search rules) loop-again returns)

@@ -21,5 +21,5 @@ returns c =
     ap (λ (h : Hold). h.state) c.rounds-on.ensures
     ∙ turned_on a.sealing (round_key_at a.s) (steps a.s) a.rounds a.x (search rules) (search rules) begun.first.ensures
 
-pub turned-spec : {M : Type 1} → statement M
-turned-spec = tie.close (tie.spec (λ c κs. search rules) rounds-on-requires returns)
+pub turned_spec : {M : Type 1} → statement M
+turned_spec = tie.close (tie.spec (λ c κs. search rules) rounds-on-requires returns)

@@ -52,6 +52,6 @@ returns-2 c =
     read.read.ensures
     ∙ run-streamed a.cipher (round_keys a.cipher a.rounds a.key.now) a.counter.now a.offset a.input.now known.counter)
 
-pub handed-spec : {M : Type 1} → statement M
-handed-spec =
+pub handed_spec : {M : Type 1} → statement M
+handed_spec =
     tie.close (tie.spec (λ c κs. search rules) returns of-requires read-requires (λ c. search rules) stretch-requires (λ c. search rules) returns-2)

@@ -52,7 +52,7 @@ returns c =
     (part-made B (sealed rks a.x) pos (λ i. length-sealed rks a.x i ∙ sym is) a.n
     (ap bytes (made.turned.ensures ∙ ap (turned true rks) counting.counted.ensures)) call.xor-part.ensures)
 
-pub one-block-spec : {M : Type 1} → statement M
-one-block-spec =
+pub one_block_spec : {M : Type 1} → statement M
+one_block_spec =
     tie.close (tie.spec (λ c κs. search rules) div-counted cast-counted (λ c κs. search rules) (λ c κs. search rules) rem-xor-part xor-part-requires
     (λ c. search rules) returns)

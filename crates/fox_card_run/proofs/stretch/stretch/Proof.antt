@@ -70,8 +70,8 @@ returns-2 c =
     let a = first.before.before.before.before.before.args in
     xored_to-last _ a.n a.input.now _ c.before.loop.at (first-long first) (search rules) c.before.loop.invariant.2
 
-pub stretch-spec : {M : Type 1} → statement M
-stretch-spec =
+pub stretch_spec : {M : Type 1} → statement M
+stretch_spec =
     tie.close (tie.spec invariant-loop decreases-loop returns one-block-requires loop-holds (λ c. search rules) (λ c. search rules) (λ c. search rules)
     (λ c. search rules) (λ c. search rules) (λ c. search rules) (λ c. search rules) (λ c κs. search rules) add_at loop-less loop-again
     (λ c. search rules) returns-2)

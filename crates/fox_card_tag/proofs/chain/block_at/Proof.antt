@@ -41,5 +41,5 @@ returns-2 c =
     ∙ ap (state a.cipher) (sym (ap (λ (t : Bool). cond t (block_at (block_size a.cipher) a.message.now a.i) a.last.now)
     (le-ltb a.i a.n (search rules))))
 
-pub block-at-spec : {M : Type 1} → statement M
-block-at-spec = tie.close (tie.spec block-part-requires read-requires returns (λ c κs. search rules) returns-2)
+pub block_at_spec : {M : Type 1} → statement M
+block_at_spec = tie.close (tie.spec block-part-requires read-requires returns (λ c κs. search rules) returns-2)

@@ -118,7 +118,7 @@ returns c =
     ∙ ap₂ (λ (ks : List ℕ) (k : ℕ). seal_with a.cipher ks (xor_each (chain_of a.cipher ks a.message.now k) a.out.now)) key
     (many.blocks-before.ensures ∙ ap (λ (b : ℕ). blocks_before b a.message.now) start.requires.2)
 
-pub chain-spec : {M : Type 1} → statement M
-chain-spec =
+pub chain_spec : {M : Type 1} → statement M
+chain_spec =
     tie.close (tie.spec invariant-loop decreases-loop (λ c κs. search rules) blocks-before-requires (λ c κs. search rules) add-i-end loop-holds block-at-requires
     (λ c κs. search rules) (λ c κs. search rules) (λ c. search rules) (λ c. search rules) loop-again write-requires (λ c. search rules) returns)

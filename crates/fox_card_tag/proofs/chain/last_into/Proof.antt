@@ -58,7 +58,7 @@ returns c =
     (write.write.ensures
     ∙ ap bytes (seal.turned.ensures ∙ ap₂ (λ (ks : List ℕ) (x : State). turned true ks x) rks zero.zero.ensures))
 
-pub last-into-spec : {M : Type 1} → statement M
-last-into-spec =
+pub last_into_spec : {M : Type 1} → statement M
+last_into_spec =
     tie.close (tie.spec (λ c κs. search rules) (λ c κs. search rules) (λ c κs. search rules) write-requires last-part-requires last-block-requires
     (λ c. search rules) returns)

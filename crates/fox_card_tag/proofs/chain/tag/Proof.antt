@@ -25,5 +25,5 @@ returns c =
     last.last-into.ensures
     ∙ last-chained a.cipher rks a.message.now
 
-pub tag-spec : {M : Type 1} → statement M
-tag-spec = tie.close (tie.spec (λ c κs. search rules) (λ c κs. search rules) (λ c. search rules) returns)
+pub tag_spec : {M : Type 1} → statement M
+tag_spec = tie.close (tie.spec (λ c κs. search rules) (λ c κs. search rules) (λ c. search rules) returns)

@@ -45,7 +45,7 @@ returns-2 c =
     test_compared a.cipher a.rounds _ (round_keys a.cipher a.rounds a.key.now) a.message.now a.stored.now known
     (ap (λ (n : ℕ). tag_with a.cipher (round_keys a.cipher n a.key.now) a.message.now) (rounds-whole known.keyed)) call.tested.ensures
 
-pub test-spec : {M : Type 1} → statement M
-test-spec =
+pub test_spec : {M : Type 1} → statement M
+test_spec =
     tie.close (tie.spec (λ c κs. search rules) (λ c κs. search rules) returns (λ c κs. search rules) (λ c. search rules) (λ c. search rules)
     (λ c. search rules) part-right-end tested-requires returns-2)

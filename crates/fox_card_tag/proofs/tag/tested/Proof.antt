@@ -20,5 +20,5 @@ returns c =
     let a = made.before.before.before.before.before.before.args in
     subst (λ (right : List ℕ). Compared right a.stored.now c.compared.result) made.tag.ensures c.compared.ensures
 
-pub tested-spec : {M : Type 1} → statement M
-tested-spec = tie.close (tie.spec (λ c κs. search rules) compared-requires (λ c. search rules) returns)
+pub tested_spec : {M : Type 1} → statement M
+tested_spec = tie.close (tie.spec (λ c κs. search rules) compared-requires (λ c. search rules) returns)

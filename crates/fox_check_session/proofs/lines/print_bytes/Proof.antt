@@ -12,8 +12,8 @@ invariant-loop bytes i₀ t4 i-end i = i ≤ length bytes
 abbrev decreases-loop : tie.decreases-loop
 decreases-loop bytes i₀ t4 i-end i = length bytes - i
 
-pub print-bytes-spec : {M : Type 1} → statement M
-print-bytes-spec =
+pub print_bytes_spec : {M : Type 1} → statement M
+print_bytes_spec =
     tie.close (tie.spec invariant-loop decreases-loop (λ c. search rules) (λ c κs. search rules) (λ c. search rules) (λ c. search rules)
     (λ c κs. search rules) (λ c. search rules) (λ c. search rules) (λ c. search rules) (λ c. search rules) (λ c κs. search rules)
     (λ c. search rules))

@@ -9,7 +9,7 @@ use Rattle.fox_check_vectors.proofs.engines.tries.Tie as tie
 slice-aggregate-puts : tie.Need-slice-aggregate-puts
 slice-aggregate-puts c = sym (length-take-le _ _ (search rules))
 
-pub tries-spec : {M : Type 1} → statement M
-tries-spec =
+pub tries_spec : {M : Type 1} → statement M
+tries_spec =
     tie.close (tie.spec (λ c. search rules) slice-aggregate-puts (λ c κs. search rules) (λ c κs. search rules) (λ c. search rules)
     (λ c. search rules))

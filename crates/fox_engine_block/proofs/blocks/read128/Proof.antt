@@ -21,6 +21,6 @@ returns c =
       rr = (c.new.ensures.3 ∙ c1.load44.ensures) i;
     }
 
-pub read128-spec : {M : Type 1} → statement M
-read128-spec =
+pub read128_spec : {M : Type 1} → statement M
+read128_spec =
     tie.close (tie.spec (λ c κs. search rules) (λ c κs. search rules) (λ c κs. search rules) (λ c κs. search rules) (λ c κs. search rules) returns)

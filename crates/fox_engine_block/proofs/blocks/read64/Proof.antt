@@ -13,5 +13,5 @@ returns c =
     let c2 = c1.before in
     λ i. record { l = (c.new.ensures.0 ∙ c2.load4.ensures) i; r = (c.new.ensures.1 ∙ c1.load42.ensures) i }
 
-pub read64-spec : {M : Type 1} → statement M
-read64-spec = tie.close (tie.spec (λ c κs. search rules) (λ c κs. search rules) (λ c κs. search rules) returns)
+pub read64_spec : {M : Type 1} → statement M
+read64_spec = tie.close (tie.spec (λ c κs. search rules) (λ c κs. search rules) (λ c κs. search rules) returns)

@@ -9,5 +9,5 @@ returns : tie.Need-returns
 unfolding bytes128
 returns c = c.before.before.store16.ensures
 
-pub write128-spec : {M : Type 1} → statement M
-write128-spec = tie.close (tie.spec (λ c κs. search rules) (λ c. search rules) returns)
+pub write128_spec : {M : Type 1} → statement M
+write128_spec = tie.close (tie.spec (λ c κs. search rules) (λ c. search rules) returns)

@@ -9,5 +9,5 @@ returns : tie.Need-returns
 unfolding bytes64
 returns c = c.before.before.store8.ensures
 
-pub write64-spec : {M : Type 1} → statement M
-write64-spec = tie.close (tie.spec (λ c κs. search rules) (λ c. search rules) returns)
+pub write64_spec : {M : Type 1} → statement M
+write64_spec = tie.close (tie.spec (λ c κs. search rules) (λ c. search rules) returns)

@@ -32,7 +32,7 @@ returns r =
       rr = r.wrapping-add-u324.ensures j;
     }
 
-pub counted128-spec : {M : Type 1} → statement M
-counted128-spec =
+pub counted128_spec : {M : Type 1} → statement M
+counted128_spec =
     tie.close (tie.spec (λ c κs. search rules) (λ c κs. search rules) (λ c κs. search rules) (λ c κs. search rules) (λ c κs. search rules)
     (λ c κs. search rules) (λ c κs. search rules) returns)

@@ -17,5 +17,5 @@ returns c =
       r = c.wrapping-add-u322.ensures j;
     }
 
-pub counted64-spec : {M : Type 1} → statement M
-counted64-spec = tie.close (tie.spec (λ c κs. search rules) (λ c κs. search rules) (λ c κs. search rules) returns)
+pub counted64_spec : {M : Type 1} → statement M
+counted64_spec = tie.close (tie.spec (λ c κs. search rules) (λ c κs. search rules) (λ c κs. search rules) returns)

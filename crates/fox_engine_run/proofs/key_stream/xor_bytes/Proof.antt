@@ -61,7 +61,7 @@ returns c =
           (take_all c.before.before.shorter.result s (search rules));
     }
 
-pub xor-bytes-spec : {M : Type 1} → statement M
-xor-bytes-spec =
+pub xor_bytes_spec : {M : Type 1} → statement M
+xor_bytes_spec =
     tie.close (tie.spec invariant-loop decreases-loop (λ c κs. search rules) loop-holds (λ c. search rules) (λ c. search rules) (λ c. search rules)
     (λ c. search rules) (λ c. search rules) loop-again (λ c. search rules) returns)

@@ -43,7 +43,7 @@ returns-2 c =
     subst (λ (s : State). Xored (drop a.skip (bytes s)) a.input.now a.out.now call.xor-part128.new.1.1.1.0 call.xor-part128.result)
     (sym here.x2.given.1) call.xor-part128.ensures
 
-pub xor-part-spec : {M : Type 1} → statement M
-xor-part-spec =
+pub xor_part_spec : {M : Type 1} → statement M
+xor_part_spec =
     tie.close (tie.spec (λ c. search rules) xor-part64-requires (λ c. search rules) xor-part128-requires (λ c. search rules) returns
     (λ c. search rules) returns-2)

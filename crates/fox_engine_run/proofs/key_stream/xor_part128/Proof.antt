@@ -24,7 +24,7 @@ returns c =
       output = call.xor_Bytes.ensures.output ∙ ap (λ (xs : List ℕ). xor_each xs a.input.now ++ drop call.xor_Bytes.result a.out.now) stream;
     }
 
-pub xor-part128-spec : {M : Type 1} → statement M
-xor-part128-spec =
+pub xor_part128_spec : {M : Type 1} → statement M
+xor_part128_spec =
     tie.close (tie.spec (λ c. search rules) (λ c κs. search rules) (λ c. search rules) (λ c. search rules) (λ c. search rules) (λ c κs. search rules)
     (λ c. search rules) returns)

@@ -35,7 +35,7 @@ returns c =
     (sym (xor_each-append two more ds 8 eight (omega arith))
     ∙ ap (λ (xs : List ℕ). xor_each xs ds) (sym (append_assoc two (split 4 a.x.rl) (split 4 a.x.rr))))
 
-pub xor-whole128-spec : {M : Type 1} → statement M
-xor-whole128-spec =
+pub xor_whole128_spec : {M : Type 1} → statement M
+xor_whole128_spec =
     tie.close (tie.spec (λ c κs. search rules) (λ c. search rules) (λ c. search rules) (λ c. search rules) (λ c. search rules) (λ c. search rules)
     (λ c. search rules) (λ c κs. search rules) (λ c. search rules) returns)

@@ -9,5 +9,5 @@ returns : tie.Need-returns
 unfolding bytes64
 returns c = c.before.before.xor-words.ensures
 
-pub xor-whole64-spec : {M : Type 1} → statement M
-xor-whole64-spec = tie.close (tie.spec (λ c κs. search rules) (λ c. search rules) returns)
+pub xor_whole64_spec : {M : Type 1} → statement M
+xor_whole64_spec = tie.close (tie.spec (λ c κs. search rules) (λ c. search rules) returns)

@@ -31,7 +31,7 @@ returns c =
     (word-xored a.b _ 4 ds bytes (omega arith) second.before.load42.ensures))
     ∙ ap (λ (xs : List ℕ). xs ++ drop 8 a.out.now) (sym (xor_each-append (split 4 a.a) (split 4 a.b) ds 4 (length-split 4 a.a) (omega arith)))
 
-pub xor-words-spec : {M : Type 1} → statement M
-xor-words-spec =
+pub xor_words_spec : {M : Type 1} → statement M
+xor_words_spec =
     tie.close (tie.spec (λ c κs. search rules) (λ c κs. search rules) (λ c. search rules) (λ c. search rules) (λ c. search rules)
     (λ c κs. search rules) (λ c κs. search rules) (λ c. search rules) returns)

@@ -6,6 +6,6 @@ use Rattle.fox_layers.specs.Tables.{table, sbox_table}
 use Rattle.fox_engine_sbox.proofs.sbox.sbox.Statement.{statement}
 use Rattle.fox_engine_sbox.proofs.sbox.sbox.Tie as tie
 
-pub sbox-spec : {M : Type 1} → statement M
+pub sbox_spec : {M : Type 1} → statement M
 unfolding S₁ S₂ S₃ halves whole or4 lmid4 lmor4 sbox table sbox_table
-sbox-spec = tie.close (tie.spec (λ c. refl))
+sbox_spec = tie.close (tie.spec (λ c. refl))

@@ -79,8 +79,8 @@ returns c =
     last_byte a.block.now at.loop.block _ at.loop.i c.reduced.result (λ i. (start.slice-known.given i).fits) inv.1 (search rules) inv.3
     (c.reduced.ensures ∙ ap (λ (k : ℕ). get_or a.block.now 0 0 / 128 * reduction k) inv.2) (search rules)
 
-pub double-spec : {M : Type 1} → statement M
-double-spec =
+pub double_spec : {M : Type 1} → statement M
+double_spec =
     tie.close (tie.spec invariant-loop decreases-loop (λ c. search rules) (λ c. search rules) loop-holds (λ c. search rules) (λ c. search rules) (λ c. search rules)
     (λ c. search rules) add-block-2 (λ c. search rules) (λ c. search rules) (λ c. search rules) loop-again (λ c. search rules)
     (λ c. search rules) reduced-requires (λ c. search rules) (λ c. search rules) returns)

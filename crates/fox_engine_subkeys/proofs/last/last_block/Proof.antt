@@ -30,7 +30,7 @@ returns-2 c =
     keyed-part a.block.now a.part.now key.subkey.ensures key.subkey.auto.0 xor.xor-into.ensures start.requires.1 test.if1.false
     xor.xor-into.auto.0
 
-pub last-block-spec : {M : Type 1} → statement M
-last-block-spec =
+pub last_block_spec : {M : Type 1} → statement M
+last_block_spec =
     tie.close (tie.spec (λ c κs. search rules) (λ c κs. search rules) (λ c. search rules) returns (λ c. search rules) (λ c. search rules)
     same-length-2 returns-2)

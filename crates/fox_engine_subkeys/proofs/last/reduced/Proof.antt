@@ -14,5 +14,5 @@ returns-2 : tie.Need-returns-2
 unfolding reduction
 returns-2 c = rw (ne_eqb _ _ c.if1.false)
 
-pub reduced-spec : {M : Type 1} → statement M
-reduced-spec = tie.close (tie.spec (λ c. search rules) (λ c. search rules) returns returns-2)
+pub reduced_spec : {M : Type 1} → statement M
+reduced_spec = tie.close (tie.spec (λ c. search rules) (λ c. search rules) returns returns-2)

@@ -25,6 +25,6 @@ returns-2 c =
     ∙ ap₂ doubled once.double.auto.0 once.double.ensures
     ∙ ap (subkey_of (length a.block.now) a.block.now) (sym test.if1.false)
 
-pub subkey-spec : {M : Type 1} → statement M
-subkey-spec =
+pub subkey_spec : {M : Type 1} → statement M
+subkey_spec =
     tie.close (tie.spec (λ c κs. search rules) (λ c. search rules) returns (λ c κs. search rules) (λ c. search rules) returns-2)

@@ -57,7 +57,7 @@ returns c =
     ∙ ap (λ (xs : List ℕ). xs ++ drop (length a.part.now) a.block.now)
     (take_all (length a.part.now) s (omega (arith, length-xor_each-min a.block.now a.part.now)))
 
-pub xor-into-spec : {M : Type 1} → statement M
-xor-into-spec =
+pub xor_into_spec : {M : Type 1} → statement M
+xor_into_spec =
     tie.close (tie.spec invariant-loop decreases-loop loop-holds (λ c. search rules) (λ c. search rules) (λ c. search rules) (λ c. search rules)
     (λ c. search rules) loop-again (λ c. search rules) returns)

@@ -15,6 +15,6 @@ returns c =
     let is = block-taken a.size a.message.now a.i in
     (is, ap length is ∙ block_size a.size a.message.now a.i start.requires)
 
-pub block-part-spec : {M : Type 1} → statement M
-block-part-spec =
+pub block_part_spec : {M : Type 1} → statement M
+block_part_spec =
     tie.close (tie.spec (λ c. omega arith) (λ c. omega arith) (λ c. search rules) (λ c. search rules) (λ c. omega arith) returns)

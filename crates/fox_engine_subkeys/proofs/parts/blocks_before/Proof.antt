@@ -21,5 +21,5 @@ returns-2 : tie.Need-returns-2
 unfolding blocks_before
 returns-2 c = search rules
 
-pub blocks-before-spec : {M : Type 1} → statement M
-blocks-before-spec = tie.close (tie.spec returns (λ c. search rules) (λ c. search rules) returns-2)
+pub blocks_before_spec : {M : Type 1} → statement M
+blocks_before_spec = tie.close (tie.spec returns (λ c. search rules) (λ c. search rules) returns-2)

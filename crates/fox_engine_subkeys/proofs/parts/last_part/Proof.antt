@@ -35,5 +35,5 @@ returns c =
     ∙ last_taken a.size a.message.now start.requires in
     (is, rw is (last-few a.size a.message.now start.requires))
 
-pub last-part-spec : {M : Type 1} → statement M
-last-part-spec = tie.close (tie.spec (λ c κs. search rules) mul_at sub-result part-result-start (λ c. search rules) returns)
+pub last_part_spec : {M : Type 1} → statement M
+last_part_spec = tie.close (tie.spec (λ c κs. search rules) mul_at sub-result part-result-start (λ c. search rules) returns)

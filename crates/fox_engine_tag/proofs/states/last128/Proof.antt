@@ -19,7 +19,7 @@ returns c =
     ∙ ap state128 (last.last_block.ensures
     ∙ ap₂ (λ (k : ℕ) (block : List ℕ). keyed_block k block a.part.now) write.write128.auto.0 write.write128.ensures)
 
-pub last128-spec : {M : Type 1} → statement M
-last128-spec =
+pub last128_spec : {M : Type 1} → statement M
+last128_spec =
     tie.close (tie.spec (λ c. search rules) (λ c κs. search rules) (λ c. search rules) (λ c κs. search rules) (λ c. search rules)
     (λ c κs. search rules) returns)

@@ -19,7 +19,7 @@ returns c =
     ∙ ap state64 (last.last_block.ensures
     ∙ ap₂ (λ (k : ℕ) (block : List ℕ). keyed_block k block a.part.now) write.write64.auto.0 write.write64.ensures)
 
-pub last64-spec : {M : Type 1} → statement M
-last64-spec =
+pub last64_spec : {M : Type 1} → statement M
+last64_spec =
     tie.close (tie.spec (λ c. search rules) (λ c κs. search rules) (λ c. search rules) (λ c κs. search rules) (λ c. search rules)
     (λ c κs. search rules) returns)

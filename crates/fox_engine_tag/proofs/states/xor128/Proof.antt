@@ -9,5 +9,5 @@ returns : tie.Need-returns
 unfolding xor128
 returns c = refl
 
-pub xor128-spec : {M : Type 1} → statement M
-xor128-spec = tie.close (tie.spec returns)
+pub xor128_spec : {M : Type 1} → statement M
+xor128_spec = tie.close (tie.spec returns)

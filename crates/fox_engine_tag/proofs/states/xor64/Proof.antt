@@ -9,5 +9,5 @@ returns : tie.Need-returns
 unfolding xor64
 returns c = refl
 
-pub xor64-spec : {M : Type 1} → statement M
-xor64-spec = tie.close (tie.spec returns)
+pub xor64_spec : {M : Type 1} → statement M
+xor64_spec = tie.close (tie.spec returns)

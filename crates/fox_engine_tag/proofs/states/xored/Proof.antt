@@ -29,7 +29,7 @@ returns-4 c =
     let first = second.before.before.before in
     ap Of128 c.xor128.ensures ∙ sym (ap₂ xor_states first.x2.given.1 second.y2.given.1)
 
-pub xored-spec : {M : Type 1} → statement M
-xored-spec =
+pub xored_spec : {M : Type 1} → statement M
+xored_spec =
     tie.close (tie.spec (λ c. search rules) (λ c. search rules) (λ c κs. search rules) (λ c. search rules) (λ c. search rules) (λ c. search rules)
     (λ c. search rules) (λ c κs. search rules) returns returns-2 returns-3 returns-4)

@@ -34,5 +34,5 @@ returns-2 c =
     ∙ sym (state-128 cipher (replicate 16 0) isnt)
     ∙ ap (λ (n : ℕ). state cipher (replicate n 0)) (sym (size-128 cipher isnt))
 
-pub zero-spec : {M : Type 1} → statement M
-zero-spec = tie.close (tie.spec (λ c κs. search rules) (λ c κs. search rules) returns returns-2)
+pub zero_spec : {M : Type 1} → statement M
+zero_spec = tie.close (tie.spec (λ c κs. search rules) (λ c κs. search rules) returns returns-2)

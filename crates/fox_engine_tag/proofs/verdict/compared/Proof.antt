@@ -31,5 +31,5 @@ returns-2 c =
       count = c.served.ensures.1;
     }
 
-pub compared-spec : {M : Type 1} → statement M
-compared-spec = tie.close (tie.spec (λ c κs. search rules) (λ c κs. search rules) returns (λ c κs. search rules) returns-2)
+pub compared_spec : {M : Type 1} → statement M
+compared_spec = tie.close (tie.spec (λ c κs. search rules) (λ c κs. search rules) returns (λ c κs. search rules) returns-2)

@@ -14,5 +14,5 @@ returns c =
     let a = write.before.before.before.args in
     subst (λ (right : List ℕ). Compared right a.stored.now c.compared.result) write.write128.ensures c.compared.ensures
 
-pub compared128-spec : {M : Type 1} → statement M
-compared128-spec = tie.close (tie.spec (λ c. search rules) (λ c κs. search rules) (λ c. search rules) (λ c κs. search rules) returns)
+pub compared128_spec : {M : Type 1} → statement M
+compared128_spec = tie.close (tie.spec (λ c. search rules) (λ c κs. search rules) (λ c. search rules) (λ c κs. search rules) returns)

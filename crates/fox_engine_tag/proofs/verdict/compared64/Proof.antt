@@ -14,5 +14,5 @@ returns c =
     let a = write.before.before.before.args in
     subst (λ (right : List ℕ). Compared right a.stored.now c.compared.result) write.write64.ensures c.compared.ensures
 
-pub compared64-spec : {M : Type 1} → statement M
-compared64-spec = tie.close (tie.spec (λ c. search rules) (λ c κs. search rules) (λ c. search rules) (λ c κs. search rules) returns)
+pub compared64_spec : {M : Type 1} → statement M
+compared64_spec = tie.close (tie.spec (λ c. search rules) (λ c κs. search rules) (λ c. search rules) (λ c κs. search rules) returns)

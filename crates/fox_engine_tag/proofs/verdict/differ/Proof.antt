@@ -40,6 +40,6 @@ returns c =
     let all : (l : List ℕ) → length l ≡ length a.right.now → take at.loop.i l ≡ l = λ l e. take_all at.loop.i l (search rules) in
     ap not (inv.2 ∙ ap₂ same (all a.right.now refl) (all a.stored.now (sym inv.1)))
 
-pub differ-spec : {M : Type 1} → statement M
-differ-spec =
+pub differ_spec : {M : Type 1} → statement M
+differ_spec =
     tie.close (tie.spec invariant-loop decreases-loop loop-holds (λ c. search rules) (λ c. search rules) (λ c. search rules) (λ c. search rules) loop-again returns)

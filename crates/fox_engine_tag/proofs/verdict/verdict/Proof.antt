@@ -32,5 +32,5 @@ returns-2 c =
     let a = at.before.before.before.args in
     subst (λ (right : List ℕ). Compared right a.stored.now c.compared128.result) (sym (ap bytes at.x2.given.1)) c.compared128.ensures
 
-pub verdict-spec : {M : Type 1} → statement M
-verdict-spec = tie.close (tie.spec (λ c. search rules) compared64-requires (λ c. search rules) compared128-requires returns returns-2)
+pub verdict_spec : {M : Type 1} → statement M
+verdict_spec = tie.close (tie.spec (λ c. search rules) compared64-requires (λ c. search rules) compared128-requires returns returns-2)

@@ -22,5 +22,5 @@ returns c =
     let more = xor_each-surplus (bytes16 m) (bytes16 row) (drop 1 (split 3 f.result.last)) (length-bytes16 m ∙ sym (length-bytes16 row)) in
     xor_each-bytes16 m row ∙ rw (length-bytes16 m, ← f.ensures.0) (sym more)
 
-pub dkey16-spec : {M : Type 1} → statement M
-dkey16-spec = tie.close (tie.spec (λ c κs. search rules) returns)
+pub dkey16_spec : {M : Type 1} → statement M
+dkey16_spec = tie.close (tie.spec (λ c κs. search rules) returns)

@@ -29,5 +29,5 @@ returns c =
     let more = xor_each-surplus (bytes32 a.m) (bytes32 row) left (length-bytes32 a.m ∙ sym (length-bytes32 row)) in
     xor_each-bytes32 a.m row ∙ rw (length-bytes32 a.m, ← all, ← cut) (sym more)
 
-pub dkey32-spec : {M : Type 1} → statement M
-dkey32-spec = tie.close (tie.spec (λ c κs. search rules) (λ c κs. search rules) returns)
+pub dkey32_spec : {M : Type 1} → statement M
+dkey32_spec = tie.close (tie.spec (λ c κs. search rules) (λ c κs. search rules) returns)

@@ -22,7 +22,7 @@ returns c =
       c2.clocked5.ensures.1,
     )
 
-pub front-spec : {M : Type 1} → statement M
-front-spec =
+pub front_spec : {M : Type 1} → statement M
+front_spec =
     tie.close (tie.spec (λ c κs. search rules) (λ c κs. search rules) (λ c κs. search rules) (λ c κs. search rules) (λ c κs. search rules)
     (λ c κs. search rules) (λ c κs. search rules) returns)

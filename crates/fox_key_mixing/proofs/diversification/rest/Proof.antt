@@ -20,7 +20,7 @@ returns c =
     let e5 = c2.clocked5.ensures.0 in
     rw (c.before.word-233.ensures, c.word-332.ensures, e5, e4, e3, e2, e1) (rest-row c6.before.args.last)
 
-pub rest-spec : {M : Type 1} → statement M
-rest-spec =
+pub rest_spec : {M : Type 1} → statement M
+rest_spec =
     tie.close (tie.spec (λ c κs. search rules) (λ c κs. search rules) (λ c κs. search rules) (λ c κs. search rules) (λ c κs. search rules)
     (λ c κs. search rules) (λ c κs. search rules) returns)

@@ -10,5 +10,5 @@ returns : tie.Need-returns
 unfolding bytes16
 returns c = rw (c.before.load8.ensures, c.load82.ensures, take-add 8 8 c.before.before.before.args.s.now)
 
-pub load16-spec : {M : Type 1} → statement M
-load16-spec = tie.close (tie.spec (λ c κs. search rules) (λ c κs. search rules) returns)
+pub load16_spec : {M : Type 1} → statement M
+load16_spec = tie.close (tie.spec (λ c κs. search rules) (λ c κs. search rules) returns)

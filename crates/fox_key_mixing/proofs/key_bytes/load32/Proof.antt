@@ -13,5 +13,5 @@ returns c =
     let s = c2.before.before.before.args.s.now in
     rw (c2.before.load8.ensures, c2.load82.ensures, c.before.load83.ensures, c.load84.ensures, take-add 24 8 s, take-add 16 8 s, take-add 8 8 s)
 
-pub load32-spec : {M : Type 1} → statement M
-load32-spec = tie.close (tie.spec (λ c κs. search rules) (λ c κs. search rules) (λ c κs. search rules) (λ c κs. search rules) returns)
+pub load32_spec : {M : Type 1} → statement M
+load32_spec = tie.close (tie.spec (λ c κs. search rules) (λ c κs. search rules) (λ c κs. search rules) (λ c κs. search rules) returns)

@@ -54,7 +54,7 @@ returns c =
     let none : drop l.i p ≡ [] = drop_of_length-le p {i = l.i} (omega arith) in
     rw (none, append-nil (take l.i l.out), end) at l.invariant.2
 
-pub mixed-bytes-spec : {M : Type 1} → statement M
-mixed-bytes-spec =
+pub mixed_bytes_spec : {M : Type 1} → statement M
+mixed_bytes_spec =
     tie.close (tie.spec invariant-loop decreases-loop loop-holds (λ c κs. omega arith) (λ c κs. search rules) (λ c. omega arith) (λ c. omega arith)
     (λ c. omega arith) loop-again returns)

@@ -18,5 +18,5 @@ returns-2 c =
     let key = c.before.before.before.args.key.now in
     c.load162.ensures ∙ take_all 16 key (omega arith) ∙ sym (mkey-full 16 key (omega arith))
 
-pub mkey16-spec : {M : Type 1} → statement M
-mkey16-spec = tie.close (tie.spec (λ c κs. search rules) (λ c. search rules) (λ c κs. search rules) (λ c κs. search rules) returns returns-2)
+pub mkey16_spec : {M : Type 1} → statement M
+mkey16_spec = tie.close (tie.spec (λ c κs. search rules) (λ c. search rules) (λ c κs. search rules) (λ c κs. search rules) returns returns-2)

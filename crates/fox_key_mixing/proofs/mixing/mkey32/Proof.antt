@@ -18,5 +18,5 @@ returns-2 c =
     let key = c.before.before.before.args.key.now in
     c.load322.ensures ∙ take_all 32 key (omega arith) ∙ sym (mkey-full 32 key (omega arith))
 
-pub mkey32-spec : {M : Type 1} → statement M
-mkey32-spec = tie.close (tie.spec (λ c κs. search rules) (λ c. search rules) (λ c κs. search rules) (λ c κs. search rules) returns returns-2)
+pub mkey32_spec : {M : Type 1} → statement M
+mkey32_spec = tie.close (tie.spec (λ c κs. search rules) (λ c. search rules) (λ c κs. search rules) (λ c κs. search rules) returns returns-2)

@@ -21,5 +21,5 @@ returns-2 c =
     let there : n + (a.i - n) ≡ a.i = omega arith in
     rw there at (sym (get_or-append-add a.key.now a.pad.now (a.i - n) 0))
 
-pub padded-byte-spec : {M : Type 1} → statement M
-padded-byte-spec = tie.close (tie.spec (λ c. search rules) (λ c. search rules) (λ c. search rules) returns returns-2)
+pub padded_byte_spec : {M : Type 1} → statement M
+padded_byte_spec = tie.close (tie.spec (λ c. search rules) (λ c. search rules) (λ c. search rules) returns returns-2)

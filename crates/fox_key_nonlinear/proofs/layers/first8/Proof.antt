@@ -3,5 +3,5 @@
 use Rattle.fox_key_nonlinear.proofs.layers.first8.Statement.{statement}
 use Rattle.fox_key_nonlinear.proofs.layers.first8.Tie as tie
 
-pub first8-spec : {M : Type 1} → statement M
-first8-spec = tie.close (tie.spec (λ c κs. tt) (λ c κs. tt) (λ c. rw (c.mu8.ensures, c.before.sigma8.ensures)))
+pub first8_spec : {M : Type 1} → statement M
+first8_spec = tie.close (tie.spec (λ c κs. tt) (λ c κs. tt) (λ c. rw (c.mu8.ensures, c.before.sigma8.ensures)))

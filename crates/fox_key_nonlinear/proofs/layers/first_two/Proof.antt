@@ -14,5 +14,5 @@ returns c =
     let s = b.before.sigma8.ensures in
     (b.mu4.ensures ∙ ap mu4 (rw s parts.0), c.mu42.ensures ∙ ap mu4 (rw s parts.1))
 
-pub first-two-spec : {M : Type 1} → statement M
-first-two-spec = tie.close (tie.spec (λ c κs. tt) (λ c. search rules) (λ c κs. tt) (λ c. search rules) (λ c κs. tt) returns)
+pub first_two_spec : {M : Type 1} → statement M
+first_two_spec = tie.close (tie.spec (λ c κs. tt) (λ c. search rules) (λ c κs. tt) (λ c. search rules) (λ c κs. tt) returns)

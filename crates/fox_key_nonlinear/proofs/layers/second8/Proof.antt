@@ -4,8 +4,8 @@ use Rattle.fox_key_nonlinear.specs.Nonlinear.{flipped}
 use Rattle.fox_key_nonlinear.proofs.layers.second8.Statement.{statement}
 use Rattle.fox_key_nonlinear.proofs.layers.second8.Tie as tie
 
-pub second8-spec : {M : Type 1} → statement M
+pub second8_spec : {M : Type 1} → statement M
 unfolding flipped
-second8-spec =
+second8_spec =
     tie.close (tie.spec (λ c κs. tt) (λ c κs. tt) (λ c. rw (c.sigma8.ensures, c.before.if1.true))
     (λ c. rw (c.sigma82.ensures, c.before.if1.false)))

@@ -12,5 +12,5 @@ returns c =
     let parts = after_pad-pair start.args.flip start.args.a start.args.b start.ranges.a.fits start.ranges.b.fits in
     rw (w, c.before.pair.ensures) parts
 
-pub second-two-spec : {M : Type 1} → statement M
-second-two-spec = tie.close (tie.spec (λ c κs. tt) (λ c κs. tt) (λ c. search rules) (λ c. search rules) returns)
+pub second_two_spec : {M : Type 1} → statement M
+second_two_spec = tie.close (tie.spec (λ c κs. tt) (λ c κs. tt) (λ c. search rules) (λ c. search rules) returns)

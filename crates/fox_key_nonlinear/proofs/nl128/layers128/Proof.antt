@@ -24,5 +24,5 @@ returns c =
     ∙ ap (layers 8 4 mu8 mix128 start.args.flip)
     (sym (words32 start.args.d fits.0.1 fits.1.0.1 fits.1.1.0.1 fits.1.1.1.0.1))
 
-pub layers128-spec : {M : Type 1} → statement M
-layers128-spec = tie.close (tie.spec (λ c κs. tt) (λ c κs. tt) (λ c κs. tt) (λ c κs. tt) (λ c κs. tt) (λ c κs. tt) (λ c κs. tt) (λ c κs. tt) returns)
+pub layers128_spec : {M : Type 1} → statement M
+layers128_spec = tie.close (tie.spec (λ c κs. tt) (λ c κs. tt) (λ c κs. tt) (λ c κs. tt) (λ c κs. tt) (λ c κs. tt) (λ c κs. tt) (λ c κs. tt) returns)

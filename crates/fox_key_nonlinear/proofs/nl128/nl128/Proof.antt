@@ -23,5 +23,5 @@ returns c =
       c4.before.state.ensures,
     )
 
-pub nl128-spec : {M : Type 1} → statement M
-nl128-spec = tie.close (tie.spec (λ c κs. tt) (λ c κs. tt) (λ c κs. tt) (λ c κs. tt) (λ c κs. tt) (λ c κs. tt) (λ c κs. tt) returns)
+pub nl128_spec : {M : Type 1} → statement M
+nl128_spec = tie.close (tie.spec (λ c κs. tt) (λ c κs. tt) (λ c κs. tt) (λ c κs. tt) (λ c κs. tt) (λ c κs. tt) (λ c κs. tt) returns)

@@ -11,5 +11,5 @@ returns : tie.Need-returns
 unfolding parts128 right
 returns c = cc (left-div 32 c.args.a c.ranges.a.fits, left-div 32 c.args.b c.ranges.b.fits)
 
-pub state-spec : {M : Type 1} → statement M
-state-spec = tie.close (tie.spec (λ c. search rules) (λ c. search rules) (λ c. search rules) (λ c. search rules) returns)
+pub state_spec : {M : Type 1} → statement M
+state_spec = tie.close (tie.spec (λ c. search rules) (λ c. search rules) (λ c. search rules) (λ c. search rules) returns)

@@ -24,5 +24,5 @@ returns c =
     ∙ layers-made 4 4 mu4 mix64 start.args.flip _ (λ i. x.0 i ∷ x.1 i ∷ y.0 i ∷ y.1 i ∷ []) pad-4-4
     ∙ ap (layers 4 4 mu4 mix64 start.args.flip) (sym (halves16 start.args.d fits.0.1 fits.1.0.1))
 
-pub layers64-spec : {M : Type 1} → statement M
-layers64-spec = tie.close (tie.spec (λ c κs. tt) (λ c κs. tt) (λ c κs. tt) (λ c κs. tt) returns)
+pub layers64_spec : {M : Type 1} → statement M
+layers64_spec = tie.close (tie.spec (λ c κs. tt) (λ c κs. tt) (λ c κs. tt) (λ c κs. tt) returns)

@@ -28,5 +28,5 @@ returns c =
       hashed,
     )
 
-pub nl64-spec : {M : Type 1} → statement M
-nl64-spec = tie.close (tie.spec (λ c κs. tt) (λ c κs. tt) (λ c κs. tt) (λ c κs. tt) (λ c κs. tt) (λ c κs. tt) returns)
+pub nl64_spec : {M : Type 1} → statement M
+nl64_spec = tie.close (tie.spec (λ c κs. tt) (λ c κs. tt) (λ c κs. tt) (λ c κs. tt) (λ c κs. tt) (λ c κs. tt) returns)

@@ -30,6 +30,6 @@ returns c =
     ∙ ap (layers 4 8 mu4 mix64h start.args.flip)
     (sym (halves32 start.args.d fits.0.1 fits.1.0.1 fits.1.1.0.1 fits.1.1.1.0.1))
 
-pub layers64h-spec : {M : Type 1} → statement M
-layers64h-spec =
+pub layers64h_spec : {M : Type 1} → statement M
+layers64h_spec =
     tie.close (tie.spec (λ c κs. tt) (λ c κs. tt) (λ c κs. tt) (λ c κs. tt) (λ c κs. tt) (λ c κs. tt) (λ c κs. tt) (λ c κs. tt) returns)

@@ -33,7 +33,7 @@ returns c =
       hashed,
     )
 
-pub nl64h-spec : {M : Type 1} → statement M
-nl64h-spec =
+pub nl64h_spec : {M : Type 1} → statement M
+nl64h_spec =
     tie.close (tie.spec (λ c κs. tt) (λ c κs. tt) (λ c κs. tt) (λ c κs. tt) (λ c κs. tt) (λ c κs. tt) (λ c κs. tt) (λ c κs. tt) (λ c κs. tt)
     (λ c κs. tt) returns)

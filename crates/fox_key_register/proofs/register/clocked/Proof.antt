@@ -6,8 +6,8 @@ use Rattle.fox_key_register.proofs.Laws.Register.{clocked-below, clocked-above, 
 use Rattle.fox_key_register.proofs.register.clocked.Statement.{statement}
 use Rattle.fox_key_register.proofs.register.clocked.Tie as tie
 
-pub clocked-spec : {M : Type 1} → statement M
-clocked-spec =
+pub clocked_spec : {M : Type 1} → statement M
+clocked_spec =
     tie.close (tie.spec (λ c. omega arith) (λ c. omega arith) (λ c. omega arith)
     (λ c. (sym (clocked-below c.before.args.reg c.if1.true), omega arith))
     (λ c. (sym (clocked-above c.before.args.reg c.if1.false), moved-lt c.before.args.reg c.before.requires)))

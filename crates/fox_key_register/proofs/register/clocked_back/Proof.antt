@@ -6,7 +6,7 @@ use Rattle.fox_key_register.proofs.Laws.Register.{clocked_back-even, clocked_bac
 use Rattle.fox_key_register.proofs.register.clocked_back.Statement.{statement}
 use Rattle.fox_key_register.proofs.register.clocked_back.Tie as tie
 
-pub clocked-back-spec : {M : Type 1} → statement M
-clocked-back-spec =
+pub clocked_back_spec : {M : Type 1} → statement M
+clocked_back_spec =
     tie.close (tie.spec (λ c. (sym (clocked_back-even c.before.args.reg c.if1.true), omega arith))
     (λ c. (sym (clocked_back-odd c.before.args.reg c.if1.false), halved-lt c.before.args.reg c.before.requires)))

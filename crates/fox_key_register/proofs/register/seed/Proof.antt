@@ -8,8 +8,8 @@ use Rattle.fox_key_register.proofs.Laws.Register.{seed-lt}
 use Rattle.fox_key_register.proofs.register.seed.Statement.{statement}
 use Rattle.fox_key_register.proofs.register.seed.Tie as tie
 
-pub seed-spec : {M : Type 1} → statement M
+pub seed_spec : {M : Type 1} → statement M
 unfolding seed joined
-seed-spec =
+seed_spec =
     tie.close (tie.spec (λ c κs. search rules)
     (λ c. omega (arith, c.join4.ensures, seed-lt c.before.args.rounds c.before.ranges.rounds.fits)))

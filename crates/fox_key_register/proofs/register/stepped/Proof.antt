@@ -31,5 +31,5 @@ returns c =
     let all : c.before.loop.done ≡ c.before.before.args.steps = omega arith in
     (rw all at c.before.loop.invariant.0, c.before.loop.invariant.1)
 
-pub stepped-spec : {M : Type 1} → statement M
-stepped-spec = tie.close (tie.spec invariant-loop decreases-loop loop-holds (λ c κs. omega arith) (λ c. omega arith) (λ c. omega arith) loop-again returns)
+pub stepped_spec : {M : Type 1} → statement M
+stepped_spec = tie.close (tie.spec invariant-loop decreases-loop loop-holds (λ c κs. omega arith) (λ c. omega arith) (λ c. omega arith) loop-again returns)

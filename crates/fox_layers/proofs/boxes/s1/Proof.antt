@@ -12,5 +12,5 @@ returns : tie.Need-returns
 unfolding S₁ numbered
 returns c ns h = simp (h.b3, h.b2, h.b1, h.b0, ones-spread ns h.eight, Circuit) (circuit _ _ _ _ _ ns h refl)
 
-pub s1-spec : {M : Type 1} → statement M
-s1-spec = tie.close (tie.spec returns)
+pub s1_spec : {M : Type 1} → statement M
+s1_spec = tie.close (tie.spec returns)

@@ -12,5 +12,5 @@ returns : tie.Need-returns
 unfolding S₂ numbered
 returns c ns h = simp (h.b3, h.b2, h.b1, h.b0, ones-spread ns h.eight, Circuit) (circuit _ _ _ _ _ ns h refl)
 
-pub s2-spec : {M : Type 1} → statement M
-s2-spec = tie.close (tie.spec returns)
+pub s2_spec : {M : Type 1} → statement M
+s2_spec = tie.close (tie.spec returns)

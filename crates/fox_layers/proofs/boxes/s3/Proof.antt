@@ -12,5 +12,5 @@ returns : tie.Need-returns
 unfolding S₃ numbered
 returns c ns h = simp (h.b3, h.b2, h.b1, h.b0, ones-spread ns h.eight, Circuit) (circuit _ _ _ _ _ ns h refl)
 
-pub s3-spec : {M : Type 1} → statement M
-s3-spec = tie.close (tie.spec returns)
+pub s3_spec : {M : Type 1} → statement M
+s3_spec = tie.close (tie.spec returns)

@@ -36,7 +36,7 @@ returns c =
     xor_over-of-terms c.before.xor44.ensures ((c10.before.double.ensures ∙ d 0) ▸ o 1 ▸ c4.before.times-fd3.ensures ▸ o 3 ▸ done) in
     c.join4.ensures ∙ ap joined ((λ i. r0 i ∷ r1 i ∷ r2 i ∷ r3 i ∷ []) ∙ ap (times mu4_rows) same)
 
-pub mu4-spec : {M : Type 1} → statement M
-mu4-spec =
+pub mu4_spec : {M : Type 1} → statement M
+mu4_spec =
     tie.close (tie.spec (λ c κs. tt) (λ c κs. tt) (λ c κs. tt) (λ c κs. tt) (λ c κs. tt) (λ c κs. tt) (λ c κs. tt) (λ c κs. tt) (λ c κs. tt)
     (λ c κs. tt) (λ c κs. tt) (λ c κs. tt) (λ c κs. tt) returns)

@@ -49,7 +49,7 @@ returns c =
     xor_over-of-terms c.before.xor88.ensures (p0.by7e ▸ o 1 ▸ p2.by03 ▸ p3.by82 ▸ p4.by02 ▸ p5.by04 ▸ p6.byfc ▸ o 7 ▸ done) in
     c.join8.ensures ∙ ap joined ((λ i. r0 i ∷ r1 i ∷ r2 i ∷ r3 i ∷ r4 i ∷ r5 i ∷ r6 i ∷ r7 i ∷ []) ∙ ap (times mu8_rows) same)
 
-pub mu8-spec : {M : Type 1} → statement M
-mu8-spec =
+pub mu8_spec : {M : Type 1} → statement M
+mu8_spec =
     tie.close (tie.spec (λ c κs. tt) (λ c κs. tt) (λ c κs. tt) (λ c κs. tt) (λ c κs. tt) (λ c κs. tt) (λ c κs. tt) (λ c κs. tt) (λ c κs. tt)
     (λ c κs. tt) (λ c κs. tt) (λ c κs. tt) (λ c κs. tt) (λ c κs. tt) (λ c κs. tt) (λ c κs. tt) (λ c κs. tt) (λ c κs. tt) returns)

@@ -26,5 +26,5 @@ returns c =
     simp (le-ltb x 128 (omega arith), one, shifted))
     (eq-zero-or-pos (x / 128))
 
-pub double-spec : {M : Type 1} → statement M
-double-spec = tie.close (tie.spec (λ c. omega arith) (λ c. omega arith) returns)
+pub double_spec : {M : Type 1} → statement M
+double_spec = tie.close (tie.spec (λ c. omega arith) (λ c. omega arith) returns)

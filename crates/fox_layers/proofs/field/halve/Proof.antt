@@ -19,5 +19,5 @@ returns c =
     (λ above. let one : x % 2 ≡ 1 = omega arith in simp one)
     (eq-zero-or-pos (x % 2))
 
-pub halve-spec : {M : Type 1} → statement M
-halve-spec = tie.close (tie.spec (λ c. omega arith) returns)
+pub halve_spec : {M : Type 1} → statement M
+halve_spec = tie.close (tie.spec (λ c. omega arith) returns)

@@ -27,5 +27,5 @@ returns c =
       byfc = mfc ∙ sym p.by_fc;
     }
 
-pub multiples-of-spec : {M : Type 1} → statement M
-multiples-of-spec = tie.close (tie.spec (λ c κs. tt) (λ c κs. tt) (λ c κs. tt) (λ c κs. tt) returns)
+pub multiples_of_spec : {M : Type 1} → statement M
+multiples_of_spec = tie.close (tie.spec (λ c κs. tt) (λ c κs. tt) (λ c κs. tt) (λ c κs. tt) returns)

@@ -12,5 +12,5 @@ returns : tie.Need-returns
 unfolding or4 numbered
 returns c ns h = simp (h.b3, h.b2, h.b1, h.b0, Circuit) (circuit _ _ _ _ _ ns h refl)
 
-pub or4-spec : {M : Type 1} → statement M
-or4-spec = tie.close (tie.spec returns)
+pub or4_spec : {M : Type 1} → statement M
+or4_spec = tie.close (tie.spec returns)

@@ -24,5 +24,5 @@ returns c =
       b0 = rw (div-one w) at (taken (λ (n : ℕ). n) right 1 w (λ y. omega arith));
     }
 
-pub right-halves-spec : {M : Type 1} → statement M
-right-halves-spec = tie.close (tie.spec returns)
+pub right_halves_spec : {M : Type 1} → statement M
+right_halves_spec = tie.close (tie.spec returns)

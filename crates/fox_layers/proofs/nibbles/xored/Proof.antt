@@ -22,5 +22,5 @@ returns c ms ns h k =
       b0 = rw (h.b0, k.b0) (spread-xor (λ (n : ℕ). n) low ms ns same);
     }
 
-pub xored-spec : {M : Type 1} → statement M
-xored-spec = tie.close (tie.spec returns)
+pub xored_spec : {M : Type 1} → statement M
+xored_spec = tie.close (tie.spec returns)

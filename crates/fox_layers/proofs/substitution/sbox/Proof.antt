@@ -8,5 +8,5 @@ use Rattle.fox_layers.proofs.substitution.sbox.Tie as tie
 returns : tie.Need-returns
 returns c = rw c.sigma4.ensures (sigma-byte c.before.args.x c.before.ranges.x.fits)
 
-pub sbox-spec : {M : Type 1} → statement M
-sbox-spec = tie.close (tie.spec (λ c κs. tt) (λ c. search rules) returns)
+pub sbox_spec : {M : Type 1} → statement M
+sbox_spec = tie.close (tie.spec (λ c κs. tt) (λ c. search rules) returns)

@@ -8,5 +8,5 @@ use Rattle.fox_layers.proofs.substitution.sigma4.Tie as tie
 returns : tie.Need-returns
 returns c = rw c.sigma8.ensures (sigma-low c.before.args.w)
 
-pub sigma4-spec : {M : Type 1} → statement M
-sigma4-spec = tie.close (tie.spec (λ c κs. tt) (λ c. search rules) returns)
+pub sigma4_spec : {M : Type 1} → statement M
+sigma4_spec = tie.close (tie.spec (λ c κs. tt) (λ c. search rules) returns)

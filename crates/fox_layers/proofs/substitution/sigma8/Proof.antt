@@ -84,8 +84,8 @@ returns c =
     ap₂ (λ (l r : ℕ). l * 16 + r) (b.word_of.ensures ∙ held-sum h.left) (c.word-of2.ensures ∙ held-sum h.right)
     ∙ joined-sum 16 (λ (x : ℕ). (three x).left) (λ (x : ℕ). (three x).right) (bytes₃ b.before)
 
-pub sigma8-spec : {M : Type 1} → statement M
-sigma8-spec =
+pub sigma8_spec : {M : Type 1} → statement M
+sigma8_spec =
     tie.close (tie.spec (λ c κs. tt) (λ c κs. tt) (λ c κs. tt) (λ c κs. tt) (λ c κs. tt) (λ c κs. tt) (λ c κs. tt) (λ c κs. tt) (λ c κs. tt)
     (λ c κs. tt) (λ c κs. tt) (λ c κs. tt) (λ c κs. tt) (λ c κs. tt) (λ c κs. tt) (λ c κs. tt) word-of-requires mul-result word-of-requires-2
     add-result returns)

@@ -5,8 +5,8 @@ use Rattle.fox_layers.specs.Words.{joined}
 use Rattle.fox_layers.proofs.words.join4.Statement.{statement}
 use Rattle.fox_layers.proofs.words.join4.Tie as tie
 
-pub join4-spec : {M : Type 1} → statement M
+pub join4_spec : {M : Type 1} → statement M
 unfolding joined
-join4-spec =
+join4_spec =
     tie.close (tie.spec (λ c. omega arith) (λ c. omega arith) (λ c. omega arith) (λ c. omega arith) (λ c. omega arith) (λ c. omega arith)
     (λ c. omega arith))

@@ -5,9 +5,9 @@ use Rattle.fox_layers.specs.Words.{joined}
 use Rattle.fox_layers.proofs.words.join8.Statement.{statement}
 use Rattle.fox_layers.proofs.words.join8.Tie as tie
 
-pub join8-spec : {M : Type 1} → statement M
+pub join8_spec : {M : Type 1} → statement M
 unfolding joined
-join8-spec =
+join8_spec =
     tie.close (tie.spec (λ c. omega arith) (λ c. omega arith) (λ c. omega arith) (λ c. omega arith) (λ c. omega arith) (λ c. omega arith)
     (λ c. omega arith) (λ c. omega arith) (λ c. omega arith) (λ c. omega arith) (λ c. omega arith) (λ c. omega arith) (λ c. omega arith)
     (λ c. omega arith) (λ c. omega arith))

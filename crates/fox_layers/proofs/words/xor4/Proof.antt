@@ -12,5 +12,5 @@ returns c =
     let a = c.args in
     running-xor_all a.x0 (a.x1 ∷ a.x2 ∷ a.x3 ∷ [])
 
-pub xor4-spec : {M : Type 1} → statement M
-xor4-spec = tie.close (tie.spec returns)
+pub xor4_spec : {M : Type 1} → statement M
+xor4_spec = tie.close (tie.spec returns)

@@ -12,5 +12,5 @@ returns c =
     let a = c.args in
     running-xor_all a.x0 (a.x1 ∷ a.x2 ∷ a.x3 ∷ a.x4 ∷ a.x5 ∷ a.x6 ∷ a.x7 ∷ [])
 
-pub xor8-spec : {M : Type 1} → statement M
-xor8-spec = tie.close (tie.spec returns)
+pub xor8_spec : {M : Type 1} → statement M
+xor8_spec = tie.close (tie.spec returns)

@@ -10,5 +10,5 @@ returns : tie.Need-returns
 unfolding numbered chain refusal_of for_counter wrong_cipher wrong_block_length
 returns c = cc (chained [] (for_counter _ _) refl)
 
-pub for-counter-spec : {M : Type 1} → statement M
-for-counter-spec = tie.close (tie.spec (λ c κs. search rules) (λ c κs. search rules) (λ c κs. search rules) (λ c κs. search rules) returns)
+pub for_counter_spec : {M : Type 1} → statement M
+for_counter_spec = tie.close (tie.spec (λ c κs. search rules) (λ c κs. search rules) (λ c κs. search rules) (λ c κs. search rules) returns)

@@ -13,5 +13,5 @@ returns-2 : tie.Need-returns-2
 unfolding block_size
 returns-2 c = rw (ne_eqb _ _ c.if1.false)
 
-pub block-size-spec : {M : Type 1} → statement M
-block-size-spec = tie.close (tie.spec returns returns-2)
+pub block_size_spec : {M : Type 1} → statement M
+block_size_spec = tie.close (tie.spec returns returns-2)

@@ -20,5 +20,5 @@ returns c =
     ∙ chained (for_turn a.sealing a.cipher a.rounds a.key_len)
     (wrong_block_length a.cipher a.block-len ∷ wrong_output_length a.block-len a.out-len ∷ []) refl
 
-pub for-block-spec : {M : Type 1} → statement M
-for-block-spec = tie.close (tie.spec (λ c κs. search rules) (λ c κs. search rules) (λ c κs. search rules) (λ c κs. search rules) returns)
+pub for_block_spec : {M : Type 1} → statement M
+for_block_spec = tie.close (tie.spec (λ c κs. search rules) (λ c κs. search rules) (λ c κs. search rules) (λ c κs. search rules) returns)

@@ -10,6 +10,6 @@ returns : tie.Need-returns
 unfolding numbered chain refusal_of for_key wrong_cipher wrong_rounds long_key
 returns c = cc (chained [] (for_key _ _ _) refl)
 
-pub for-key-spec : {M : Type 1} → statement M
-for-key-spec =
+pub for_key_spec : {M : Type 1} → statement M
+for_key_spec =
     tie.close (tie.spec (λ c κs. search rules) (λ c κs. search rules) (λ c κs. search rules) (λ c κs. search rules) (λ c κs. search rules) returns)

@@ -16,5 +16,5 @@ returns c =
     ∙ ap₂ (λ (r : ℕ) (t : Bool). or_else r t 13) key.for-key.ensures test.short-key.ensures
     ∙ chained (for_key a.cipher a.rounds a.key_len) (short_key a.sealing a.key_len ∷ []) refl
 
-pub for-turn-spec : {M : Type 1} → statement M
-for-turn-spec = tie.close (tie.spec (λ c κs. search rules) (λ c κs. search rules) (λ c κs. search rules) returns)
+pub for_turn_spec : {M : Type 1} → statement M
+for_turn_spec = tie.close (tie.spec (λ c κs. search rules) (λ c κs. search rules) (λ c κs. search rules) returns)

@@ -17,5 +17,5 @@ returns-3 : tie.Need-returns-3
 unfolding or_else
 returns-3 c = rw (eq-eqb _ _ c.before.if1.false, c.if2.false)
 
-pub or-else-spec : {M : Type 1} → statement M
-or-else-spec = tie.close (tie.spec returns returns-2 returns-3)
+pub or_else_spec : {M : Type 1} → statement M
+or_else_spec = tie.close (tie.spec returns returns-2 returns-3)

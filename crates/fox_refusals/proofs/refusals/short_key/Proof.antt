@@ -12,5 +12,5 @@ returns-2 : tie.Need-returns-2
 unfolding short_key
 returns-2 c = rw c.if1.false
 
-pub short-key-spec : {M : Type 1} → statement M
-short-key-spec = tie.close (tie.spec returns returns-2)
+pub short_key_spec : {M : Type 1} → statement M
+short_key_spec = tie.close (tie.spec returns returns-2)

@@ -13,5 +13,5 @@ returns-2 : tie.Need-returns-2
 unfolding wrong_cipher
 returns-2 c = rw (ne_eqb _ _ c.if1.false)
 
-pub wrong-cipher-spec : {M : Type 1} → statement M
-wrong-cipher-spec = tie.close (tie.spec returns returns-2)
+pub wrong_cipher_spec : {M : Type 1} → statement M
+wrong_cipher_spec = tie.close (tie.spec returns returns-2)

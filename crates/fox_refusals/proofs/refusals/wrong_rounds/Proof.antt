@@ -13,5 +13,5 @@ returns-2 : tie.Need-returns-2
 unfolding wrong_rounds
 returns-2 c = rw (le-ltb c.before.args.rounds 12 (omega arith))
 
-pub wrong-rounds-spec : {M : Type 1} → statement M
-wrong-rounds-spec = tie.close (tie.spec returns returns-2)
+pub wrong_rounds_spec : {M : Type 1} → statement M
+wrong_rounds_spec = tie.close (tie.spec returns returns-2)

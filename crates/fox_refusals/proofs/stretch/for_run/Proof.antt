@@ -27,7 +27,7 @@ returns c =
     past.past-end.ensures
     ∙ chained (for_turn a.sealing a.cipher a.rounds a.key_len) (for_stretch a.cipher a.counter-len a.offset a.input-len a.out-len) refl
 
-pub for-run-spec : {M : Type 1} → statement M
-for-run-spec =
+pub for_run_spec : {M : Type 1} → statement M
+for_run_spec =
     tie.close (tie.spec (λ c κs. search rules) (λ c κs. search rules) (λ c κs. search rules) (λ c κs. search rules) (λ c κs. search rules)
     (λ c κs. search rules) (λ c κs. search rules) returns)

@@ -22,5 +22,5 @@ returns-2 : tie.Need-returns-2
 unfolding past_end
 returns-2 c = ap (λ (e : ℕ). ltb 1073741824 e) (whole _ _ _ (search rules) c.before.wrapping-add-u64.ensures (omega arith))
 
-pub past-end-spec : {M : Type 1} → statement M
-past-end-spec = tie.close (tie.spec (λ c κs. search rules) returns returns-2)
+pub past_end_spec : {M : Type 1} → statement M
+past_end_spec = tie.close (tie.spec (λ c κs. search rules) returns returns-2)

@@ -43,6 +43,6 @@ returns-2 c =
     message.or_else.ensures
     ∙ ap (λ (t : Bool). refusal_of (for_tag t a.cipher a.rounds a.key_len a.message-len a.tag-len)) (sym test.if1.false)
 
-pub for-tag-spec : {M : Type 1} → statement M
-for-tag-spec =
+pub for_tag_spec : {M : Type 1} → statement M
+for_tag_spec =
     tie.close (tie.spec (λ c κs. search rules) (λ c κs. search rules) (λ c κs. search rules) (λ c κs. search rules) returns (λ c κs. search rules) returns-2)

@@ -25,5 +25,5 @@ returns c =
     let w = c.args.w in
     ap (λ (p : ℕ). (p ⊕ w % 65536) * 65536 + p) (sym (left-div 16 w c.ranges.w.fits))
 
-pub io-spec : {M : Type 1} → statement M
-io-spec = tie.close (tie.spec mul-result add-result returns)
+pub io_spec : {M : Type 1} → statement M
+io_spec = tie.close (tie.spec mul-result add-result returns)

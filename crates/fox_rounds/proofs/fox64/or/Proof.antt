@@ -27,5 +27,5 @@ returns c =
     to-the-right (w / 65536) (w % 65536) (omega arith) (omega arith)
     ∙ ap (λ (p : ℕ). w % 65536 * 65536 + (p ⊕ w % 65536)) (sym (left-div 16 w c.ranges.w.fits))
 
-pub or-spec : {M : Type 1} → statement M
-or-spec = tie.close (tie.spec (λ c. search rules) (λ c. search rules) returns)
+pub or_spec : {M : Type 1} → statement M
+or_spec = tie.close (tie.spec (λ c. search rules) (λ c. search rules) returns)

@@ -36,7 +36,7 @@ returns c =
     let room = first.before.before.before.before.requires in
     scan-laid room first.put-decimal-line.ensures second.put-decimal-line2.ensures third.move_down.ensures last.put.ensures (omega arith)
 
-pub put-scan-spec : {M : Type 1} → statement M
-put-scan-spec =
+pub put_scan_spec : {M : Type 1} → statement M
+put_scan_spec =
     tie.close (tie.spec (λ c. search rules) (λ c κs. search rules) (λ c. search rules) (λ c. search rules) (λ c κs. search rules) move-down-requires
     (λ c. search rules) (λ c. search rules) put-requires (λ c. search rules) returns)

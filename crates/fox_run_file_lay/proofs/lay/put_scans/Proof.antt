@@ -42,7 +42,7 @@ returns c =
     let turn = c.before in
     onward-last turn.before.before.before.requires turn.loop.invariant.3 turn.loop.invariant.2 (search rules)
 
-pub put-scans-spec : {M : Type 1} → statement M
-put-scans-spec =
+pub put_scans_spec : {M : Type 1} → statement M
+put_scans_spec =
     tie.close (tie.spec invariant-loop decreases-loop loop-holds (λ c. search rules) (λ c. search rules) (λ c. search rules) (λ c. search rules)
     put-scan-requires add-from (λ c. search rules) (λ c. search rules) loop-again (λ c. search rules) returns)

@@ -13,5 +13,5 @@ returns c =
     let pairs = read.pairs-line.ensures in
     record { right = rw (pairs.right, pairs.stored.count, size); bytes = rw (← size) pairs.stored.bytes }
 
-pub block-line-spec : {M : Type 1} → statement M
-block-line-spec = tie.close (tie.spec (λ c κs. search rules) (λ c κs. search rules) (λ c. search rules) returns)
+pub block_line_spec : {M : Type 1} → statement M
+block_line_spec = tie.close (tie.spec (λ c κs. search rules) (λ c κs. search rules) (λ c. search rules) returns)

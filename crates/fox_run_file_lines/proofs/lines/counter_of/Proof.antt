@@ -22,7 +22,7 @@ returns c =
     let long : put.put-key-lines.result ≡ length (key_lines a.cipher a.rounds) = omega (arith, put.put-key-lines.ensures.place) in
     rw (← size.block_size.ensures, ← long, ← text.rest.ensures) read.pairs-line.ensures.stored
 
-pub counter-of-spec : {M : Type 1} → statement M
-counter-of-spec =
+pub counter_of_spec : {M : Type 1} → statement M
+counter_of_spec =
     tie.close (tie.spec (λ c. search rules) (λ c κs. search rules) (λ c κs. search rules) (λ c. search rules) (λ c κs. search rules)
     (λ c κs. search rules) (λ c. search rules) returns)

@@ -33,7 +33,7 @@ returns-3 c =
     let (starts, long) = line-there _ _ _ text.before.before.number-line.ensures text.before.if1.false in
     rw (starts, ← long, ← text.rest.ensures, sym read.block-line.ensures.right ∙ not-false _ c.before.if2.false, c.after_Line.ensures.is)
 
-pub end-fits-spec : {M : Type 1} → statement M
-end-fits-spec =
+pub end_fits_spec : {M : Type 1} → statement M
+end_fits_spec =
     tie.close (tie.spec (λ c. search rules) (λ c κs. search rules) returns (λ c κs. search rules) (λ c. search rules) (λ c. search rules)
     block-line-requires returns-2 (λ c κs. search rules) returns-3)

@@ -41,7 +41,7 @@ returns-2 c =
     let long : put.put-key-lines.result ≡ length (key_lines a.cipher a.rounds) = omega (arith, put.put-key-lines.ensures.place) in
     rw (sym (starts compared) ∙ not-false _ text.before.if1.false, ← long, ← text.rest.ensures) read.block-line.ensures.right
 
-pub header-fits-spec : {M : Type 1} → statement M
-header-fits-spec =
+pub header_fits_spec : {M : Type 1} → statement M
+header_fits_spec =
     tie.close (tie.spec (λ c. search rules) (λ c κs. search rules) (λ c. search rules) slice-aggregate-starts-with (λ c κs. search rules) returns
     (λ c κs. search rules) (λ c. search rules) (λ c. search rules) block-line-requires returns-2)

@@ -28,7 +28,7 @@ returns c =
 returns-2 : tie.Need-returns-2
 returns-2 c = no_line _ _ _ (sym (starts c.before) ∙ c.if1.false)
 
-pub number-line-spec : {M : Type 1} → statement M
-number-line-spec =
+pub number_line_spec : {M : Type 1} → statement M
+number_line_spec =
     tie.close (tie.spec (λ c. search rules) (λ c κs. search rules) (λ c. search rules) slice-aggregate-starts-with (λ c κs. search rules) returns
     returns-2)

@@ -17,7 +17,7 @@ returns c =
     let one = two.before.before.before.before.before in
     at-most (then (then one.put.ensures two.put-decimal-line.ensures) three.put-decimal-line2.ensures) (omega arith)
 
-pub put-key-lines-spec : {M : Type 1} → statement M
-put-key-lines-spec =
+pub put_key_lines_spec : {M : Type 1} → statement M
+put_key_lines_spec =
     tie.close (tie.spec (λ c. search rules) (λ c κs. search rules) (λ c. search rules) (λ c κs. search rules) (λ c. search rules)
     (λ c κs. search rules) (λ c. search rules) returns)

@@ -17,6 +17,6 @@ returns-3 c =
     let a = c.before.before.before.before.before.before.before.before.args in
     found a.file.now a.place (omega arith) (omega arith) (rw c.before.rest.ensures at c.scan-at.ensures)
 
-pub find-at-spec : {M : Type 1} → statement M
-find-at-spec =
+pub find_at_spec : {M : Type 1} → statement M
+find_at_spec =
     tie.close (tie.spec returns returns-2 (λ c. search rules) (λ c. search rules) (λ c κs. search rules) (λ c κs. search rules) returns-3)

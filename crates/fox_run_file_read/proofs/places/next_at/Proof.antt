@@ -16,5 +16,5 @@ returns-2 c =
     let (there, stands) = present c.before.before.find_at.ensures c.if1.false in
     rw (there, stands.size)
 
-pub next-at-spec : {M : Type 1} → statement M
-next-at-spec = tie.close (tie.spec (λ c κs. search rules) returns returns-2)
+pub next_at_spec : {M : Type 1} → statement M
+next_at_spec = tie.close (tie.spec (λ c κs. search rules) returns returns-2)

@@ -22,5 +22,5 @@ returns-2 c =
     let (there, stands) = present c.before.before.before.find_at.ensures c.before.if1.false in
     rw there (c.after.ensures ∙ moved stands)
 
-pub pass-over-spec : {M : Type 1} → statement M
-pass-over-spec = tie.close (tie.spec (λ c κs. search rules) returns after-requires returns-2)
+pub pass_over_spec : {M : Type 1} → statement M
+pass_over_spec = tie.close (tie.spec (λ c κs. search rules) returns after-requires returns-2)

@@ -57,7 +57,7 @@ returns-3 c =
     run-opened _ _ _ _ _ _ there (rw (counter.counter-of.ensures.part, bytes-there stands) at call.run.ensures) c.before.if2.false stands.size
     (c.after.ensures ∙ moved stands)
 
-pub read-at-spec : {M : Type 1} → statement M
-read-at-spec =
+pub read_at_spec : {M : Type 1} → statement M
+read_at_spec =
     tie.close (tie.spec (λ c κs. search rules) returns (λ c. search rules) counter-of-requires add-first add-end (λ c. search rules) (λ c. search rules)
     (λ c. search rules) (λ c. search rules) part-run-end (λ c κs. search rules) (λ c. search rules) returns-2 after-requires (λ c. search rules) returns-3)

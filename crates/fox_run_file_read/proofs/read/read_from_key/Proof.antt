@@ -35,7 +35,7 @@ returns-3 c =
     a.cipher a.rounds a.key.now made.prepare.result (keyed _ _ _ (sym test.before.for-key.ensures ∙ test.if1.false))
     made.prepare.ensures call.read_at.ensures
 
-pub read-from-key-spec : {M : Type 1} → statement M
-read-from-key-spec =
+pub read_from_key_spec : {M : Type 1} → statement M
+read_from_key_spec =
     tie.close (tie.spec (λ c κs. search rules) (λ c κs. search rules) returns returns-2 (λ c κs. search rules) (λ c κs. search rules) (λ c. search rules)
     returns-3)

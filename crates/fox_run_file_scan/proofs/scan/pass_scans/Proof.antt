@@ -73,7 +73,7 @@ returns-2 c =
     let (number, rest) = passed-all at.loop.invariant.0 c.loop-test.false in
     record { number = number; rest = rest; few = at.loop.invariant.0.few; within = at.loop.invariant.1 }
 
-pub pass-scans-spec : {M : Type 1} → statement M
-pass-scans-spec =
+pub pass_scans_spec : {M : Type 1} → statement M
+pass_scans_spec =
     tie.close (tie.spec invariant-loop decreases-loop loop-holds (λ c κs. search rules) (λ c. search rules) (λ c. search rules) (λ c κs. search rules) returns add_at
     add-at-2 add-at-3 (λ c. search rules) (λ c. search rules) loop-again returns-2)

@@ -21,6 +21,6 @@ returns-2 c =
     let all = rw start.requires.0 at passed.pass-scans.ensures in
     c.end-fits.ensures ∙ rw text.rest.ensures (within-limit _ _ _ (omega (arith, passed.before.if1.false, start.requires.1)) all)
 
-pub rest-fits-spec : {M : Type 1} → statement M
-rest-fits-spec =
+pub rest_fits_spec : {M : Type 1} → statement M
+rest_fits_spec =
     tie.close (tie.spec add-if1 returns (λ c κs. search rules) (λ c κs. search rules) (λ c. search rules) (λ c κs. search rules) returns-2)

@@ -49,8 +49,8 @@ returns-3 c = feed-missing (settled c.before) (not-true _ c.if3.true)
 returns-4 : tie.Need-returns-4
 returns-4 c = feed-there (settled c.before) (not-false _ c.if3.false)
 
-pub scan-at-spec : {M : Type 1} → statement M
-scan-at-spec =
+pub scan_at_spec : {M : Type 1} → statement M
+scan_at_spec =
     tie.close (tie.spec (λ c. search rules) (λ c κs. search rules) returns (λ c κs. search rules) (λ c. search rules) (λ c κs. search rules) returns-2
     (λ c. search rules) (λ c κs. search rules) (λ c. search rules) (λ c. search rules) (λ c κs. search rules) (λ c. search rules)
     (λ c κs. search rules) (λ c κs. search rules) returns-3 returns-4)

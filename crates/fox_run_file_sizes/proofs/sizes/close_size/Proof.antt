@@ -16,5 +16,5 @@ add-result c = omega (arith, block-small c.before.args.cipher)
 returns : tie.Need-returns
 returns c = omega (arith, close-line-size c.before.args.cipher)
 
-pub close-size-spec : {M : Type 1} → statement M
-close-size-spec = tie.close (tie.spec (λ c κs. search rules) mul-result add-result returns)
+pub close_size_spec : {M : Type 1} → statement M
+close_size_spec = tie.close (tie.spec (λ c κs. search rules) mul-result add-result returns)

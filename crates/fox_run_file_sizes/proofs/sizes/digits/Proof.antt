@@ -21,5 +21,5 @@ returns-4 c = (sym (digits-by-power 3 5 c.before.before.before.before.args.n (om
 returns-5 : tie.Need-returns-5
 returns-5 c = (sym (digits-by-power 4 5 c.before.before.before.before.args.n (omega arith) (omega arith) (omega arith)), omega arith)
 
-pub digits-spec : {M : Type 1} → statement M
-digits-spec = tie.close (tie.spec returns returns-2 returns-3 returns-4 returns-5)
+pub digits_spec : {M : Type 1} → statement M
+digits_spec = tie.close (tie.spec returns returns-2 returns-3 returns-4 returns-5)

@@ -79,7 +79,7 @@ returns-4 c =
     (in-limits a.cipher a.rounds _ (search rules) (short scans.scans-size.ensures fit) (omega arith)) (summed scans.scans-size.ensures fit)
     (omega (arith, is, c.close-size.ensures))
 
-pub file-size-spec : {M : Type 1} → statement M
-file-size-spec =
+pub file_size_spec : {M : Type 1} → statement M
+file_size_spec =
     tie.close (tie.spec returns (λ c κs. search rules) returns-2 (λ c κs. search rules) add-before add-before-2 (λ c. search rules)
     (λ c κs. search rules) add-before-3 returns-3 (λ c κs. search rules) add-t11 returns-4)

@@ -100,7 +100,7 @@ returns-4 c =
     let told = told-served _ (sym (whole test.before) ∙ test.if3.false) (c.served.ensures.0, c.served.ensures.1 ∙ size) in
     record { refusal = told.0; count = told.1 }
 
-pub for-write-spec : {M : Type 1} → statement M
-for-write-spec =
+pub for_write_spec : {M : Type 1} → statement M
+for_write_spec =
     tie.close (tie.spec (λ c κs. search rules) (λ c κs. search rules) (λ c κs. search rules) (λ c κs. search rules) returns file-size-requires
     (λ c κs. search rules) returns-2 (λ c κs. search rules) (λ c κs. search rules) (λ c κs. search rules) returns-3 (λ c κs. search rules) returns-4)

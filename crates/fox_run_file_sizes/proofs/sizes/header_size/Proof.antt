@@ -18,7 +18,7 @@ returns c =
     let a = c.before.before.before.args in
     omega (arith, header-line-sizes a.cipher a.rounds)
 
-pub header-size-spec : {M : Type 1} → statement M
-header-size-spec =
+pub header_size_spec : {M : Type 1} → statement M
+header_size_spec =
     tie.close (tie.spec (λ c κs. search rules) (λ c. search rules) (λ c κs. search rules) (λ c. search rules) (λ c κs. search rules) mul-result
     add-result-3 returns)

@@ -11,7 +11,7 @@ returns c =
     let a = c.before.before.args in
     omega (arith, scan-line-sizes a.number a.size)
 
-pub scan-size-spec : {M : Type 1} → statement M
-scan-size-spec =
+pub scan_size_spec : {M : Type 1} → statement M
+scan_size_spec =
     tie.close (tie.spec (λ c. search rules) (λ c κs. search rules) (λ c. search rules) (λ c. search rules) (λ c κs. search rules) (λ c. search rules)
     (λ c. search rules) returns)

@@ -77,7 +77,7 @@ loop-again c = (refl, rw c.scan-size.ensures (one_more c.before.before.before.be
 returns-2 : tie.Need-returns-2 invariant-loop decreases-loop
 returns-2 c = all-added c.before.loop.invariant.1 c.before.before.before.requires (search rules)
 
-pub scans-size-spec : {M : Type 1} → statement M
-scans-size-spec =
+pub scans_size_spec : {M : Type 1} → statement M
+scans_size_spec =
     tie.close (tie.spec invariant-loop decreases-loop loop-holds (λ c. search rules) (λ c. search rules) returns (λ c. search rules) (λ c. search rules)
     (λ c κs. search rules) add-size (λ c. search rules) (λ c. search rules) loop-again returns-2)

@@ -61,7 +61,7 @@ returns-3 c =
     let told = told-served (for_size a.cipher a.rounds a.sizes.now) (rw limits at past) (c.served.ensures.0, c.served.ensures.1 ∙ size) in
     record { refusal = told.0; count = told.1 }
 
-pub tell-size-spec : {M : Type 1} → statement M
-tell-size-spec =
+pub tell_size_spec : {M : Type 1} → statement M
+tell_size_spec =
     tie.close (tie.spec (λ c κs. search rules) (λ c κs. search rules) returns file-size-requires (λ c κs. search rules) returns-2 (λ c κs. search rules)
     returns-3)

@@ -54,7 +54,7 @@ returns c =
     (ap (λ (n : ℕ). length a.file.now - n) close.close-size.ensures) size.block_size.ensures (block-small _)
     (rw text.rest.ensures at read.block-line.ensures) c.test.ensures
 
-pub of-tag-spec : {M : Type 1} → statement M
-of-tag-spec =
+pub of_tag_spec : {M : Type 1} → statement M
+of_tag_spec =
     tie.close (tie.spec (λ c κs. search rules) sub-before (λ c κs. search rules) (λ c. search rules) (λ c. search rules) block-line-requires
     (λ c κs. search rules) slice-aggregate-test array-share-prefix-tag slice-aggregate-test-2 (λ c κs. search rules) returns)

@@ -24,6 +24,6 @@ returns-3 c =
     let header = c.before.before.before.before in
     rw (sym header.before.header-fits.ensures ∙ not-false _ header.if1.false, sym c.before.rest-fits.ensures ∙ not-false _ c.if2.false)
 
-pub of-text-spec : {M : Type 1} → statement M
-of-text-spec =
+pub of_text_spec : {M : Type 1} → statement M
+of_text_spec =
     tie.close (tie.spec (λ c κs. search rules) returns (λ c κs. search rules) (λ c κs. search rules) (λ c κs. search rules) returns-2 returns-3)

@@ -54,7 +54,7 @@ returns-4 c =
     (sym (of-tag _ _ _ _ _ (of-key-passed told.before.before.before) (of-text-passed told.before) told.of-tag.ensures) ∙ test.if3.false)
     c.taken.ensures
 
-pub take-up-spec : {M : Type 1} → statement M
-take-up-spec =
+pub take_up_spec : {M : Type 1} → statement M
+take_up_spec =
     tie.close (tie.spec (λ c κs. search rules) (λ c κs. search rules) returns of-text-requires (λ c κs. search rules) returns-2 of-tag-requires
     (λ c κs. search rules) returns-3 taken-requires returns-4)

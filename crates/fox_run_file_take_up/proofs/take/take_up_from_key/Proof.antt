@@ -25,6 +25,6 @@ returns-2 c =
     from-prepared (λ (cipher n key_len : ℕ) (rks : List ℕ). TakesUpWith cipher n key_len rks a.file.now c.take-up.result) a.cipher a.rounds
     a.key.now made.prepare.result (keyed _ _ _ (sym test.before.for-key.ensures ∙ test.if1.false)) made.prepare.ensures c.take-up.ensures
 
-pub take-up-from-key-spec : {M : Type 1} → statement M
-take-up-from-key-spec =
+pub take_up_from_key_spec : {M : Type 1} → statement M
+take_up_from_key_spec =
     tie.close (tie.spec (λ c κs. search rules) (λ c κs. search rules) returns (λ c κs. search rules) (λ c κs. search rules) returns-2)

@@ -10,5 +10,5 @@ returns : tie.Need-returns
 unfolding first_place
 returns c = (refl, rw c.header-size.ensures)
 
-pub taken-spec : {M : Type 1} → statement M
-taken-spec = tie.close (tie.spec (λ c κs. search rules) returns)
+pub taken_spec : {M : Type 1} → statement M
+taken_spec = tie.close (tie.spec (λ c κs. search rules) returns)

@@ -24,6 +24,6 @@ put-tag-requires c κs =
     let start = size.before.before in
     (start.requires, length-take-le _ _ (omega (arith, size.block_size.ensures, size-most start.args.p.cipher)) ∙ size.block_size.ensures)
 
-pub put-close-spec : {M : Type 1} → statement M
-put-close-spec =
+pub put_close_spec : {M : Type 1} → statement M
+put_close_spec =
     tie.close (tie.spec (λ c κs. search rules) array-borrow-prefix-tag slice-aggregate-put-tag put-tag-requires (λ c. search rules) (λ c. search rules))

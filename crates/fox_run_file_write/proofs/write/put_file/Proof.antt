@@ -36,7 +36,7 @@ returns c =
     let start = seal.before.before.before.before.before.before.before.before.before in
     file-put start.requires seal.stretch.ensures text.put-unclosed.ensures (search rules) close.put-close.ensures
 
-pub put-file-spec : {M : Type 1} → statement M
-put-file-spec =
+pub put_file_spec : {M : Type 1} → statement M
+put_file_spec =
     tie.close (tie.spec sub-from (λ c. search rules) (λ c. search rules) (λ c. search rules) (λ c. search rules) stretch-requires put-unclosed-requires
     put-close-requires (λ c. search rules) returns)

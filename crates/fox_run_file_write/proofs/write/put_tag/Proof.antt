@@ -38,7 +38,7 @@ returns c =
     let tag = (tag-made a.p.cipher a.p.rounds _ (round_keys_in a.p) text room.keyed short start.requires.1 call.make.ensures).output in
     rw (← tag) line.put-pairs-line.ensures
 
-pub put-tag-spec : {M : Type 1} → statement M
-put-tag-spec =
+pub put_tag_spec : {M : Type 1} → statement M
+put_tag_spec =
     tie.close (tie.spec (λ c. search rules) slice-aggregate-make (λ c κs. search rules) (λ c. search rules) put-pairs-line-requires (λ c. search rules)
     (λ c. search rules) returns)

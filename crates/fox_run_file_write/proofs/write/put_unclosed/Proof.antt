@@ -54,7 +54,7 @@ returns c =
     unclosed-laid room lines.put-key-lines.ensures header.put-pairs-line.ensures (omega arith) scans.put-scans.ensures (omega arith)
     number.put-decimal-line.ensures
 
-pub put-unclosed-spec : {M : Type 1} → statement M
-put-unclosed-spec =
+pub put_unclosed_spec : {M : Type 1} → statement M
+put_unclosed_spec =
     tie.close (tie.spec put-key-lines-requires (λ c. search rules) put-pairs-line-requires put-scans-requires (λ c. search rules) cast-put-decimal-line
     put-decimal-line-requires (λ c. search rules) returns)

@@ -25,7 +25,7 @@ returns-2 c =
     write-prepared a.cipher a.rounds a.key.now a.counter.now a.input.now a.sizes.now made.prepare.result made.prepare.ensures
     call.write.ensures (writable _ _ _ _ _ _ _ zero).keyed
 
-pub write-from-key-spec : {M : Type 1} → statement M
-write-from-key-spec =
+pub write_from_key_spec : {M : Type 1} → statement M
+write_from_key_spec =
     tie.close (tie.spec (λ c κs. search rules) (λ c κs. search rules) returns (λ c κs. search rules) (λ c κs. search rules) (λ c. search rules)
     returns-2)

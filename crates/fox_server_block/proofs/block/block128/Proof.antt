@@ -21,7 +21,7 @@ returns c =
     ∙ ap bytes (s.turn128.ensures ∙ ap (λ (x : Fox128). turned a.sealing (round_keys_in128 a.keys.now a.rounds) (Of128 x))
     r.read128.ensures)
 
-pub block128-spec : {M : Type 1} → statement M
-block128-spec =
+pub block128_spec : {M : Type 1} → statement M
+block128_spec =
     tie.close (tie.spec (λ c κs. search rules) (λ c κs. search rules) (λ c κs. search rules) (λ c κs. search rules) (λ c κs. search rules)
     (λ c. search rules) returns)

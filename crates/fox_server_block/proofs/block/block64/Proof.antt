@@ -21,7 +21,7 @@ returns c =
     ∙ ap bytes (s.turn64.ensures ∙ ap (λ (x : Fox64). turned a.sealing (round_keys_in64 a.keys.now a.rounds) (Of64 x))
     r.read64.ensures)
 
-pub block64-spec : {M : Type 1} → statement M
-block64-spec =
+pub block64_spec : {M : Type 1} → statement M
+block64_spec =
     tie.close (tie.spec (λ c κs. search rules) (λ c κs. search rules) (λ c κs. search rules) (λ c κs. search rules) (λ c κs. search rules)
     (λ c. search rules) returns)

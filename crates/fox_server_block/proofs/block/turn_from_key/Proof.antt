@@ -22,7 +22,7 @@ returns-2 c =
     turn-prepared a.sealing a.cipher a.rounds a.key.now a.block.now made.prepare.result known.keyed made.prepare.ensures
     call.turn.ensures
 
-pub turn-from-key-spec : {M : Type 1} → statement M
-turn-from-key-spec =
+pub turn_from_key_spec : {M : Type 1} → statement M
+turn_from_key_spec =
     tie.close (tie.spec (λ c κs. search rules) (λ c κs. search rules) returns (λ c κs. search rules) (λ c κs. search rules) (λ c. search rules)
     returns-2)

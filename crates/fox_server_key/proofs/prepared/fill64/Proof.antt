@@ -45,7 +45,7 @@ returns c =
     let all : at.loop.i ≡ a.rounds = search rules in
     at.loop.invariant.2 ∙ ap (λ (n : ℕ). filled (numbered (round_key_of a.s a.rounds) n 0)) all
 
-pub fill64-spec : {M : Type 1} → statement M
-fill64-spec =
+pub fill64_spec : {M : Type 1} → statement M
+fill64_spec =
     tie.close (tie.spec invariant-loop decreases-loop (λ c κs. search rules) loop-holds (λ c κs. search rules) (λ c. search rules) (λ c. search rules)
     (λ c. search rules) (λ c. search rules) (λ c. search rules) loop-again returns)

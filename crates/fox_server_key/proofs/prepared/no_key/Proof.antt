@@ -9,5 +9,5 @@ returns : tie.Need-returns
 unfolding no_key
 returns c = refl
 
-pub no-key-spec : {M : Type 1} → statement M
-no-key-spec = tie.close (tie.spec returns)
+pub no_key_spec : {M : Type 1} → statement M
+no_key_spec = tie.close (tie.spec returns)

@@ -43,7 +43,7 @@ returns-2 c =
     (c.served.ensures.1 ∙ ap (λ (b : ℕ). b * a.rounds) c.before.block_size.ensures)
     (λ i. record { cipher = a.cipher; rounds = a.rounds; key_len = length a.key.now; keys = keys i })
 
-pub prepare-spec : {M : Type 1} → statement M
-prepare-spec =
+pub prepare_spec : {M : Type 1} → statement M
+prepare_spec =
     tie.close (tie.spec (λ c κs. search rules) (λ c κs. search rules) (λ c κs. search rules) returns (λ c. search rules) words-requires
     (λ c κs. search rules) mul-served (λ c κs. search rules) returns-2)

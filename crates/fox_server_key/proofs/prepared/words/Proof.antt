@@ -33,5 +33,5 @@ returns-2 c =
     ∙ ap (λ (ks : List ℕ). filled (in_halves ks)) (sym (round_keys-scheduled a.cipher a.rounds a.key.now of.of.result of.of.ensures))
     ∙ sym (prepared_words-128 a.cipher a.rounds a.key.now test.if1.false)
 
-pub words-spec : {M : Type 1} → statement M
-words-spec = tie.close (tie.spec (λ c κs. search rules) fill64-requires (λ c κs. search rules) returns returns-2)
+pub words_spec : {M : Type 1} → statement M
+words_spec = tie.close (tie.spec (λ c κs. search rules) fill64-requires (λ c κs. search rules) returns returns-2)

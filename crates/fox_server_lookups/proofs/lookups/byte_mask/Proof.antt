@@ -18,5 +18,5 @@ returns : tie.Need-returns
 returns c =
     ap (λ (s : List ℕ). get_or s 0x3F9 0) c.before.requires ∙ TBS-entry 4 0x3F9 (search rules) ∙ ones
 
-pub byte-mask-spec : {M : Type 1} → statement M
-byte-mask-spec = tie.close (tie.spec (λ c. search rules) returns)
+pub byte_mask_spec : {M : Type 1} → statement M
+byte_mask_spec = tie.close (tie.spec (λ c. search rules) returns)

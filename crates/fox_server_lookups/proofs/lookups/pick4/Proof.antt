@@ -27,7 +27,7 @@ returns c =
     done
     ))
 
-pub pick4-spec : {M : Type 1} → statement M
-pick4-spec =
+pub pick4_spec : {M : Type 1} → statement M
+pick4_spec =
     tie.close (tie.spec (λ c. search rules) (λ c κs. search rules) (λ c κs. search rules) (λ c. search rules) (λ c κs. search rules)
     (λ c κs. search rules) (λ c. search rules) (λ c κs. search rules) (λ c κs. search rules) (λ c κs. search rules) (λ c κs. search rules) returns)

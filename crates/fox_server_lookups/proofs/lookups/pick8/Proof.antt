@@ -35,8 +35,8 @@ returns c =
     done
     ))
 
-pub pick8-spec : {M : Type 1} → statement M
-pick8-spec =
+pub pick8_spec : {M : Type 1} → statement M
+pick8_spec =
     tie.close (tie.spec (λ c κs. search rules) (λ c κs. search rules) (λ c κs. search rules) (λ c κs. search rules) (λ c κs. search rules)
     (λ c κs. search rules) (λ c κs. search rules) (λ c κs. search rules) (λ c κs. search rules) (λ c κs. search rules) (λ c κs. search rules)
     (λ c κs. search rules) (λ c κs. search rules) (λ c κs. search rules) (λ c κs. search rules) (λ c κs. search rules) returns)

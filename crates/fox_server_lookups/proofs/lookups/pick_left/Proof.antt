@@ -26,7 +26,7 @@ returns c =
     done
     ))
 
-pub pick-left-spec : {M : Type 1} → statement M
-pick-left-spec =
+pub pick_left_spec : {M : Type 1} → statement M
+pick_left_spec =
     tie.close (tie.spec (λ c κs. search rules) (λ c κs. search rules) (λ c κs. search rules) (λ c κs. search rules) (λ c κs. search rules)
     (λ c κs. search rules) (λ c κs. search rules) (λ c κs. search rules) returns)

@@ -26,7 +26,7 @@ returns c =
     done
     ))
 
-pub pick-right-spec : {M : Type 1} → statement M
-pick-right-spec =
+pub pick_right_spec : {M : Type 1} → statement M
+pick_right_spec =
     tie.close (tie.spec (λ c κs. search rules) (λ c κs. search rules) (λ c κs. search rules) (λ c κs. search rules) (λ c κs. search rules)
     (λ c κs. search rules) (λ c κs. search rules) (λ c κs. search rules) returns)

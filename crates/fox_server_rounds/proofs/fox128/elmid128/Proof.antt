@@ -41,8 +41,8 @@ returns c =
     halves-xor128 (p ⊕ k / 2 ^ 32) (q ⊕ k % 2 ^ 32) _ a.x (xor_lt 32 p (k / 2 ^ 32) low kh) (xor_lt 32 q (k % 2 ^ 32) high (omega arith))
     (sym (ap (λ (x : ℕ). f64 x (k * 2 ^ 64 + l)) xor_over.round-input.ensures) ∙ sym made ∙ halves-xored p q k low high)
 
-pub elmid128-spec : {M : Type 1} → statement M
-elmid128-spec =
+pub elmid128_spec : {M : Type 1} → statement M
+elmid128_spec =
     tie.close (tie.spec (λ c κs. search rules) (λ c κs. search rules) (λ c κs. search rules) cast-pick4 (λ c κs. search rules) (λ c. search rules)
     (λ c. search rules)
     (λ c κs. search rules) (λ c. search rules) returns)

@@ -9,7 +9,7 @@ returns : tie.Need-returns
 unfolding round_key_in128
 returns c = c.elmid128.ensures
 
-pub elmid128-at-spec : {M : Type 1} → statement M
-elmid128-at-spec =
+pub elmid128_at_spec : {M : Type 1} → statement M
+elmid128_at_spec =
     tie.close (tie.spec (λ c. search rules) (λ c. search rules) (λ c. search rules) (λ c. search rules) (λ c. search rules) (λ c. search rules)
     (λ c. search rules) (λ c κs. search rules) returns)

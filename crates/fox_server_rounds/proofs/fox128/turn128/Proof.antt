@@ -53,7 +53,7 @@ returns c =
     (search rules) (search rules) at.loop.invariant.1
     (ap Of128 (c.elmid128-at2.ensures ∙ ap (λ (j : ℕ). elmid128 (round_key_in128 a.keys.now j) at.loop.y) c.before.place2.ensures.0))
 
-pub turn128-spec : {M : Type 1} → statement M
-turn128-spec =
+pub turn128_spec : {M : Type 1} → statement M
+turn128_spec =
     tie.close (tie.spec invariant-loop decreases-loop (λ c. search rules) loop-holds (λ c κs. search rules) lent (λ c κs. search rules) (λ c. search rules)
     (λ c. search rules) loop-again (λ c κs. search rules) lent-2 returns)

@@ -13,5 +13,5 @@ returns c =
     let x = c2.before.before.args.x in
     λ i. record { l = x.l ⊕ c2.f32.ensures i; r = x.r ⊕ c2.f32.ensures i }
 
-pub lmid64-spec : {M : Type 1} → statement M
-lmid64-spec = tie.close (tie.spec (λ c κs. search rules) returns)
+pub lmid64_spec : {M : Type 1} → statement M
+lmid64_spec = tie.close (tie.spec (λ c κs. search rules) returns)

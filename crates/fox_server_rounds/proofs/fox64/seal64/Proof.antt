@@ -38,8 +38,8 @@ returns c =
     rounds_left-last lmid64 or64 (round_key_in64 a.keys.now) a.rounds at.loop.i a.x at.loop.y c.lmid642.result (search rules)
     (search rules) (search rules) at.loop.invariant.1 c.lmid642.ensures
 
-pub seal64-spec : {M : Type 1} → statement M
-seal64-spec =
+pub seal64_spec : {M : Type 1} → statement M
+seal64_spec =
     tie.close (tie.spec invariant-loop decreases-loop (λ c. search rules) loop-holds (λ c. search rules) (λ c. search rules)
     (λ c κs. c.before.before.before.requires.0) (λ c κs. tt) (λ c. search rules) (λ c. search rules) loop-again (λ c. search rules) (λ c. search rules)
     (λ c κs. c.before.before.before.requires.0) returns)

@@ -53,8 +53,8 @@ returns c =
     (search rules) (search rules) at.loop.invariant.1
     (ap Of64 (c.lmid642.ensures ∙ ap (λ (j : ℕ). lmid64 (round_key_in64 a.keys.now j) at.loop.y) c.before.before.place2.ensures.0))
 
-pub turn64-spec : {M : Type 1} → statement M
-turn64-spec =
+pub turn64_spec : {M : Type 1} → statement M
+turn64_spec =
     tie.close (tie.spec invariant-loop decreases-loop (λ c. search rules) loop-holds (λ c κs. search rules) (λ c. search rules) (λ c. search rules) lent
     (λ c κs. search rules) (λ c. search rules) (λ c. search rules) loop-again (λ c κs. search rules) (λ c. search rules) (λ c. search rules) lent-2
     returns)

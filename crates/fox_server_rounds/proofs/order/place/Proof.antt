@@ -13,5 +13,5 @@ returns-2 : tie.Need-returns-2
 unfolding place
 returns-2 c = (rw c.if1.false, search rules)
 
-pub place-spec : {M : Type 1} → statement M
-place-spec = tie.close (tie.spec (λ c. search rules) (λ c. search rules) returns returns-2)
+pub place_spec : {M : Type 1} → statement M
+place_spec = tie.close (tie.spec (λ c. search rules) (λ c. search rules) returns returns-2)

@@ -10,5 +10,5 @@ returns c =
     let c2 = c3.before in
     record { first = c2.before.elmid-wide.ensures; second = c2.elmid-wide2.ensures; third = c3.elmid-wide3.ensures; fourth = c.elmid-wide4.ensures }
 
-pub elmid-four128-spec : {M : Type 1} → statement M
-elmid-four128-spec = tie.close (tie.spec (λ c κs. search rules) (λ c κs. search rules) (λ c κs. search rules) (λ c κs. search rules) returns)
+pub elmid_four128_spec : {M : Type 1} → statement M
+elmid_four128_spec = tie.close (tie.spec (λ c κs. search rules) (λ c κs. search rules) (λ c κs. search rules) (λ c κs. search rules) returns)

@@ -18,7 +18,7 @@ returns c =
       fourth = c.or4.ensures ∙ ap or128 c.before.elmid-wide4.ensures;
     }
 
-pub elmor-four128-spec : {M : Type 1} → statement M
-elmor-four128-spec =
+pub elmor_four128_spec : {M : Type 1} → statement M
+elmor_four128_spec =
     tie.close (tie.spec (λ c κs. search rules) (λ c κs. tt) (λ c κs. search rules) (λ c κs. tt) (λ c κs. search rules) (λ c κs. tt)
     (λ c κs. search rules) (λ c κs. tt) returns)

@@ -46,8 +46,8 @@ returns c =
     (λ p q r left on. rounds_left-last elmid128 or128 (round_key_in128 a.keys.now) a.rounds i p q r (search rules) (search rules) (search rules) left on)
     at.loop.invariant.1 c.elmid-four128.ensures
 
-pub seal-four128-spec : {M : Type 1} → statement M
-seal-four128-spec =
+pub seal_four128_spec : {M : Type 1} → statement M
+seal_four128_spec =
     tie.close (tie.spec invariant-loop decreases-loop (λ c. search rules) loop-holds (λ c. search rules) (λ c. search rules) (λ c. search rules)
     (λ c. search rules) (λ c. search rules) (λ c. search rules) (λ c. search rules) (λ c κs. c.before.before.before.before.requires.0)
     (λ c. search rules) (λ c. search rules) loop-again (λ c. search rules) (λ c. search rules) (λ c. search rules) (λ c. search rules)

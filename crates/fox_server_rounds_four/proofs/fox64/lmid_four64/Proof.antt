@@ -25,5 +25,5 @@ returns c =
       fourth = λ i. record { l = x.fourth.l ⊕ v i; r = x.fourth.r ⊕ v i };
     }
 
-pub lmid-four64-spec : {M : Type 1} → statement M
-lmid-four64-spec = tie.close (tie.spec (λ c κs. search rules) (λ c κs. search rules) (λ c κs. search rules) (λ c κs. search rules) returns)
+pub lmid_four64_spec : {M : Type 1} → statement M
+lmid_four64_spec = tie.close (tie.spec (λ c κs. search rules) (λ c κs. search rules) (λ c κs. search rules) (λ c κs. search rules) returns)

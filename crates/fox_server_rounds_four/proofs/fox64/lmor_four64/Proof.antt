@@ -33,7 +33,7 @@ returns c =
       fourth = round a.rk a.x.fourth c4.f324.ensures o4.or4.ensures;
     }
 
-pub lmor-four64-spec : {M : Type 1} → statement M
-lmor-four64-spec =
+pub lmor_four64_spec : {M : Type 1} → statement M
+lmor_four64_spec =
     tie.close (tie.spec (λ c κs. search rules) (λ c κs. search rules) (λ c κs. search rules) (λ c κs. search rules) (λ c κs. tt) (λ c κs. tt) (λ c κs. tt)
     (λ c κs. tt) returns)

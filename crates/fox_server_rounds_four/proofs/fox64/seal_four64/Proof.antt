@@ -46,8 +46,8 @@ returns c =
     (λ p q r left on. rounds_left-last lmid64 or64 (round_key_in64 a.keys.now) a.rounds i p q r (search rules) (search rules) (search rules) left on)
     at.loop.invariant.1 c.lmid-four64.ensures
 
-pub seal-four64-spec : {M : Type 1} → statement M
-seal-four64-spec =
+pub seal_four64_spec : {M : Type 1} → statement M
+seal_four64_spec =
     tie.close (tie.spec invariant-loop decreases-loop (λ c. search rules) loop-holds (λ c. search rules) (λ c. search rules)
     (λ c κs. c.before.before.before.requires.0) (λ c. search rules) (λ c. search rules) loop-again (λ c. search rules) (λ c. search rules)
     (λ c κs. c.before.before.before.requires.0) returns)

@@ -37,7 +37,7 @@ returns c =
     (joined.pair.ensures ∙ sym (halves-xored p q k (search rules) (search rules)) ∙ made
     ∙ ap (λ (n : ℕ). f64 n (k * 2 ^ 64 + l)) (sym (input-xor x known.struct_known.given.0.fits known.struct_known.given.1.0.fits)))
 
-pub elmid-wide-spec : {M : Type 1} → statement M
-elmid-wide-spec =
+pub elmid_wide_spec : {M : Type 1} → statement M
+elmid_wide_spec =
     tie.close (tie.spec (λ c κs. search rules) (λ c κs. search rules) (λ c κs. search rules) (λ c. search rules) (λ c κs. search rules) (λ c. search rules)
     (λ c κs. tt) returns)

@@ -12,5 +12,5 @@ mul-result c = record { fits = omega (arith, and_le_r c.args.w 0x0000FFFF0000FFF
 returns : tie.Need-returns
 returns c = or-both c.args.w c.ranges.w.fits
 
-pub or-halves-spec : {M : Type 1} → statement M
-or-halves-spec = tie.close (tie.spec mul-result returns)
+pub or_halves_spec : {M : Type 1} → statement M
+or_halves_spec = tie.close (tie.spec mul-result returns)

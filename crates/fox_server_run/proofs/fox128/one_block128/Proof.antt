@@ -24,6 +24,6 @@ returns c =
     part-made 16 (sealed rks (Of128 a.x)) (size-pos (Of128 a.x)) (length-sealed rks (Of128 a.x)) a.n
     (ap bytes (made.turn128.ensures ∙ ap (λ (y : Fox128). turned true rks (Of128 y)) made.before.counted128.ensures)) call.xor-part128.ensures
 
-pub one-block128-spec : {M : Type 1} → statement M
-one-block128-spec =
+pub one_block128_spec : {M : Type 1} → statement M
+one_block128_spec =
     tie.close (tie.spec (λ c. search rules) (λ c κs. search rules) (λ c κs. search rules) (λ c κs. search rules) (λ c. search rules) returns)

@@ -11,6 +11,6 @@ four-blocks128-requires c κs =
     let pre = start.requires in
     (pre.0, (pre.1.0, pre.1.1, omega arith, omega arith, omega arith, omega arith))
 
-pub part128-spec : {M : Type 1} → statement M
-part128-spec =
+pub part128_spec : {M : Type 1} → statement M
+part128_spec =
     tie.close (tie.spec four-blocks128-requires (λ c. search rules) (λ c. search rules) (λ c κs. search rules) (λ c. search rules) (λ c. search rules))

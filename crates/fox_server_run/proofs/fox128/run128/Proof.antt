@@ -18,6 +18,6 @@ returns c =
     laid.stretch128.ensures
     ∙ ap (λ (y : Fox128). xor_from (stream (round_keys_in128 a.keys.now a.rounds) (Of128 y)) a.n a.input.now) x.read128.ensures
 
-pub run128-spec : {M : Type 1} → statement M
-run128-spec =
+pub run128_spec : {M : Type 1} → statement M
+run128_spec =
     tie.close (tie.spec (λ c κs. search rules) (λ c κs. search rules) (λ c κs. search rules) (λ c κs. search rules) (λ c. search rules) returns)

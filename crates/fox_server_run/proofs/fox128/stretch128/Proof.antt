@@ -55,7 +55,7 @@ returns c =
     xored_to-last _ a.n a.input.now a.out.now c.before.loop.at c.before.before.before.before.requires.1.3 (search rules)
     c.before.loop.invariant.2
 
-pub stretch128-spec : {M : Type 1} → statement M
-stretch128-spec =
+pub stretch128_spec : {M : Type 1} → statement M
+stretch128_spec =
     tie.close (tie.spec invariant-loop decreases-loop loop-holds (λ c. search rules) (λ c. search rules) (λ c. search rules) (λ c. search rules)
     (λ c. search rules) (λ c. search rules) (λ c. search rules) part128-requires add_at loop-less loop-again (λ c. search rules) returns)

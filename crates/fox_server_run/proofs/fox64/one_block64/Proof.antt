@@ -24,6 +24,6 @@ returns c =
     part-made 8 (sealed rks (Of64 a.x)) (size-pos (Of64 a.x)) (length-sealed rks (Of64 a.x)) a.n
     (ap bytes (made.turn64.ensures ∙ ap (λ (y : Fox64). turned true rks (Of64 y)) made.before.counted64.ensures)) call.xor-part64.ensures
 
-pub one-block64-spec : {M : Type 1} → statement M
-one-block64-spec =
+pub one_block64_spec : {M : Type 1} → statement M
+one_block64_spec =
     tie.close (tie.spec (λ c. search rules) (λ c κs. search rules) (λ c κs. search rules) (λ c κs. search rules) (λ c. search rules) returns)

@@ -18,6 +18,6 @@ returns c =
     laid.stretch64.ensures
     ∙ ap (λ (y : Fox64). xor_from (stream (round_keys_in64 a.keys.now a.rounds) (Of64 y)) a.n a.input.now) x.read64.ensures
 
-pub run64-spec : {M : Type 1} → statement M
-run64-spec =
+pub run64_spec : {M : Type 1} → statement M
+run64_spec =
     tie.close (tie.spec (λ c κs. search rules) (λ c κs. search rules) (λ c κs. search rules) (λ c κs. search rules) (λ c. search rules) returns)

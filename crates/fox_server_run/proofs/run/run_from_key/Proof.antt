@@ -22,7 +22,7 @@ returns-2 c =
     run-prepared a.sealing a.cipher a.rounds a.key.now a.counter.now a.offset a.input.now made.prepare.result
     (stretched _ _ _ _ _ _ _ _ zero).keyed made.prepare.ensures call.run.ensures
 
-pub run-from-key-spec : {M : Type 1} → statement M
-run-from-key-spec =
+pub run_from_key_spec : {M : Type 1} → statement M
+run_from_key_spec =
     tie.close (tie.spec (λ c κs. search rules) (λ c κs. search rules) returns (λ c κs. search rules) (λ c κs. search rules) (λ c. search rules)
     returns-2)

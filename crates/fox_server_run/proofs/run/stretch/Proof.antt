@@ -35,5 +35,5 @@ returns-2 c =
     call.run128.ensures
     ∙ run-in-128 a.cipher a.keys.now a.rounds a.counter.now a.n a.input.now start.requires.block test.if1.false
 
-pub stretch-spec : {M : Type 1} → statement M
-stretch-spec = tie.close (tie.spec run64-requires run128-requires (λ c. search rules) returns (λ c. search rules) returns-2)
+pub stretch_spec : {M : Type 1} → statement M
+stretch_spec = tie.close (tie.spec run64-requires run128-requires (λ c. search rules) returns (λ c. search rules) returns-2)

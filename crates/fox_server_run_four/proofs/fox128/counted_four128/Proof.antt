@@ -16,7 +16,7 @@ returns c =
       c.of4.ensures ∙ c.before.counted1284.ensures,
     )
 
-pub counted-four128-spec : {M : Type 1} → statement M
-counted-four128-spec =
+pub counted_four128_spec : {M : Type 1} → statement M
+counted_four128_spec =
     tie.close (tie.spec (λ c κs. search rules) (λ c κs. tt) (λ c. search rules) (λ c κs. search rules) (λ c κs. tt) (λ c. search rules) (λ c κs. search rules)
     (λ c κs. tt) (λ c. search rules) (λ c κs. search rules) (λ c κs. tt) returns)

@@ -38,6 +38,6 @@ returns c =
     (block rks a.x (i + 2) each.third blocks.2) (block rks a.x (i + 3) each.fourth blocks.3)
     xored.xor-four128.ensures
 
-pub four-blocks128-spec : {M : Type 1} → statement M
-four-blocks128-spec =
+pub four_blocks128_spec : {M : Type 1} → statement M
+four_blocks128_spec =
     tie.close (tie.spec (λ c. search rules) (λ c κs. search rules) (λ c κs. search rules) (λ c κs. search rules) (λ c. search rules) returns)

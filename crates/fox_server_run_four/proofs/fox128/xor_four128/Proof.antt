@@ -30,7 +30,7 @@ returns c =
     ∙ (λ i. xor_each ((bytes128 (p.narrowed.ensures i) ++ bytes128 (q.narrowed2.ensures i)) ++ (bytes128 (u.narrowed3.ensures i)
     ++ bytes128 (v.narrowed4.ensures i))) a.input.now ++ drop 64 a.out.now)
 
-pub xor-four128-spec : {M : Type 1} → statement M
-xor-four128-spec =
+pub xor_four128_spec : {M : Type 1} → statement M
+xor_four128_spec =
     tie.close (tie.spec (λ c κs. tt) (λ c κs. tt) (λ c κs. search rules) (λ c κs. tt) (λ c κs. tt) (λ c. search rules) (λ c. search rules)
     (λ c. search rules) (λ c. search rules) (λ c. search rules) (λ c. search rules) (λ c κs. search rules) (λ c. search rules) returns)

@@ -20,7 +20,7 @@ returns c =
     xored_to-two 16 (bytes128 a.x) (bytes128 a.y) a.input.now a.out.now first.xor-whole128.new.1.1.0 second.xor-whole1282.new.1.1.0
     refl wide first.xor-whole128.ensures second.xor-whole1282.ensures
 
-pub xor-two128-spec : {M : Type 1} → statement M
-xor-two128-spec =
+pub xor_two128_spec : {M : Type 1} → statement M
+xor_two128_spec =
     tie.close (tie.spec (λ c κs. search rules) (λ c. search rules) (λ c. search rules) (λ c. search rules) (λ c. search rules) (λ c. search rules)
     (λ c. search rules) (λ c κs. search rules) (λ c. search rules) returns)

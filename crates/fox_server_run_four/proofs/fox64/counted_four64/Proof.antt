@@ -10,7 +10,7 @@ returns c =
     let second = third.before in
     (second.before.counted64.ensures, second.counted642.ensures, third.counted643.ensures, c.counted644.ensures)
 
-pub counted-four64-spec : {M : Type 1} → statement M
-counted-four64-spec =
+pub counted_four64_spec : {M : Type 1} → statement M
+counted_four64_spec =
     tie.close (tie.spec (λ c κs. search rules) (λ c. search rules) (λ c κs. search rules) (λ c. search rules) (λ c κs. search rules)
     (λ c. search rules) (λ c κs. search rules) returns)

@@ -21,7 +21,7 @@ returns c =
     xored_to-two 16 (bytes64 a.x.first ++ bytes64 a.x.second) (bytes64 a.x.third ++ bytes64 a.x.fourth) a.input.now a.out.now
     first.xor-two64.new.1.1.1.0 second.xor-two642.new.1.1.1.0 refl wide first.xor-two64.ensures second.xor-two642.ensures
 
-pub xor-four64-spec : {M : Type 1} → statement M
-xor-four64-spec =
+pub xor_four64_spec : {M : Type 1} → statement M
+xor_four64_spec =
     tie.close (tie.spec (λ c κs. search rules) (λ c. search rules) (λ c. search rules) (λ c. search rules) (λ c. search rules) (λ c. search rules)
     (λ c. search rules) (λ c κs. search rules) (λ c. search rules) returns)

@@ -20,7 +20,7 @@ returns c =
     xored_to-two 8 (bytes64 a.x) (bytes64 a.y) a.input.now a.out.now first.xor-whole64.new.1.1.0 second.xor-whole642.new.1.1.0
     refl wide first.xor-whole64.ensures second.xor-whole642.ensures
 
-pub xor-two64-spec : {M : Type 1} → statement M
-xor-two64-spec =
+pub xor_two64_spec : {M : Type 1} → statement M
+xor_two64_spec =
     tie.close (tie.spec (λ c κs. search rules) (λ c. search rules) (λ c. search rules) (λ c. search rules) (λ c. search rules) (λ c. search rules)
     (λ c. search rules) (λ c κs. search rules) (λ c. search rules) returns)

@@ -22,5 +22,5 @@ returns c =
     in-session a.s (Advance a.input.now a.out.now) lent.before.basis-of.ensures
     (take_all 510 a.s.key.keys (omega (arith, slice-aggregate-advance lent))) call.advance.ensures
 
-pub advanced-spec : {M : Type 1} → statement M
-advanced-spec = tie.close (tie.spec (λ c κs. search rules) slice-aggregate-advance advance-requires (λ c. search rules) returns)
+pub advanced_spec : {M : Type 1} → statement M
+advanced_spec = tie.close (tie.spec (λ c κs. search rules) slice-aggregate-advance advance-requires (λ c. search rules) returns)

@@ -21,5 +21,5 @@ returns c =
     in-session a.s (Move a.to) made.basis-of.ensures (take_all 510 a.s.key.keys (omega (arith, slice-aggregate-move-to c.before)))
     c.move-to.ensures
 
-pub moved-spec : {M : Type 1} → statement M
-moved-spec = tie.close (tie.spec (λ c κs. search rules) slice-aggregate-move-to move-to-requires returns)
+pub moved_spec : {M : Type 1} → statement M
+moved_spec = tie.close (tie.spec (λ c κs. search rules) slice-aggregate-move-to move-to-requires returns)

@@ -35,7 +35,7 @@ returns-2 c =
       key = λ z. c.start.ensures.key z ∙ made.prepare.ensures.key ∙ sym (chosen _ _ _ (keyed-served keyed));
     }
 
-pub start-from-key-spec : {M : Type 1} → statement M
-start-from-key-spec =
+pub start_from_key_spec : {M : Type 1} → statement M
+start_from_key_spec =
     tie.close
     (tie.spec (λ c κs. search rules) (λ c κs. search rules) returns (λ c κs. search rules) (λ c κs. search rules) returns-2)

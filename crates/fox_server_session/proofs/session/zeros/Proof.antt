@@ -9,5 +9,5 @@ returns : tie.Need-returns
 unfolding no_session
 returns c = rw c.no_key.ensures
 
-pub zeros-spec : {M : Type 1} → statement M
-zeros-spec = tie.close (tie.spec (λ c κs. search rules) returns)
+pub zeros_spec : {M : Type 1} → statement M
+zeros_spec = tie.close (tie.spec (λ c κs. search rules) returns)

@@ -54,7 +54,7 @@ returns-2 c =
     λ h. block-sealed a.cipher (held_keys a.cipher a.keys.now a.rounds) a.position a.counter c.pair-of-state.result size.block_size.ensures
     put.put-pair.ensures read.read.ensures counted.counted.ensures sealed.sealed.ensures c.pair-of-state.ensures
 
-pub block-at-spec : {M : Type 1} → statement M
-block-at-spec =
+pub block_at_spec : {M : Type 1} → statement M
+block_at_spec =
     tie.close (tie.spec returns (λ c. search rules) (λ c κs. search rules) (λ c κs. search rules) array-share-prefix-bytes slice-aggregate-read
     read-requires div-counted cast-counted (λ c κs. search rules) (λ c κs. search rules) (λ c κs. search rules) returns-2)

@@ -10,5 +10,5 @@ returns c =
     let start = c.before.before.before in
     bytes_read _ start.args.bytes.now start.requires c.before.load8.ensures c.load82.ensures
 
-pub pair-of-spec : {M : Type 1} → statement M
-pair-of-spec = tie.close (tie.spec (λ c κs. search rules) (λ c κs. search rules) returns)
+pub pair_of_spec : {M : Type 1} → statement M
+pair_of_spec = tie.close (tie.spec (λ c κs. search rules) (λ c κs. search rules) returns)

@@ -57,7 +57,7 @@ returns c =
     ap (take (size x)) c.pair_of.ensures
     ∙ take_at call.write.new.0 _ (size x) (ap length call.write.ensures ∙ length-bytes x) ∙ call.write.ensures
 
-pub pair-of-state-spec : {M : Type 1} → statement M
-pair-of-state-spec =
+pub pair_of_state_spec : {M : Type 1} → statement M
+pair_of_state_spec =
     tie.close (tie.spec (λ c κs. search rules) array-borrow-prefix-block slice-aggregate-write write-requires slice-aggregate-pair-of
     pair-of-requires returns)

@@ -10,7 +10,7 @@ returns c =
     let call = c.before.before in
     rw (bytes-of-halves call.before.before.before.before.before.before.before.args.w) at call.store16.ensures
 
-pub put-pair-spec : {M : Type 1} → statement M
-put-pair-spec =
+pub put_pair_spec : {M : Type 1} → statement M
+put_pair_spec =
     tie.close (tie.spec (λ c. search rules) (λ c. search rules) (λ c. search rules) (λ c. search rules) (λ c κs. search rules) (λ c. search rules)
     returns)

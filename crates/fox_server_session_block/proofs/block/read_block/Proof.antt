@@ -30,5 +30,5 @@ returns-2 c =
     sym (front-block start.args.cipher c.pair_of.result (sym c.pair_of.ensures) start.requires)
     ∙ take-length start.args.block.now
 
-pub read-block-spec : {M : Type 1} → statement M
-read-block-spec = tie.close (tie.spec load8-requires returns pair-of-requires returns-2)
+pub read_block_spec : {M : Type 1} → statement M
+read_block_spec = tie.close (tie.spec load8-requires returns pair-of-requires returns-2)

@@ -54,7 +54,7 @@ returns-2 c =
     let a = put.before.before.before.before.before.args in
     rw (front-block a.cipher a.counter put.put-pair.ensures size.block_size.ensures) at call.stretch.ensures
 
-pub whole-blocks-spec : {M : Type 1} → statement M
-whole-blocks-spec =
+pub whole_blocks_spec : {M : Type 1} → statement M
+whole_blocks_spec =
     tie.close (tie.spec returns (λ c. search rules) (λ c κs. search rules) (λ c κs. search rules) array-share-prefix-first slice-aggregate-stretch
     stretch-requires (λ c. search rules) returns-2)

@@ -25,7 +25,7 @@ returns c =
     subst (λ (bs : List ℕ). Xored bs a.input.now a.out.now call.xor_Bytes.new.1.1.0 call.xor_Bytes.result)
     (rest-block a.cipher a.block a.skip put.put-pair.ensures size.block_size.ensures (omega arith)) call.xor_Bytes.ensures
 
-pub xor-block-spec : {M : Type 1} → statement M
-xor-block-spec =
+pub xor_block_spec : {M : Type 1} → statement M
+xor_block_spec =
     tie.close (tie.spec (λ c. search rules) (λ c κs. search rules) (λ c κs. search rules) (λ c. search rules) (λ c. search rules) part-xor-bytes-end
     (λ c κs. search rules) (λ c. search rules) returns)

@@ -24,7 +24,7 @@ returns-2 c =
     let a = test.before.args in
     c.round2.ensures ∙ ap (λ (k : ℕ). round k a.x) (held_key-128 a.cipher a.keys.now a.i test.if1.false)
 
-pub round-at-spec : {M : Type 1} → statement M
-round-at-spec =
+pub round_at_spec : {M : Type 1} → statement M
+round_at_spec =
     tie.close (tie.spec (λ c. search rules) (λ c. search rules) (λ c κs. search rules) returns (λ c. search rules) (λ c. search rules)
     (λ c. search rules) (λ c. search rules) (λ c. search rules) (λ c. search rules) (λ c. search rules) (λ c κs. search rules) returns-2)

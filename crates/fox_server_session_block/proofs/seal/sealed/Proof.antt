@@ -43,7 +43,7 @@ returns c =
     (search rules) (search rules) (search rules) at.loop.invariant.1 c.round-at2.ensures
     ∙ ap (λ (ks : List ℕ). turned true ks a.x) (held_keys-numbered a.cipher a.keys.now a.rounds)
 
-pub sealed-spec : {M : Type 1} → statement M
-sealed-spec =
+pub sealed_spec : {M : Type 1} → statement M
+sealed_spec =
     tie.close (tie.spec invariant-loop decreases-loop (λ c. search rules) loop-holds (λ c κs. search rules) (λ c κs. search rules) (λ c. search rules)
     (λ c. search rules) loop-again (λ c κs. search rules) returns)

@@ -50,8 +50,8 @@ returns-2 c =
     (c.served.ensures.0, c.served.ensures.1 ∙ passed.pass.auto.1.1.1.1.0) (stretched _ _ _ _ _ _ _ _ none).output refl
     passed.pass.ensures.bytes passed.pass.ensures.block
 
-pub advance-spec : {M : Type 1} → statement M
-advance-spec =
+pub advance_spec : {M : Type 1} → statement M
+advance_spec =
     tie.close
     (tie.spec (λ c κs. search rules) (λ c κs. search rules) (λ c κs. search rules) returns pass-requires add-position (λ c κs. search rules)
     (λ c. search rules) returns-2)

@@ -50,8 +50,8 @@ returns c =
       at.block_at.ensures,
     )
 
-pub further-spec : {M : Type 1} → statement M
-further-spec =
+pub further_spec : {M : Type 1} → statement M
+further_spec =
     tie.close
     (tie.spec (λ c κs. search rules) rem-whole sub-whole slice-aggregate-whole-blocks (λ c. search rules) slice-aggregate-whole-blocks-2
     whole-blocks-requires (λ c. search rules) (λ c κs. search rules) (λ c. search rules) (λ c. search rules) (λ c. search rules) (λ c. search rules)

@@ -25,6 +25,6 @@ returns-2 c =
     let a = held.before.before.before.before.before.args in
     renews-new a.b _ a.here a.to c.block_at.result held.round-keys.ensures c.block_at.ensures
 
-pub renew-spec : {M : Type 1} → statement M
-renew-spec =
+pub renew_spec : {M : Type 1} → statement M
+renew_spec =
     tie.close (tie.spec (λ c κs. search rules) div-if1 div-if1-2 returns (λ c κs. search rules) (λ c. search rules) (λ c κs. search rules) returns-2)

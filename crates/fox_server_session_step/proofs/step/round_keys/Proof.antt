@@ -47,7 +47,7 @@ returns c =
     let done : at.loop.i ≡ 510 = search rules in
     sym (take_all 510 at.loop.keys (search rules)) ∙ rw done at inv.2
 
-pub round-keys-spec : {M : Type 1} → statement M
-round-keys-spec =
+pub round_keys_spec : {M : Type 1} → statement M
+round_keys_spec =
     tie.close (tie.spec invariant-loop decreases-loop loop-holds (λ c. search rules) (λ c. search rules) (λ c. search rules) (λ c. search rules)
     (λ c. search rules) (λ c. search rules) loop-again returns)

@@ -41,7 +41,7 @@ returns c =
     let done : 1024 ≤ at.loop.i = search rules in
     filled (TBS 4) at.loop.t at.loop.i (omega (arith, length-TBS 4)) (inv.1 ∙ sym (length-TBS 4)) inv.2
 
-pub tbs-spec : {M : Type 1} → statement M
-tbs-spec =
+pub tbs_spec : {M : Type 1} → statement M
+tbs_spec =
     tie.close (tie.spec invariant-loop decreases-loop (λ c κs. tt) loop-holds (λ c. search rules) (λ c κs. omega (arith, div-add-mod' c.before.loop.i 256))
     (λ c. search rules) (λ c. search rules) (λ c. search rules) (λ c. omega arith) loop-again returns)

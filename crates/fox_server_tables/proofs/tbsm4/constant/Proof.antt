@@ -12,9 +12,9 @@ use Rattle.fox_server_tables.proofs.Laws.Doubling.{quick, quick_scaled, by_numbe
 use Rattle.fox_server_tables.proofs.tbsm4.constant.Statement.{statement}
 use Rattle.fox_server_tables.proofs.tbsm4.constant.Tie as tie
 
-pub constant-spec : {M : Type 1} → statement M
+pub constant_spec : {M : Type 1} → statement M
 unfolding joined double halve S₁ S₂ S₃ halves whole or4 lmid4 lmor4 sbox mu4_rows table column quick quick_scaled
-constant-spec =
+constant_spec =
     tie.close (tie.spec (λ c. by_number mu4_rows 0 (search rules) refl) (λ c. by_number mu4_rows 1 (search rules) refl)
     (λ c. by_number mu4_rows 2 (search rules) refl)
     (λ c. by_number mu4_rows 3 (omega arith) refl))

@@ -16,5 +16,5 @@ returns : tie.Need-returns
 unfolding mu4_rows
 returns c = filled_to-all mu4_rows _ c.set-table4.ensures
 
-pub tbsm-spec : {M : Type 1} → statement M
-tbsm-spec = tie.close (tie.spec set-table-requires (λ c κs. search rules) (λ c κs. search rules) (λ c κs. search rules) returns)
+pub tbsm_spec : {M : Type 1} → statement M
+tbsm_spec = tie.close (tie.spec set-table-requires (λ c κs. search rules) (λ c κs. search rules) (λ c κs. search rules) returns)

@@ -29,9 +29,9 @@ seven c =
     r.0.0.0.1) r.0.0.1) r.0.1) r.1 in
     by_number mu8_rows 7 (last left c.before.requires) refl
 
-pub constant-spec : {M : Type 1} → statement M
+pub constant_spec : {M : Type 1} → statement M
 unfolding joined double halve S₁ S₂ S₃ halves whole or4 lmid4 lmor4 sbox mu8_rows table column quick quick_scaled
-constant-spec =
+constant_spec =
     tie.close (tie.spec (λ c. by_number mu8_rows 0 (search rules) refl) (λ c. by_number mu8_rows 1 (search rules) refl)
     (λ c. by_number mu8_rows 2 (search rules) refl)
     (λ c. by_number mu8_rows 3 (search rules) refl) (λ c. by_number mu8_rows 4 (search rules) refl) (λ c. by_number mu8_rows 5 (search rules) refl)

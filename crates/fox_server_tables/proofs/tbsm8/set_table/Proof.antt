@@ -40,7 +40,7 @@ returns c =
     let at = c.before in
     filled_to-next _ at.loop.t _ at.loop.x (search rules) at.loop.invariant.1 at.loop.invariant.2
 
-pub set-table-spec : {M : Type 1} → statement M
-set-table-spec =
+pub set_table_spec : {M : Type 1} → statement M
+set_table_spec =
     tie.close (tie.spec invariant-loop decreases-loop (λ c κs. search rules) loop-holds (λ c. search rules) (λ c. search rules) (λ c. search rules)
     (λ c. search rules) (λ c. search rules) (λ c. search rules) (λ c. search rules) (λ c. search rules) loop-again returns)

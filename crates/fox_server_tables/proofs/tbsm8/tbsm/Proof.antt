@@ -16,6 +16,6 @@ returns : tie.Need-returns
 unfolding mu8_rows
 returns c = filled_to-all mu8_rows _ c.set-table8.ensures
 
-pub tbsm-spec : {M : Type 1} → statement M
-tbsm-spec = tie.close (tie.spec set-table-requires (λ c κs. search rules) (λ c κs. search rules) (λ c κs. search rules) (λ c κs. search rules)
+pub tbsm_spec : {M : Type 1} → statement M
+tbsm_spec = tie.close (tie.spec set-table-requires (λ c κs. search rules) (λ c κs. search rules) (λ c κs. search rules) (λ c κs. search rules)
     (λ c κs. search rules) (λ c κs. search rules) (λ c κs. search rules) returns)

@@ -54,7 +54,7 @@ returns c =
     subst (λ (n : ℕ). ChainedState 128 (round_keys_in128 a.keys.now a.rounds) (block_at (block_size 128) a.message.now) n (Of128 at.loop.y)) all
     at.loop.invariant.1
 
-pub chain128-spec : {M : Type 1} → statement M
-chain128-spec =
+pub chain128_spec : {M : Type 1} → statement M
+chain128_spec =
     tie.close (tie.spec invariant-loop decreases-loop (λ c κs. search rules) loop-holds (λ c κs. search rules) (λ c κs. search rules) (λ c κs. search rules)
     (λ c κs. search rules) (λ c. search rules) (λ c. search rules) loop-again returns)

@@ -7,5 +7,5 @@ use Rattle.fox_server_tag.proofs.fox128.tag128.Tie as tie
 returns : tie.Need-returns
 returns c = c.tagged128.ensures
 
-pub tag128-spec : {M : Type 1} → statement M
-tag128-spec = tie.close (tie.spec (λ c κs. search rules) (λ c κs. search rules) (λ c κs. search rules) returns)
+pub tag128_spec : {M : Type 1} → statement M
+tag128_spec = tie.close (tie.spec (λ c κs. search rules) (λ c κs. search rules) (λ c κs. search rules) returns)

@@ -50,7 +50,7 @@ returns c =
     (ap Of128 (last.last128.ensures ∙ ap (λ (l : List ℕ). state128 (keyed_block 16 l part.last-part.result.now)) sealed) ∙ sym (state-128 128 _ isnt))
     (c.turn1282.ensures ∙ ap (λ (w : Fox128). turned true rks (Of128 w)) xor.xor128.ensures)
 
-pub tagged128-spec : {M : Type 1} → statement M
-tagged128-spec =
+pub tagged128_spec : {M : Type 1} → statement M
+tagged128_spec =
     tie.close (tie.spec (λ c κs. search rules) (λ c κs. search rules) (λ c κs. search rules) (λ c κs. search rules) (λ c κs. search rules)
     chain128-requires (λ c κs. search rules) (λ c κs. search rules) returns)

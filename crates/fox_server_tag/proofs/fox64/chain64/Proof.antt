@@ -55,7 +55,7 @@ returns c =
     subst (λ (n : ℕ). ChainedState 64 (round_keys_in64 a.keys.now a.rounds) (block_at (block_size 64) a.message.now) n (Of64 at.loop.y)) all
     at.loop.invariant.1
 
-pub chain64-spec : {M : Type 1} → statement M
-chain64-spec =
+pub chain64_spec : {M : Type 1} → statement M
+chain64_spec =
     tie.close (tie.spec invariant-loop decreases-loop (λ c κs. search rules) loop-holds (λ c κs. search rules) (λ c κs. search rules) (λ c κs. search rules)
     (λ c κs. search rules) (λ c. search rules) (λ c. search rules) loop-again returns)

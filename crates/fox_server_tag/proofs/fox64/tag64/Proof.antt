@@ -7,5 +7,5 @@ use Rattle.fox_server_tag.proofs.fox64.tag64.Tie as tie
 returns : tie.Need-returns
 returns c = c.tagged64.ensures
 
-pub tag64-spec : {M : Type 1} → statement M
-tag64-spec = tie.close (tie.spec (λ c κs. search rules) (λ c κs. search rules) (λ c κs. search rules) returns)
+pub tag64_spec : {M : Type 1} → statement M
+tag64_spec = tie.close (tie.spec (λ c κs. search rules) (λ c κs. search rules) (λ c κs. search rules) returns)

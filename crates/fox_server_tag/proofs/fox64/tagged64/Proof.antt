@@ -50,7 +50,7 @@ returns c =
     (ap Of64 (last.last64.ensures ∙ ap (λ (l : List ℕ). state64 (keyed_block 8 l part.last-part.result.now)) sealed) ∙ sym (state-64 64 _ refl))
     (c.turn642.ensures ∙ ap (λ (w : Fox64). turned true rks (Of64 w)) xor.xor64.ensures)
 
-pub tagged64-spec : {M : Type 1} → statement M
-tagged64-spec =
+pub tagged64_spec : {M : Type 1} → statement M
+tagged64_spec =
     tie.close (tie.spec (λ c κs. search rules) (λ c κs. search rules) (λ c κs. search rules) (λ c κs. search rules) (λ c κs. search rules)
     chain64-requires (λ c κs. search rules) (λ c κs. search rules) returns)

@@ -22,7 +22,7 @@ returns-2 c =
     make-prepared a.cipher a.rounds a.key.now a.message.now made.prepare.result known.keyed made.prepare.ensures
     call.make.ensures
 
-pub make-from-key-spec : {M : Type 1} → statement M
-make-from-key-spec =
+pub make_from_key_spec : {M : Type 1} → statement M
+make_from_key_spec =
     tie.close (tie.spec (λ c κs. search rules) (λ c κs. search rules) returns (λ c κs. search rules) (λ c κs. search rules) (λ c. search rules)
     returns-2)

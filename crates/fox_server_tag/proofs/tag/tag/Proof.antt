@@ -31,5 +31,5 @@ returns-2 c =
     ∙ ap₂ (λ (cipher : ℕ) (ks : List ℕ). state cipher (tag_with cipher ks a.message.now)) (sym (other start.requires.0 isnt))
     (sym (held_keys-128 a.cipher a.keys.now a.rounds isnt))
 
-pub tag-spec : {M : Type 1} → statement M
-tag-spec = tie.close (tie.spec (λ c κs. search rules) (λ c κs. search rules) returns returns-2)
+pub tag_spec : {M : Type 1} → statement M
+tag_spec = tie.close (tie.spec (λ c κs. search rules) (λ c κs. search rules) returns returns-2)

@@ -40,6 +40,6 @@ returns-2 c =
     test_compared a.p.cipher a.p.rounds _ (round_keys_in a.p) a.message.now a.stored.now known
     (tag-bytes a.p.cipher (round_keys_in a.p) a.message.now made.tag.ensures) c.verdict.ensures
 
-pub test-spec : {M : Type 1} → statement M
-test-spec =
+pub test_spec : {M : Type 1} → statement M
+test_spec =
     tie.close (tie.spec (λ c κs. search rules) (λ c κs. search rules) returns (λ c. search rules) tag-requires verdict-requires returns-2)

@@ -27,6 +27,6 @@ returns-2 c =
     test-prepared a.cipher a.rounds a.key.now a.message.now made.prepare.result a.stored.now known.keyed made.prepare.ensures
     c.test.ensures
 
-pub test-from-key-spec : {M : Type 1} → statement M
-test-from-key-spec =
+pub test_from_key_spec : {M : Type 1} → statement M
+test_from_key_spec =
     tie.close (tie.spec (λ c κs. search rules) (λ c κs. search rules) returns (λ c κs. search rules) (λ c κs. search rules) returns-2)

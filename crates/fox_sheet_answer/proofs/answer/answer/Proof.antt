@@ -39,8 +39,8 @@ returns-2 c =
     let same = same-values t.sealing s.cipher s.rounds s.key.part t.block.part in
     right_answer _ (sym (line-is read) ∙ right.if1.false) same c.answer-block.ensures (search rules)
 
-pub answer-spec : {M : Type 1} → statement M
-answer-spec =
+pub answer_spec : {M : Type 1} → statement M
+answer_spec =
     tie.close (tie.spec (λ c κs. search rules) (λ c κs. search rules) (λ c κs. search rules) (λ c κs. search rules) (λ c κs. search rules)
     (λ c κs. search rules) (λ c κs. search rules) returns (λ c. search rules) (λ c. search rules) (λ c. search rules) (λ c. search rules)
     (λ c κs. search rules) returns-2)

@@ -12,5 +12,5 @@ slice-aggregate-write-answer c = sym (length-take-le _ _ (search rules))
 write-answer-requires : tie.Need-write-answer-requires
 write-answer-requires c κs = (c.before.before.before.before.before.requires, length-take-le _ _ (search rules))
 
-pub answer-block-spec : {M : Type 1} → statement M
-answer-block-spec = tie.close (tie.spec (λ c. search rules) slice-aggregate-write-answer write-answer-requires (λ c. search rules) (λ c. search rules))
+pub answer_block_spec : {M : Type 1} → statement M
+answer_block_spec = tie.close (tie.spec (λ c. search rules) slice-aggregate-write-answer write-answer-requires (λ c. search rules) (λ c. search rules))

@@ -15,6 +15,6 @@ returns c =
     let one = two.before.before.before.before.before in
     at-most (then one.put-decimal-line.ensures two.put-decimal-line2.ensures) (omega arith)
 
-pub put-broken-spec : {M : Type 1} → statement M
-put-broken-spec =
+pub put_broken_spec : {M : Type 1} → statement M
+put_broken_spec =
     tie.close (tie.spec (λ c. search rules) (λ c κs. search rules) (λ c. search rules) (λ c κs. search rules) (λ c. search rules) returns)

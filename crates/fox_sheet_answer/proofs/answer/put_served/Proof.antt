@@ -22,8 +22,8 @@ returns c =
     let start = one.before.before.before.before.before in
     at-most (then (then heads four.put-decimal-line4.ensures) five.put-pairs-line.ensures) (omega (arith, start.requires.block))
 
-pub put-served-spec : {M : Type 1} → statement M
-put-served-spec =
+pub put_served_spec : {M : Type 1} → statement M
+put_served_spec =
     tie.close (tie.spec (λ c. search rules) (λ c κs. search rules) (λ c. search rules) (λ c κs. search rules) (λ c. search rules)
     (λ c κs. search rules) (λ c. search rules) (λ c. search rules) (λ c. search rules) (λ c κs. search rules) (λ c. search rules)
     (λ c κs. search rules) (λ c. search rules) returns)

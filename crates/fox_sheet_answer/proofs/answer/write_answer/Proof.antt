@@ -40,7 +40,7 @@ returns-2 c =
     let block = rw (sym turn.turn.ensures.refusal ∙ served.if1.false) at turn.turn.ensures.output in
     rw (served-text (values turn) none, ← block) put.put-served.ensures
 
-pub write-answer-spec : {M : Type 1} → statement M
-write-answer-spec =
+pub write_answer_spec : {M : Type 1} → statement M
+write_answer_spec =
     tie.close (tie.spec (λ c κs. search rules) (λ c. search rules) (λ c κs. search rules) (λ c. search rules) (λ c. search rules) returns
     (λ c κs. search rules) (λ c. search rules) (λ c. search rules) returns-2)

@@ -31,7 +31,7 @@ returns c =
       key = key.stored;
     }
 
-pub read-settings-spec : {M : Type 1} → statement M
-read-settings-spec =
+pub read_settings_spec : {M : Type 1} → statement M
+read_settings_spec =
     tie.close (tie.spec (λ c κs. search rules) (λ c κs. search rules) (λ c. search rules) (λ c κs. search rules) (λ c. search rules)
     (λ c κs. search rules) (λ c. search rules) (λ c κs. search rules) (λ c κs. search rules) (λ c κs. search rules) (λ c κs. search rules) returns)

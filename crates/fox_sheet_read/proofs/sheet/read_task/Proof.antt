@@ -27,7 +27,7 @@ returns c =
       block = block.stored;
     }
 
-pub read-task-spec : {M : Type 1} → statement M
-read-task-spec =
+pub read_task_spec : {M : Type 1} → statement M
+read_task_spec =
     tie.close (tie.spec (λ c κs. search rules) (λ c κs. search rules) (λ c κs. search rules) (λ c. search rules) (λ c κs. search rules)
     (λ c κs. search rules) (λ c κs. search rules) (λ c κs. search rules) returns)

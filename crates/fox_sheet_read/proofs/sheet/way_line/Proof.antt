@@ -16,7 +16,7 @@ returns c =
     let first = has.before.before.before.first-line.ensures in
     record { right = rw (has.has-line.ensures, c.same2.ensures, seals, first); sealing = seals ∙ rw first }
 
-pub way-line-spec : {M : Type 1} → statement M
-way-line-spec =
+pub way_line_spec : {M : Type 1} → statement M
+way_line_spec =
     tie.close (tie.spec (λ c κs. search rules) (λ c. search rules) (λ c κs. search rules) (λ c κs. search rules) (λ c. search rules)
     (λ c κs. search rules) returns)

@@ -19,5 +19,5 @@ returns c = let done = c.before.before in done.store8.ensures ∙ first-64 _ _ d
 returns-2 : tie.Need-returns-2
 returns-2 c = let done = c.before.before in done.store16.ensures ∙ first-128 _ _ done.before.before.if1.false (search rules)
 
-pub lay-spec : {M : Type 1} → statement M
-lay-spec = tie.close (tie.spec store8-requires store16-requires (λ c. search rules) returns (λ c. search rules) returns-2)
+pub lay_spec : {M : Type 1} → statement M
+lay_spec = tie.close (tie.spec store8-requires store16-requires (λ c. search rules) returns (λ c. search rules) returns-2)

@@ -19,5 +19,5 @@ returns c =
       shorter = rw (c.rest.ensures, length-drop) (omega arith);
     }
 
-pub after-line-spec : {M : Type 1} → statement M
-after-line-spec = tie.close (tie.spec (λ c κs. search rules) (λ c. search rules) (λ c κs. search rules) returns)
+pub after_line_spec : {M : Type 1} → statement M
+after_line_spec = tie.close (tie.spec (λ c κs. search rules) (λ c. search rules) (λ c κs. search rules) returns)

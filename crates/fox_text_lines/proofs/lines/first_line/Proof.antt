@@ -7,5 +7,5 @@ use Rattle.fox_text_lines.proofs.lines.first_line.Tie as tie
 returns : tie.Need-returns
 returns c = rw c.before.line-end.ensures.is
 
-pub first-line-spec : {M : Type 1} → statement M
-first-line-spec = tie.close (tie.spec (λ c κs. search rules) (λ c. search rules) returns)
+pub first_line_spec : {M : Type 1} → statement M
+first_line_spec = tie.close (tie.spec (λ c κs. search rules) (λ c. search rules) returns)

@@ -7,5 +7,5 @@ use Rattle.fox_text_lines.proofs.lines.has_line.Tie as tie
 returns : tie.Need-returns
 returns c = rw c.line-end.ensures.is
 
-pub has-line-spec : {M : Type 1} → statement M
-has-line-spec = tie.close (tie.spec (λ c κs. search rules) returns)
+pub has_line_spec : {M : Type 1} → statement M
+has_line_spec = tie.close (tie.spec (λ c κs. search rules) returns)

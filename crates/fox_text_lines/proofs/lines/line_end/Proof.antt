@@ -38,6 +38,6 @@ returns-2 c =
     let t = at.before.args.t.now in
     ends (omega (arith, at.loop.invariant.2, c.loop-test.false, line-end-within (drop at.loop.i t), length-drop at.loop.i t))
 
-pub line-end-spec : {M : Type 1} → statement M
-line-end-spec =
+pub line_end_spec : {M : Type 1} → statement M
+line_end_spec =
     tie.close (tie.spec invariant-loop decreases-loop loop-holds (λ c. search rules) returns (λ c. search rules) (λ c. search rules) loop-again returns-2)

@@ -20,5 +20,5 @@ returns-2 c =
     let past : length c.before.before.args.t.now ≤ c.before.before.args.at = omega arith in
     sym (drop_of_length-le _ past)
 
-pub rest-spec : {M : Type 1} → statement M
-rest-spec = tie.close (tie.spec (λ c. search rules) (λ c. search rules) (λ c. search rules) returns (λ c. search rules) returns-2)
+pub rest_spec : {M : Type 1} → statement M
+rest_spec = tie.close (tie.spec (λ c. search rules) (λ c. search rules) (λ c. search rules) returns (λ c. search rules) returns-2)

@@ -44,7 +44,7 @@ returns-3 c =
     let a = at.before.before.args in
     sym (starts-done a.name.now (drop at.loop.i a.t.now) at.loop.i c.loop-test.false) ∙ at.loop.invariant.3
 
-pub starts-with-spec : {M : Type 1} → statement M
-starts-with-spec =
+pub starts_with_spec : {M : Type 1} → statement M
+starts_with_spec =
     tie.close (tie.spec invariant-loop decreases-loop returns loop-holds (λ c. search rules) (λ c. search rules) returns-2 (λ c. search rules) (λ c. search rules)
     loop-again returns-3)

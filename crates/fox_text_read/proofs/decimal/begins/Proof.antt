@@ -12,5 +12,5 @@ returns c = begins-short _ c.if1.true
 returns-2 : tie.Need-returns-2
 returns-2 c = begins-long _ (omega arith)
 
-pub begins-spec : {M : Type 1} → statement M
-begins-spec = tie.close (tie.spec returns (λ c. search rules) returns-2)
+pub begins_spec : {M : Type 1} → statement M
+begins_spec = tie.close (tie.spec returns (λ c. search rules) returns-2)

@@ -70,7 +70,7 @@ returns-3 c =
     let e : at.loop.v ≡ decimal_of a.ds.now = sym same ∙ at.loop.invariant.4 in
     is_found (in-range a.most a.ds.now (sym at.loop.invariant.3 ∙ none) (omega (arith, at.loop.invariant.2, e))) e
 
-pub digits-spec : {M : Type 1} → statement M
-digits-spec =
+pub digits_spec : {M : Type 1} → statement M
+digits_spec =
     tie.close (tie.spec invariant-loop decreases-loop loop-holds (λ c. search rules) (λ c κs. search rules) returns (λ c. search rules) sub-v cast-v add-v
     returns-2 (λ c. search rules) (λ c. search rules) loop-again (λ c. search rules) returns-3)

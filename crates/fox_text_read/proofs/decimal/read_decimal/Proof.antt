@@ -15,5 +15,5 @@ returns c =
 returns-2 : tie.Need-returns-2
 returns-2 c = not_found (not-begun _ _ (sym c.before.begins.ensures ∙ c.if1.false))
 
-pub read-decimal-spec : {M : Type 1} → statement M
-read-decimal-spec = tie.close (tie.spec (λ c κs. search rules) (λ c κs. search rules) returns returns-2)
+pub read_decimal_spec : {M : Type 1} → statement M
+read_decimal_spec = tie.close (tie.spec (λ c κs. search rules) (λ c κs. search rules) returns returns-2)

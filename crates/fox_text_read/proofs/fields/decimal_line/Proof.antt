@@ -14,6 +14,6 @@ returns c =
     read-decimal-line value.before.first-line.ensures value.rest.ensures has.has-line.ensures starts.starts_with.ensures
     read.read-decimal.ensures
 
-pub decimal-line-spec : {M : Type 1} → statement M
-decimal-line-spec =
+pub decimal_line_spec : {M : Type 1} → statement M
+decimal_line_spec =
     tie.close (tie.spec (λ c κs. search rules) (λ c κs. search rules) (λ c κs. search rules) (λ c κs. search rules) (λ c κs. search rules) returns)

@@ -29,7 +29,7 @@ returns-2 c =
     wrong-pairs _ _ _ _ (search rules) value.before.first-line.ensures value.rest.ensures starts.starts_with.ensures
     pairs.is-pairs.ensures c.if1.false
 
-pub pairs-line-spec : {M : Type 1} → statement M
-pairs-line-spec =
+pub pairs_line_spec : {M : Type 1} → statement M
+pairs_line_spec =
     tie.close (tie.spec (λ c κs. search rules) (λ c κs. search rules) (λ c κs. search rules) (λ c κs. search rules) join-pairs-requires
     (λ c κs. search rules) (λ c. search rules) returns returns-2)

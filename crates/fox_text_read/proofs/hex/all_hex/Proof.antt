@@ -38,7 +38,7 @@ returns-2 c =
     let at = c.before in
     sym (hex-done at.before.before.args.ds.now at.loop.i c.loop-test.false) ∙ at.loop.invariant.2
 
-pub all-hex-spec : {M : Type 1} → statement M
-all-hex-spec =
+pub all_hex_spec : {M : Type 1} → statement M
+all_hex_spec =
     tie.close (tie.spec invariant-loop decreases-loop loop-holds (λ c. search rules) (λ c κs. search rules) returns (λ c. search rules) (λ c. search rules)
     loop-again returns-2)

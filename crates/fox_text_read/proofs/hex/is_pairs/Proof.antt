@@ -7,5 +7,5 @@ use Rattle.fox_text_read.proofs.hex.is_pairs.Tie as tie
 returns : tie.Need-returns
 returns c = rw c.all-hex.ensures
 
-pub is-pairs-spec : {M : Type 1} → statement M
-is-pairs-spec = tie.close (tie.spec (λ c κs. search rules) returns)
+pub is_pairs_spec : {M : Type 1} → statement M
+is_pairs_spec = tie.close (tie.spec (λ c κs. search rules) returns)

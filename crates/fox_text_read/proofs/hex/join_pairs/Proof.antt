@@ -74,8 +74,8 @@ returns c =
     let at = c.before in
     sym (pairs-done at.loop.out at.before.before.before.args.ds.now at.loop.i (search rules)) ∙ at.loop.invariant.4
 
-pub join-pairs-spec : {M : Type 1} → statement M
-join-pairs-spec =
+pub join_pairs_spec : {M : Type 1} → statement M
+join_pairs_spec =
     tie.close (tie.spec invariant-loop decreases-loop loop-holds (λ c. search rules) (λ c. search rules) nibble-requires mul-out (λ c. search rules)
     (λ c. search rules) (λ c. search rules) nibble-requires-2 add-out slice-write-out (λ c. search rules) (λ c. search rules) loop-again
     (λ c. search rules) returns)

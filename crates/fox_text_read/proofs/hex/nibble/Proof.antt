@@ -19,5 +19,5 @@ returns-2 : tie.Need-returns-2
 unfolding nibble
 returns-2 c = simp (le-ltb _ _ c.if1.false)
 
-pub nibble-spec : {M : Type 1} → statement M
-nibble-spec = tie.close (tie.spec sub-result (λ c. search rules) returns returns-2)
+pub nibble_spec : {M : Type 1} → statement M
+nibble_spec = tie.close (tie.spec sub-result (λ c. search rules) returns returns-2)

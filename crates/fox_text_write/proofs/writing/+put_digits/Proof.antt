@@ -48,8 +48,8 @@ module _ (t : ℕ) where
       digits_more a.places a.n (omega arith) ∙ rw (le-ltb _ _ ten.if2.false) in
       rw e (at-most (then call.put-digits.ensures (one _ _ _)) (omega arith))
 
-pub +put-digits-spec : {M : Type 1} → statement M
-+put-digits-spec =
+pub +put_digits_spec : {M : Type 1} → statement M
++put_digits_spec =
     close μ λ t. lts.spec (below t, put-digits.Post) (at t) put-digits.Post (returns t) (λ c. search rules) (λ c. search rules) (λ c. search rules)
     (λ c. search rules) (λ c. search rules) (returns-2 t) (λ c. search rules) (λ c κs. search rules) (λ c. search rules) (λ c. search rules)
     (λ c. search rules) (λ c. search rules) (λ c. search rules) (returns-3 t)

@@ -14,5 +14,5 @@ returns-2 : tie.Need-returns-2
 unfolding digit
 returns-2 c = simp (le-ltb _ _ c.if1.false)
 
-pub digit-spec : {M : Type 1} → statement M
-digit-spec = tie.close (tie.spec (λ c. search rules) (λ c. search rules) returns returns-2)
+pub digit_spec : {M : Type 1} → statement M
+digit_spec = tie.close (tie.spec (λ c. search rules) (λ c. search rules) returns returns-2)

@@ -15,6 +15,6 @@ returns c =
     let first = second.before.before.before.before in
     at-most (then (then first.put.ensures second.put-digits.ensures) third.put2.ensures) (omega arith)
 
-pub put-decimal-line-spec : {M : Type 1} → statement M
-put-decimal-line-spec =
+pub put_decimal_line_spec : {M : Type 1} → statement M
+put_decimal_line_spec =
     tie.close (tie.spec (λ c κs. search rules) (λ c κs. search rules) (λ c. search rules) (λ c κs. search rules) (λ c. search rules) returns)

@@ -49,8 +49,8 @@ returns c =
       bytes = sym (hex-done at.loop.out a.bytes.now a.at at.loop.i c.loop-test.false) ∙ at.loop.invariant.3;
     }
 
-pub put-hex-spec : {M : Type 1} → statement M
-put-hex-spec =
+pub put_hex_spec : {M : Type 1} → statement M
+put_hex_spec =
     tie.close (tie.spec invariant-loop decreases-loop loop-holds (λ c. search rules) digit-requires (λ c. search rules) (λ c. search rules) (λ c. search rules)
     (λ c. search rules) (λ c κs. search rules) (λ c. search rules) (λ c. search rules) (λ c. search rules) slice-write-out-2 (λ c. search rules)
     (λ c. search rules) loop-again (λ c. search rules) (λ c. search rules) (λ c. search rules) returns)

@@ -15,5 +15,5 @@ returns-2 : tie.Need-returns-2
 unfolding onward
 returns-2 c = sym (ap (λ (d : Bool). onward d c.before.args.self) c.if1.false)
 
-pub onward-spec : {M : Type 1} → statement M
-onward-spec = tie.close (tie.spec returns returns-2)
+pub onward_spec : {M : Type 1} → statement M
+onward_spec = tie.close (tie.spec returns returns-2)

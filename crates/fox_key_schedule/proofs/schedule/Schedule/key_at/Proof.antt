@@ -40,7 +40,7 @@ returns-3 c =
       short = λ e. absurd (true≢false (sym e ∙ ap narrow at.self3.given.1));
     }
 
-pub key-at-spec : {M : Type 1} → statement M
-key-at-spec =
+pub key_at_spec : {M : Type 1} → statement M
+key_at_spec =
     tie.close (tie.spec (λ c. search rules) (λ c κs. search rules) (λ c κs. search rules) (λ c. search rules) (λ c κs. search rules)
     (λ c κs. search rules) (λ c. search rules) (λ c κs. search rules) (λ c κs. search rules) returns returns-2 returns-3)

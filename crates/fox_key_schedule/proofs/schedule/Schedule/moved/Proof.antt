@@ -18,5 +18,5 @@ returns c =
     let a = made.before.args in
     (c.stepped.ensures.0 ∙ ap (λ (n : ℕ). stepped a.on (a.blocks * n) a.reg) made.steps.ensures, c.stepped.ensures.1)
 
-pub moved-spec : {M : Type 1} → statement M
-moved-spec = tie.close (tie.spec (λ c κs. search rules) mul-stepped (λ c κs. search rules) returns)
+pub moved_spec : {M : Type 1} → statement M
+moved_spec = tie.close (tie.spec (λ c κs. search rules) mul-stepped (λ c κs. search rules) returns)

@@ -22,5 +22,5 @@ returns c =
       before = c.moved2.ensures.0 ∙ ap (λ (n : ℕ). stepped false n a.reg) one;
     }
 
-pub round-key-spec : {M : Type 1} → statement M
-round-key-spec = tie.close (tie.spec (λ c κs. search rules) (λ c κs. search rules) (λ c κs. search rules) returns)
+pub round_key_spec : {M : Type 1} → statement M
+round_key_spec = tie.close (tie.spec (λ c κs. search rules) (λ c κs. search rules) (λ c κs. search rules) returns)

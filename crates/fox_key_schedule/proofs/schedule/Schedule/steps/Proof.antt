@@ -18,5 +18,5 @@ returns-3 : tie.Need-returns-3
 unfolding steps
 returns-3 c = sym (ap steps c.enum-told3.given.1)
 
-pub steps-spec : {M : Type 1} → statement M
-steps-spec = tie.close (tie.spec (λ c. search rules) (λ c. search rules) (λ c. search rules) returns returns-2 returns-3)
+pub steps_spec : {M : Type 1} → statement M
+steps_spec = tie.close (tie.spec (λ c. search rules) (λ c. search rules) (λ c. search rules) returns returns-2 returns-3)

@@ -17,5 +17,5 @@ returns c =
     c.xored.ensures
     ∙ ap (λ (t : ℕ). xor128 t a.self) (c1.f64.ensures ∙ ap (λ (s : ℕ). f64 s rk) c2.round-input.ensures)
 
-pub elmid-spec : {M : Type 1} → statement M
-elmid-spec = tie.close (tie.spec (λ c κs. search rules) (λ c κs. search rules) (λ c κs. search rules) returns)
+pub elmid_spec : {M : Type 1} → statement M
+elmid_spec = tie.close (tie.spec (λ c κs. search rules) (λ c κs. search rules) (λ c κs. search rules) returns)

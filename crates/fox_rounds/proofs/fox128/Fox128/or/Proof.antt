@@ -11,5 +11,5 @@ returns c =
     let x = c.before.before.args.self in
     λ i. record { ll = c.before.or.ensures i; lr = x.lr; rl = c.or2.ensures i; rr = x.rr }
 
-pub or-spec : {M : Type 1} → statement M
-or-spec = tie.close (tie.spec (λ c κs. search rules) (λ c κs. search rules) returns)
+pub or_spec : {M : Type 1} → statement M
+or_spec = tie.close (tie.spec (λ c κs. search rules) (λ c κs. search rules) returns)

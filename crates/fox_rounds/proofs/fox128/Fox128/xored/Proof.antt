@@ -17,5 +17,5 @@ returns c =
     let low = right 32 a.args.t in
     λ i. record { ll = x.ll ⊕ high i; lr = x.lr ⊕ high i; rl = x.rl ⊕ low; rr = x.rr ⊕ low }
 
-pub xored-spec : {M : Type 1} → statement M
-xored-spec = tie.close (tie.spec (λ c. search rules) (λ c. search rules) returns)
+pub xored_spec : {M : Type 1} → statement M
+xored_spec = tie.close (tie.spec (λ c. search rules) (λ c. search rules) returns)

@@ -20,5 +20,5 @@ returns-2 c =
     let test = c.before in
     ap Of64 c.io.ensures ∙ ap (λ (d : Bool). between d (Of64 test.before.args.self)) (sym test.if1.false)
 
-pub between-spec : {M : Type 1} → statement M
-between-spec = tie.close (tie.spec (λ c κs. search rules) (λ c κs. search rules) returns returns-2)
+pub between_spec : {M : Type 1} → statement M
+between_spec = tie.close (tie.spec (λ c κs. search rules) (λ c κs. search rules) returns returns-2)

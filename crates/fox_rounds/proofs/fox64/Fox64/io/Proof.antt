@@ -9,5 +9,5 @@ returns : tie.Need-returns
 unfolding io64
 returns c = λ i. record { l = c.io.ensures i; r = c.before.args.self.r }
 
-pub io-spec : {M : Type 1} → statement M
-io-spec = tie.close (tie.spec (λ c κs. search rules) returns)
+pub io_spec : {M : Type 1} → statement M
+io_spec = tie.close (tie.spec (λ c κs. search rules) returns)

@@ -14,5 +14,5 @@ returns c =
     let x = c2.before.before.args.self in
     λ i. record { l = x.l ⊕ c2.f32.ensures i; r = x.r ⊕ c2.f32.ensures i }
 
-pub lmid-spec : {M : Type 1} → statement M
-lmid-spec = tie.close (tie.spec (λ c κs. search rules) returns)
+pub lmid_spec : {M : Type 1} → statement M
+lmid_spec = tie.close (tie.spec (λ c κs. search rules) returns)

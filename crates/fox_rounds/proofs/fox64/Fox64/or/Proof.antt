@@ -9,5 +9,5 @@ returns : tie.Need-returns
 unfolding or64
 returns c = λ i. record { l = c.or.ensures i; r = c.before.args.self.r }
 
-pub or-spec : {M : Type 1} → statement M
-or-spec = tie.close (tie.spec (λ c κs. search rules) returns)
+pub or_spec : {M : Type 1} → statement M
+or_spec = tie.close (tie.spec (λ c κs. search rules) returns)

@@ -17,5 +17,5 @@ returns-2 c =
     let at = c.before.before in
     c.between2.ensures ∙ sym (ap (between at.before.before.args.sealing) at.self2.given.1)
 
-pub between-spec : {M : Type 1} → statement M
-between-spec = tie.close (tie.spec (λ c. search rules) (λ c κs. search rules) (λ c. search rules) (λ c κs. search rules) returns returns-2)
+pub between_spec : {M : Type 1} → statement M
+between_spec = tie.close (tie.spec (λ c. search rules) (λ c κs. search rules) (λ c. search rules) (λ c κs. search rules) returns returns-2)

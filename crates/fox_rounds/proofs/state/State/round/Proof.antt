@@ -24,5 +24,5 @@ returns-2 c =
     let a = at.before.before.args in
     ap Of128 c.elmid.ensures ∙ sym (ap (round (a.left * 2 ^ 64 + a.right)) at.self2.given.1)
 
-pub round-spec : {M : Type 1} → statement M
-round-spec = tie.close (tie.spec (λ c. search rules) (λ c κs. search rules) (λ c. search rules) (λ c κs. search rules) returns returns-2)
+pub round_spec : {M : Type 1} → statement M
+round_spec = tie.close (tie.spec (λ c. search rules) (λ c κs. search rules) (λ c. search rules) (λ c κs. search rules) returns returns-2)

@@ -14,5 +14,5 @@ returns-2 : tie.Need-returns-2
 unfolding size
 returns-2 c = sym (ap size c.enum-told2.given.1)
 
-pub size-spec : {M : Type 1} → statement M
-size-spec = tie.close (tie.spec (λ c. search rules) (λ c. search rules) returns returns-2)
+pub size_spec : {M : Type 1} → statement M
+size_spec = tie.close (tie.spec (λ c. search rules) (λ c. search rules) returns returns-2)

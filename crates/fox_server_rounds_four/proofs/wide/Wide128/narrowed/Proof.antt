@@ -16,5 +16,5 @@ returns c =
     let top = sym (left-div 32 x.r (search rules)) in
     λ i. record { ll = high i; lr = top i; rl = right 32 x.l; rr = right 32 x.r }
 
-pub narrowed-spec : {M : Type 1} → statement M
-narrowed-spec = tie.close (tie.spec (λ c. search rules) (λ c. search rules) (λ c. search rules) (λ c. search rules) returns)
+pub narrowed_spec : {M : Type 1} → statement M
+narrowed_spec = tie.close (tie.spec (λ c. search rules) (λ c. search rules) (λ c. search rules) (λ c. search rules) returns)
