@@ -15,13 +15,13 @@ returns c =
     let s = doubled.before in
     let x = s.args.x in
     let p = products x s.ranges.x.fits in
-    let m02 = doubled.double.ensures in
-    let mfc = halved.halve.ensures in
-    let m7e = c.halve2.ensures ∙ ap halve mfc in
+    let m02 = doubled.double-m02.ensures in
+    let mfc = halved.halve-mfc.ensures in
+    let m7e = c.halve-m7e.ensures ∙ ap halve mfc in
     record {
       by02 = m02 ∙ sym p.by02;
       by03 = ap (λ (m : ℕ). m ⊕ x) m02 ∙ sym p.by03;
-      by04 = c.before.double2.ensures ∙ ap double m02 ∙ sym p.by04;
+      by04 = c.before.double-m04.ensures ∙ ap double m02 ∙ sym p.by04;
       by7e = m7e ∙ sym p.by_7e;
       by82 = ap₂ (λ (m n : ℕ). m ⊕ n) mfc m7e ∙ sym p.by82;
       byfc = mfc ∙ sym p.by_fc;
