@@ -16,7 +16,7 @@ returns c =
     let s = a.s.now in
     let eight = take-eight s a.at start.requires in
     word_of c.join8.result (take 8 (drop a.at s))
-    (take-bytes 8 (drop a.at s) (drop-bytes a.at s (λ i. (c.before.shared-slice-known9.given i).fits)))
+    (take-bytes 8 (drop a.at s) (drop-bytes a.at s (λ i. (c.before.shared_slice_known-9-1.given i).fits)))
     (ap length eight)
     (c.join8.ensures ∙ ap joined (sym eight))
 

@@ -9,5 +9,5 @@ use Rattle.fox_key_register.proofs.register.clocked.Tie as tie
 pub clocked_spec : {M : Type 1} → statement M
 clocked_spec =
     tie.close (tie.spec (λ c. omega arith) (λ c. omega arith) (λ c. omega arith)
-    (λ c. (sym (clocked-below c.before.args.reg c.if1.true), omega arith))
-    (λ c. (sym (clocked-above c.before.args.reg c.if1.false), moved-lt c.before.args.reg c.before.requires)))
+    (λ c. (sym (clocked-below c.before.args.reg c.if-reg-lt8388608.true), omega arith))
+    (λ c. (sym (clocked-above c.before.args.reg c.if-reg-lt8388608.false), moved-lt c.before.args.reg c.before.requires)))

@@ -8,5 +8,5 @@ use Rattle.fox_key_register.proofs.register.clocked_back.Tie as tie
 
 pub clocked_back_spec : {M : Type 1} → statement M
 clocked_back_spec =
-    tie.close (tie.spec (λ c. (sym (clocked_back-even c.before.args.reg c.if1.true), omega arith))
-    (λ c. (sym (clocked_back-odd c.before.args.reg c.if1.false), halved-lt c.before.args.reg c.before.requires)))
+    tie.close (tie.spec (λ c. (sym (clocked_back-even c.before.args.reg c.if-reg-eq0.true), omega arith))
+    (λ c. (sym (clocked_back-odd c.before.args.reg c.if-reg-eq0.false), halved-lt c.before.args.reg c.before.requires)))

@@ -8,28 +8,28 @@ use Rattle.fox_key_register.proofs.Laws.Register.{iterate-suc}
 use Rattle.fox_key_register.proofs.register.stepped.Statement.{statement}
 use Rattle.fox_key_register.proofs.register.stepped.Tie as tie
 
-abbrev invariant-loop : tie.invariant-loop
+abbrev invariant-loop : tie.invariant-loop-done
 invariant-loop on reg steps now₀ done₀ now done = (now ≡ iterate done (step on) reg) × (now < 2 ^ 24) × (done ≤ steps)
 
-abbrev decreases-loop : tie.decreases-loop
+abbrev decreases-loop : tie.decreases-loop-done
 decreases-loop on reg steps now₀ done₀ now done = steps - done
 
-loop-holds : tie.Need-loop-init invariant-loop decreases-loop
+loop-holds : tie.Need-loop-done-init invariant-loop decreases-loop
 unfolding iterate
 loop-holds c = (refl, c.requires, omega arith)
 
-loop-again : tie.Need-loop-preserved invariant-loop decreases-loop
+loop-again : tie.Need-loop-done-preserved invariant-loop decreases-loop
 loop-again c =
-    let l = c.before.before.loop in
+    let l = c.before.before.loop-done in
     let a = c.before.before.before.args in
     let one_more = iterate-suc l.done (step a.on) a.reg in
-    (c.step.ensures.0 ∙ ap (step a.on) l.invariant.0 ∙ sym one_more, c.step.ensures.1, omega arith)
+    (c.step-now.ensures.0 ∙ ap (step a.on) l.invariant.0 ∙ sym one_more, c.step-now.ensures.1, omega arith)
 
 returns : tie.Need-returns invariant-loop decreases-loop
 unfolding stepped
 returns c =
-    let all : c.before.loop.done ≡ c.before.before.args.steps = omega arith in
-    (rw all at c.before.loop.invariant.0, c.before.loop.invariant.1)
+    let all : c.before.loop-done.done ≡ c.before.before.args.steps = omega arith in
+    (rw all at c.before.loop-done.invariant.0, c.before.loop-done.invariant.1)
 
 pub stepped_spec : {M : Type 1} → statement M
 stepped_spec = tie.close (tie.spec invariant-loop decreases-loop loop-holds (λ c κs. omega arith) (λ c. omega arith) (λ c. omega arith) loop-again returns)

@@ -19,7 +19,7 @@ returns c =
     let k = c3.args.k in
     let l = c3.args.l in
     f-made 8 mu8 c3.args.x (k * 2 ^ 64 + l) (left-pair 64 k l c3.ranges.k.fits c3.ranges.l.fits)
-    (right-pair 64 k l c3.ranges.l.fits) (c1.mu8.ensures ∙ ap mu8 c2.sigma8.ensures) c.sigma82.ensures
+    (right-pair 64 k l c3.ranges.l.fits) (c1.mu8.ensures ∙ ap mu8 c2.sigma8.ensures) c.sigma8-2.ensures
 
 pub f64_spec : {M : Type 1} → statement M
 f64_spec = tie.close (tie.spec (λ c κs. search rules) (λ c κs. search rules) (λ c κs. search rules) returns)

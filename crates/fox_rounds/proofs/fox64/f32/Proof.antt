@@ -17,7 +17,7 @@ returns c =
     let c3 = c2.before in
     let rk = c3.args.rk in
     f-made 4 mu4 c3.args.x rk (left-div 32 rk c3.ranges.rk.fits) refl (c1.mu4.ensures ∙ ap mu4 c2.sigma4.ensures)
-    c.sigma42.ensures
+    c.sigma4-2.ensures
 
 pub f32_spec : {M : Type 1} → statement M
 f32_spec = tie.close (tie.spec (λ c. search rules) (λ c. search rules) (λ c κs. search rules) (λ c κs. search rules) (λ c κs. search rules) returns)

@@ -13,10 +13,10 @@ use Rattle.fox_rounds.proofs.fox64.io.Tie as tie
 halves-xor-lt : (c : tie.Start) → (c.args.w / 65536 ⊕ c.args.w % 65536) < 65536
 halves-xor-lt c = xor_lt 16 (c.args.w / 65536) (c.args.w % 65536) (omega arith) (omega arith)
 
-mul-result : tie.Need-overflow-mul-result
+mul-result : tie.Need-overflow_mul-result
 mul-result c = omega (arith, halves-xor-lt c)
 
-add-result : tie.Need-overflow-add-result
+add-result : tie.Need-overflow_add-result
 add-result c = omega (arith, halves-xor-lt c)
 
 returns : tie.Need-returns

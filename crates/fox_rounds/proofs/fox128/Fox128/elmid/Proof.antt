@@ -15,7 +15,7 @@ returns c =
     let a = c2.before.args in
     let rk = a.k * 2 ^ 64 + a.l in
     c.xored.ensures
-    ∙ ap (λ (t : ℕ). xor128 t a.self) (c1.f64.ensures ∙ ap (λ (s : ℕ). f64 s rk) c2.round-input.ensures)
+    ∙ ap (λ (t : ℕ). xor128 t a.self) (c1.f64.ensures ∙ ap (λ (s : ℕ). f64 s rk) c2.round_input.ensures)
 
 pub elmid_spec : {M : Type 1} → statement M
 elmid_spec = tie.close (tie.spec (λ c κs. search rules) (λ c κs. search rules) (λ c κs. search rules) returns)

@@ -9,7 +9,7 @@ returns : tie.Need-returns
 unfolding io128
 returns c =
     let x = c.before.before.args.self in
-    λ i. record { ll = c.before.io.ensures i; lr = x.lr; rl = c.io2.ensures i; rr = x.rr }
+    λ i. record { ll = c.before.io.ensures i; lr = x.lr; rl = c.io-2.ensures i; rr = x.rr }
 
 pub io_spec : {M : Type 1} → statement M
 io_spec = tie.close (tie.spec (λ c κs. search rules) (λ c κs. search rules) returns)

@@ -9,7 +9,7 @@ returns : tie.Need-returns
 unfolding or128
 returns c =
     let x = c.before.before.args.self in
-    λ i. record { ll = c.before.or.ensures i; lr = x.lr; rl = c.or2.ensures i; rr = x.rr }
+    λ i. record { ll = c.before.or.ensures i; lr = x.lr; rl = c.or-2.ensures i; rr = x.rr }
 
 pub or_spec : {M : Type 1} → statement M
 or_spec = tie.close (tie.spec (λ c κs. search rules) (λ c κs. search rules) returns)

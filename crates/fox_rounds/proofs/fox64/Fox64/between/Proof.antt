@@ -8,17 +8,17 @@ use Rattle.fox_rounds.specs.declared.state.State.TheVariants.{Of64}
 use Rattle.fox_rounds.proofs.fox64.Fox64.between.Statement.{statement}
 use Rattle.fox_rounds.proofs.fox64.Fox64.between.Tie as tie
 
-returns : tie.Need-returns
+returns : tie.Need-returns-then-sealing
 unfolding between
 returns c =
     let test = c.before in
-    ap Of64 c.or.ensures ∙ ap (λ (d : Bool). between d (Of64 test.before.args.self)) (sym test.if1.true)
+    ap Of64 c.or.ensures ∙ ap (λ (d : Bool). between d (Of64 test.before.args.self)) (sym test.if-sealing.true)
 
-returns-2 : tie.Need-returns-2
+returns-2 : tie.Need-returns-else-sealing
 unfolding between
 returns-2 c =
     let test = c.before in
-    ap Of64 c.io.ensures ∙ ap (λ (d : Bool). between d (Of64 test.before.args.self)) (sym test.if1.false)
+    ap Of64 c.io.ensures ∙ ap (λ (d : Bool). between d (Of64 test.before.args.self)) (sym test.if-sealing.false)
 
 pub between_spec : {M : Type 1} → statement M
 between_spec = tie.close (tie.spec (λ c κs. search rules) (λ c κs. search rules) returns returns-2)

@@ -12,7 +12,7 @@ returns c =
     let c1 = c.before in
     let c2 = c1.before in
     let x = c2.before.before.args.self in
-    λ i. record { l = x.l ⊕ c2.f32.ensures i; r = x.r ⊕ c2.f32.ensures i }
+    λ i. record { l = x.l ⊕ c2.f32-t.ensures i; r = x.r ⊕ c2.f32-t.ensures i }
 
 pub lmid_spec : {M : Type 1} → statement M
 lmid_spec = tie.close (tie.spec (λ c κs. search rules) returns)
