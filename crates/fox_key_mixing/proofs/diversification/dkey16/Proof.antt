@@ -17,7 +17,7 @@ unfolding dkey groups bytes16
 returns c =
     let c4 = c.before.before.before.before in
     let m = c4.before.args.m in
-    let f = c4.front in
+    let f = c4.front-f in
     let row : Key16 = record { a = f.result.a; b = f.result.b } in
     let more = xor_each-surplus (bytes16 m) (bytes16 row) (drop 1 (split 3 f.result.last)) (length-bytes16 m ∙ sym (length-bytes16 row)) in
     xor_each-bytes16 m row ∙ rw (length-bytes16 m, ← f.ensures.0) (sym more)

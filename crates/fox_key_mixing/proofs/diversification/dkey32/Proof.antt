@@ -19,8 +19,8 @@ unfolding dkey groups bytes16 bytes32
 returns c =
     let c8 = c.before.before.before.before.before.before.before.before in
     let a = c8.before.before.args in
-    let f = c8.before.front in
-    let g = c8.rest in
+    let f = c8.before.front-f in
+    let g = c8.rest-g in
     let row : Key32 = record { a = f.result.a; b = f.result.b; c = g.result.a; d = g.result.b } in
     let xs = split 8 f.result.a ++ split 8 f.result.b in
     let left = drop 2 (split 3 (iterate 5 clocked f.result.last)) in

@@ -13,12 +13,12 @@ returns c =
     let c2 = c.before.before in
     let c4 = c2.before.before in
     let c6 = c4.before.before in
-    let e1 = c6.clocked.ensures.0 in
-    let e2 = c4.before.clocked2.ensures.0 in
-    let e3 = c4.clocked3.ensures.0 in
-    let e4 = c2.before.clocked4.ensures.0 in
-    let e5 = c2.clocked5.ensures.0 in
-    rw (c.before.word-233.ensures, c.word-332.ensures, e5, e4, e3, e2, e1) (rest-row c6.before.args.last)
+    let e1 = c6.clocked-r6.ensures.0 in
+    let e2 = c4.before.clocked-r7.ensures.0 in
+    let e3 = c4.clocked-r8.ensures.0 in
+    let e4 = c2.before.clocked-r9.ensures.0 in
+    let e5 = c2.clocked-r10.ensures.0 in
+    rw (c.before.word_233-a.ensures, c.word_332-b.ensures, e5, e4, e3, e2, e1) (rest-row c6.before.args.last)
 
 pub rest_spec : {M : Type 1} → statement M
 rest_spec =

@@ -11,7 +11,7 @@ unfolding bytes32
 returns c =
     let c2 = c.before.before in
     let s = c2.before.before.before.args.s.now in
-    rw (c2.before.load8.ensures, c2.load82.ensures, c.before.load83.ensures, c.load84.ensures, take-add 24 8 s, take-add 16 8 s, take-add 8 8 s)
+    rw (c2.before.load8.ensures, c2.load8-2.ensures, c.before.load8-3.ensures, c.load8-4.ensures, take-add 24 8 s, take-add 16 8 s, take-add 8 8 s)
 
 pub load32_spec : {M : Type 1} → statement M
 load32_spec = tie.close (tie.spec (λ c κs. search rules) (λ c κs. search rules) (λ c κs. search rules) (λ c κs. search rules) returns)

@@ -9,12 +9,12 @@ use borrow.Author.Rules.{rules}
 use Rattle.fox_key_mixing.proofs.mixing.padded_byte.Statement.{statement}
 use Rattle.fox_key_mixing.proofs.mixing.padded_byte.Tie as tie
 
-returns : tie.Need-returns
+returns : tie.Need-returns-then-i-key
 returns c =
     let a = c.before.before.args in
-    sym (get_or-append a.key.now a.pad.now 0 a.i c.before.if1.true)
+    sym (get_or-append a.key.now a.pad.now 0 a.i c.before.if-i-key.true)
 
-returns-2 : tie.Need-returns-2
+returns-2 : tie.Need-returns-else-i-key
 returns-2 c =
     let a = c.before.before.args in
     let n = length a.key.now in

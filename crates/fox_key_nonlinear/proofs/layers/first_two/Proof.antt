@@ -11,8 +11,8 @@ returns : tie.Need-returns
 returns c =
     let b = c.before in
     let parts = sigma-parts b.before.before.args.w in
-    let s = b.before.sigma8.ensures in
-    (b.mu4.ensures ∙ ap mu4 (rw s parts.0), c.mu42.ensures ∙ ap mu4 (rw s parts.1))
+    let s = b.before.sigma8-s.ensures in
+    (b.mu4.ensures ∙ ap mu4 (rw s parts.0), c.mu4-2.ensures ∙ ap mu4 (rw s parts.1))
 
 pub first_two_spec : {M : Type 1} → statement M
 first_two_spec = tie.close (tie.spec (λ c κs. tt) (λ c. search rules) (λ c κs. tt) (λ c. search rules) (λ c κs. tt) returns)

@@ -7,5 +7,5 @@ use Rattle.fox_key_nonlinear.proofs.layers.second8.Tie as tie
 pub second8_spec : {M : Type 1} → statement M
 unfolding flipped
 second8_spec =
-    tie.close (tie.spec (λ c κs. tt) (λ c κs. tt) (λ c. rw (c.sigma8.ensures, c.before.if1.true))
-    (λ c. rw (c.sigma82.ensures, c.before.if1.false)))
+    tie.close (tie.spec (λ c κs. tt) (λ c κs. tt) (λ c. rw (c.sigma8.ensures, c.before.if-flip.true))
+    (λ c. rw (c.sigma8-else-flip.ensures, c.before.if-flip.false)))

@@ -8,7 +8,7 @@ use Rattle.fox_key_nonlinear.proofs.layers.second_two.Tie as tie
 returns : tie.Need-returns
 returns c =
     let start = c.before.before in
-    let w = c.second8.ensures in
+    let w = c.second8-w.ensures in
     let parts = after_pad-pair start.args.flip start.args.a start.args.b start.ranges.a.fits start.ranges.b.fits in
     rw (w, c.before.pair.ensures) parts
 

@@ -5,13 +5,13 @@ use Rattle.fox_refusals.specs.Refusals.{block_size}
 use Rattle.fox_refusals.proofs.refusals.block_size.Statement.{statement}
 use Rattle.fox_refusals.proofs.refusals.block_size.Tie as tie
 
-returns : tie.Need-returns
+returns : tie.Need-returns-then-cipher-eq64
 unfolding block_size
-returns c = rw (eq-eqb _ _ c.if1.true)
+returns c = rw (eq-eqb _ _ c.if-cipher-eq64.true)
 
-returns-2 : tie.Need-returns-2
+returns-2 : tie.Need-returns-else-cipher-eq64
 unfolding block_size
-returns-2 c = rw (ne_eqb _ _ c.if1.false)
+returns-2 c = rw (ne_eqb _ _ c.if-cipher-eq64.false)
 
 pub block_size_spec : {M : Type 1} → statement M
 block_size_spec = tie.close (tie.spec returns returns-2)

@@ -14,11 +14,11 @@ returns c =
     let size = of-block.before in
     let key = size.before in
     let a = key.before.args in
-    c.or-else2.ensures
-    ∙ ap (λ (r : ℕ). or_else r (differs a.out-len a.block-len) 6)
-    (of-block.or_else.ensures ∙ ap₂ (λ (r b : ℕ). or_else r (differs a.block-len b) 4) key.for-turn.ensures size.block_size.ensures)
+    c.or_else.ensures
+    ∙ ap (λ (r : ℕ). or_else r (differs a.out_len a.block_len) 6)
+    (of-block.or_else-of_block.ensures ∙ ap₂ (λ (r b : ℕ). or_else r (differs a.block_len b) 4) key.for_turn-of_key.ensures size.block_size-size.ensures)
     ∙ chained (for_turn a.sealing a.cipher a.rounds a.key_len)
-    (wrong_block_length a.cipher a.block-len ∷ wrong_output_length a.block-len a.out-len ∷ []) refl
+    (wrong_block_length a.cipher a.block_len ∷ wrong_output_length a.block_len a.out_len ∷ []) refl
 
 pub for_block_spec : {M : Type 1} → statement M
 for_block_spec = tie.close (tie.spec (λ c κs. search rules) (λ c κs. search rules) (λ c κs. search rules) (λ c κs. search rules) returns)

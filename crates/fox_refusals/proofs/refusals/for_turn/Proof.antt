@@ -13,7 +13,7 @@ returns c =
     let key = test.before in
     let a = key.before.args in
     c.or_else.ensures
-    ∙ ap₂ (λ (r : ℕ) (t : Bool). or_else r t 13) key.for-key.ensures test.short-key.ensures
+    ∙ ap₂ (λ (r : ℕ) (t : Bool). or_else r t 13) key.for_key-of_key.ensures test.short_key.ensures
     ∙ chained (for_key a.cipher a.rounds a.key_len) (short_key a.sealing a.key_len ∷ []) refl
 
 pub for_turn_spec : {M : Type 1} → statement M

@@ -5,17 +5,17 @@ use Rattle.fox_refusals.specs.Refusals.{or_else}
 use Rattle.fox_refusals.proofs.refusals.or_else.Statement.{statement}
 use Rattle.fox_refusals.proofs.refusals.or_else.Tie as tie
 
-returns : tie.Need-returns
+returns : tie.Need-returns-then-refusal-ne0
 unfolding or_else
-returns c = rw (ne_eqb _ _ c.if1.true)
+returns c = rw (ne_eqb _ _ c.if-refusal-ne0.true)
 
-returns-2 : tie.Need-returns-2
+returns-2 : tie.Need-returns-then-applies
 unfolding or_else
-returns-2 c = rw (eq-eqb _ _ c.before.if1.false, c.if2.true)
+returns-2 c = rw (eq-eqb _ _ c.before.if-refusal-ne0.false, c.if-applies.true)
 
-returns-3 : tie.Need-returns-3
+returns-3 : tie.Need-returns
 unfolding or_else
-returns-3 c = rw (eq-eqb _ _ c.before.if1.false, c.if2.false)
+returns-3 c = rw (eq-eqb _ _ c.before.if-refusal-ne0.false, c.if-applies.false)
 
 pub or_else_spec : {M : Type 1} → statement M
 or_else_spec = tie.close (tie.spec returns returns-2 returns-3)

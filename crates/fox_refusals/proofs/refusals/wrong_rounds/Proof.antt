@@ -5,11 +5,11 @@ use Rattle.fox_refusals.specs.Refusals.{wrong_rounds}
 use Rattle.fox_refusals.proofs.refusals.wrong_rounds.Statement.{statement}
 use Rattle.fox_refusals.proofs.refusals.wrong_rounds.Tie as tie
 
-returns : tie.Need-returns
+returns : tie.Need-returns-then-rounds-lt12
 unfolding wrong_rounds
 returns c = rw (lt-ltb c.before.args.rounds 12 (omega arith))
 
-returns-2 : tie.Need-returns-2
+returns-2 : tie.Need-returns
 unfolding wrong_rounds
 returns-2 c = rw (le-ltb c.before.args.rounds 12 (omega arith))
 

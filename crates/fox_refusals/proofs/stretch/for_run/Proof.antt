@@ -17,15 +17,15 @@ returns c =
     let size = of-counter.before in
     let key = size.before in
     let a = key.before.args in
-    c.or-else4.ensures
+    c.or_else.ensures
     ∙ ap₂ (λ (r : ℕ) (t : Bool). or_else r t 7)
-    (of_output.or-else3.ensures
-    ∙ ap (λ (r : ℕ). or_else r (differs a.out-len a.input-len) 6)
-    (of-input.or-else2.ensures
-    ∙ ap (λ (r : ℕ). or_else r (above 65536 a.input-len) 5)
-    (of-counter.or_else.ensures ∙ ap₂ (λ (r b : ℕ). or_else r (differs a.counter-len b) 4) key.for-turn.ensures size.block_size.ensures)))
-    past.past-end.ensures
-    ∙ chained (for_turn a.sealing a.cipher a.rounds a.key_len) (for_stretch a.cipher a.counter-len a.offset a.input-len a.out-len) refl
+    (of_output.or_else-of_output.ensures
+    ∙ ap (λ (r : ℕ). or_else r (differs a.out_len a.input_len) 6)
+    (of-input.or_else-of_input.ensures
+    ∙ ap (λ (r : ℕ). or_else r (above 65536 a.input_len) 5)
+    (of-counter.or_else-of_counter.ensures ∙ ap₂ (λ (r b : ℕ). or_else r (differs a.counter_len b) 4) key.for_turn-of_key.ensures size.block_size-size.ensures)))
+    past.past_end.ensures
+    ∙ chained (for_turn a.sealing a.cipher a.rounds a.key_len) (for_stretch a.cipher a.counter_len a.offset a.input_len a.out_len) refl
 
 pub for_run_spec : {M : Type 1} → statement M
 for_run_spec =

@@ -14,13 +14,13 @@ wrapped n d e sum low = omega (arith, div-add-mod' (n + d) (2 ^ 64))
 whole : (n d e : ℕ) → d < 2 ^ 64 → e ≡ (n + d) % 2 ^ 64 → n ≤ e → e ≡ n + d
 whole n d e small sum high = omega (arith, div-add-mod' (n + d) (2 ^ 64), mod-lt (n + d) {m = 2 ^ 64} (omega arith))
 
-returns : tie.Need-returns
+returns : tie.Need-returns-then-end-offset
 unfolding past_end
-returns c = sym (lt-ltb 1073741824 _ (wrapped _ _ _ c.before.wrapping-add-u64.ensures (omega arith)))
+returns c = sym (lt-ltb 1073741824 _ (wrapped _ _ _ c.before.wrapping_add_u64-end.ensures (omega arith)))
 
-returns-2 : tie.Need-returns-2
+returns-2 : tie.Need-returns
 unfolding past_end
-returns-2 c = ap (λ (e : ℕ). ltb 1073741824 e) (whole _ _ _ (search rules) c.before.wrapping-add-u64.ensures (omega arith))
+returns-2 c = ap (λ (e : ℕ). ltb 1073741824 e) (whole _ _ _ (search rules) c.before.wrapping_add_u64-end.ensures (omega arith))
 
 pub past_end_spec : {M : Type 1} → statement M
 past_end_spec = tie.close (tie.spec (λ c κs. search rules) returns returns-2)

@@ -17,7 +17,7 @@ module _ (making : Bool) (cipher rounds key_len message_len tag_len : ℕ) (some
       ap₂ (λ (m b : ℕ). or_else m (differs tag_len b) (cond making 6 9)) (em ∙ ap (λ (r : ℕ). or_else r (above 1073741824 message_len) 5) ek) es
       ∙ chained (for_key cipher rounds key_len) (long_message message_len ∷ wrong_tag_length making cipher tag_len ∷ []) some
 
-returns : tie.Need-returns
+returns : tie.Need-returns-then-making
 unfolding numbered for_key for_tag wrong_cipher wrong_rounds long_key long_message wrong_tag_length
 returns c =
     let test = c.before in
@@ -25,12 +25,12 @@ returns c =
     let size = message.before in
     let key = size.before in
     let a = key.before.args in
-    c.or-else2.ensures
-    ∙ tested true a.cipher a.rounds a.key_len a.message-len a.tag-len refl key.for-key.ensures size.block_size.ensures
-    message.or_else.ensures
-    ∙ ap (λ (t : Bool). refusal_of (for_tag t a.cipher a.rounds a.key_len a.message-len a.tag-len)) (sym test.if1.true)
+    c.or_else.ensures
+    ∙ tested true a.cipher a.rounds a.key_len a.message_len a.tag_len refl key.for_key-of_key.ensures size.block_size-size.ensures
+    message.or_else-of_message.ensures
+    ∙ ap (λ (t : Bool). refusal_of (for_tag t a.cipher a.rounds a.key_len a.message_len a.tag_len)) (sym test.if-making.true)
 
-returns-2 : tie.Need-returns-2
+returns-2 : tie.Need-returns
 unfolding numbered for_key for_tag wrong_cipher wrong_rounds long_key long_message wrong_tag_length
 returns-2 c =
     let test = c.before in
@@ -38,10 +38,10 @@ returns-2 c =
     let size = message.before in
     let key = size.before in
     let a = key.before.args in
-    c.or-else3.ensures
-    ∙ tested false a.cipher a.rounds a.key_len a.message-len a.tag-len refl key.for-key.ensures size.block_size.ensures
-    message.or_else.ensures
-    ∙ ap (λ (t : Bool). refusal_of (for_tag t a.cipher a.rounds a.key_len a.message-len a.tag-len)) (sym test.if1.false)
+    c.or_else-2.ensures
+    ∙ tested false a.cipher a.rounds a.key_len a.message_len a.tag_len refl key.for_key-of_key.ensures size.block_size-size.ensures
+    message.or_else-of_message.ensures
+    ∙ ap (λ (t : Bool). refusal_of (for_tag t a.cipher a.rounds a.key_len a.message_len a.tag_len)) (sym test.if-making.false)
 
 pub for_tag_spec : {M : Type 1} → statement M
 for_tag_spec =

@@ -21,9 +21,9 @@ returns c =
     rw (split-4 a.w)
     (running-terms (
     at_byte t 0 c0.of4.ensures c0.before.last.ensures ▸
-    at_byte t 1 c1.of42.ensures c1.before.under.ensures ▸
-    at_byte t 2 c2.of43.ensures c2.before.last2.ensures ▸
-    at_byte t 3 c3.of44.ensures c3.before.under2.ensures ▸
+    at_byte t 1 c1.of4-2.ensures c1.before.under.ensures ▸
+    at_byte t 2 c2.of4-3.ensures c2.before.last-2.ensures ▸
+    at_byte t 3 c3.of4-4.ensures c3.before.under-2.ensures ▸
     done
     ))
 

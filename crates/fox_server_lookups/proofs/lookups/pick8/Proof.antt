@@ -25,13 +25,13 @@ returns c =
     rw (split-8 a.w)
     (running-terms (
     at_byte t 0 c0.of8.ensures c0.before.last.ensures ▸
-    at_byte t 1 c1.of82.ensures c1.before.under.ensures ▸
-    at_byte t 2 c2.of83.ensures c2.before.under2.ensures ▸
-    at_byte t 3 c3.of84.ensures c3.before.under3.ensures ▸
-    at_byte t 4 c4.of85.ensures c4.before.under4.ensures ▸
-    at_byte t 5 c5.of86.ensures c5.before.last2.ensures ▸
-    at_byte t 6 c6.of87.ensures c6.before.last3.ensures ▸
-    at_byte t 7 c7.of88.ensures c7.before.last4.ensures ▸
+    at_byte t 1 c1.of8-2.ensures c1.before.under.ensures ▸
+    at_byte t 2 c2.of8-3.ensures c2.before.under-2.ensures ▸
+    at_byte t 3 c3.of8-4.ensures c3.before.under-3.ensures ▸
+    at_byte t 4 c4.of8-5.ensures c4.before.under-4.ensures ▸
+    at_byte t 5 c5.of8-6.ensures c5.before.last-2.ensures ▸
+    at_byte t 6 c6.of8-7.ensures c6.before.last-3.ensures ▸
+    at_byte t 7 c7.of8-8.ensures c7.before.last-4.ensures ▸
     done
     ))
 

@@ -17,7 +17,7 @@ returns c =
     let c2 = c1.before.before in
     let rk = c2.args.rk in
     f-made 4 mu4 c2.args.x rk (left-div 32 rk c2.ranges.rk.fits) refl (c1.pick4.ensures ∙ tables-mu4 c2.requires _)
-    (c.pick42.ensures ∙ tables-sigma4 c2.requires _)
+    (c.pick4-2.ensures ∙ tables-sigma4 c2.requires _)
 
 pub f32_spec : {M : Type 1} → statement M
 f32_spec = tie.close (tie.spec (λ c. search rules) (λ c. search rules) (λ c κs. search rules) (λ c κs. search rules) (λ c κs. search rules) returns)

@@ -11,7 +11,7 @@ unfolding lmid64
 returns c =
     let c2 = c.before.before in
     let x = c2.before.before.args.x in
-    λ i. record { l = x.l ⊕ c2.f32.ensures i; r = x.r ⊕ c2.f32.ensures i }
+    λ i. record { l = x.l ⊕ c2.f32-u.ensures i; r = x.r ⊕ c2.f32-u.ensures i }
 
 pub lmid64_spec : {M : Type 1} → statement M
 lmid64_spec = tie.close (tie.spec (λ c κs. search rules) returns)

@@ -11,23 +11,23 @@ use Rattle.fox_rounds.proofs.Laws.Skeleton.{RoundsLeft, rounds_left-first, round
 use Rattle.fox_server_rounds.proofs.fox64.seal64.Statement.{statement}
 use Rattle.fox_server_rounds.proofs.fox64.seal64.Tie as tie
 
-abbrev invariant-loop : tie.invariant-loop
+abbrev invariant-loop : tie.invariant-loop-i
 invariant-loop s t keys rounds last y₀ i₀ y i = (i ≤ last) × RoundsLeft lmid64 or64 (round_key_in64 keys) last y₀ i y
 
-abbrev decreases-loop : tie.decreases-loop
+abbrev decreases-loop : tie.decreases-loop-i
 decreases-loop s t keys rounds last y₀ i₀ y i = last - i
 
-loop-holds : tie.Need-loop-init invariant-loop decreases-loop
+loop-holds : tie.Need-loop-i-init invariant-loop decreases-loop
 loop-holds c = (search rules, rounds_left-first lmid64 or64 (round_key_in64 c.args.keys.now) (c.args.rounds - 1) c.args.x)
 
-loop-again : tie.Need-loop-preserved invariant-loop decreases-loop
+loop-again : tie.Need-loop-i-preserved invariant-loop decreases-loop
 unfolding round_key_in64
 loop-again c =
     let at = c.before.before.before.before in
     let a = at.before.args in (
       search rules,
-      rounds_left-on lmid64 or64 (round_key_in64 a.keys.now) (a.rounds - 1) at.loop.i a.x at.loop.y c.or.result (search rules)
-          at.loop.invariant.1 (c.or.ensures ∙ ap or64 c.before.lmid64.ensures),
+      rounds_left-on lmid64 or64 (round_key_in64 a.keys.now) (a.rounds - 1) at.loop-i.i a.x at.loop-i.y c.or-y.result (search rules)
+          at.loop-i.invariant.1 (c.or-y.ensures ∙ ap or64 c.before.lmid64.ensures),
     )
 
 returns : tie.Need-returns invariant-loop decreases-loop
@@ -35,8 +35,8 @@ unfolding round_key_in64 seal64
 returns c =
     let at = c.before.before.before in
     let a = at.before.args in
-    rounds_left-last lmid64 or64 (round_key_in64 a.keys.now) a.rounds at.loop.i a.x at.loop.y c.lmid642.result (search rules)
-    (search rules) (search rules) at.loop.invariant.1 c.lmid642.ensures
+    rounds_left-last lmid64 or64 (round_key_in64 a.keys.now) a.rounds at.loop-i.i a.x at.loop-i.y c.lmid64-2.result (search rules)
+    (search rules) (search rules) at.loop-i.invariant.1 c.lmid64-2.ensures
 
 pub seal64_spec : {M : Type 1} → statement M
 seal64_spec =

@@ -5,13 +5,13 @@ use Rattle.fox_rounds.specs.Skeleton.{place}
 use Rattle.fox_server_rounds.proofs.order.place.Statement.{statement}
 use Rattle.fox_server_rounds.proofs.order.place.Tie as tie
 
-returns : tie.Need-returns
+returns : tie.Need-returns-then-sealing
 unfolding place
-returns c = (rw c.if1.true, search rules)
+returns c = (rw c.if-sealing.true, search rules)
 
-returns-2 : tie.Need-returns-2
+returns-2 : tie.Need-returns-else-sealing
 unfolding place
-returns-2 c = (rw c.if1.false, search rules)
+returns-2 c = (rw c.if-sealing.false, search rules)
 
 pub place_spec : {M : Type 1} → statement M
 place_spec = tie.close (tie.spec (λ c. search rules) (λ c. search rules) returns returns-2)

@@ -12,10 +12,10 @@ returns c =
     let c2 = c3.before.before in
     let c1 = c2.before.before in
     record {
-      first = c1.or.ensures ∙ ap or128 c1.before.elmid-wide.ensures;
-      second = c2.or2.ensures ∙ ap or128 c2.before.elmid-wide2.ensures;
-      third = c3.or3.ensures ∙ ap or128 c3.before.elmid-wide3.ensures;
-      fourth = c.or4.ensures ∙ ap or128 c.before.elmid-wide4.ensures;
+      first = c1.or.ensures ∙ ap or128 c1.before.elmid_wide.ensures;
+      second = c2.or-2.ensures ∙ ap or128 c2.before.elmid_wide-2.ensures;
+      third = c3.or-3.ensures ∙ ap or128 c3.before.elmid_wide-3.ensures;
+      fourth = c.or-4.ensures ∙ ap or128 c.before.elmid_wide-4.ensures;
     }
 
 pub elmor_four128_spec : {M : Type 1} → statement M

@@ -12,28 +12,28 @@ use Rattle.fox_server_rounds_four.proofs.Laws.Each.{all-128, then-128}
 use Rattle.fox_server_rounds_four.proofs.fox128.seal_four128.Statement.{statement}
 use Rattle.fox_server_rounds_four.proofs.fox128.seal_four128.Tie as tie
 
-abbrev invariant-loop : tie.invariant-loop
+abbrev invariant-loop : tie.invariant-loop-i
 invariant-loop s t keys rounds last y₀ i₀ y i =
     (i ≤ last) × Each128 (λ a b. RoundsLeft elmid128 or128 (round_key_in128 keys) last a i b) y₀ y
 
-abbrev decreases-loop : tie.decreases-loop
+abbrev decreases-loop : tie.decreases-loop-i
 decreases-loop s t keys rounds last y₀ i₀ y i = last - i
 
-loop-holds : tie.Need-loop-init invariant-loop decreases-loop
+loop-holds : tie.Need-loop-i-init invariant-loop decreases-loop
 loop-holds c =
     let a = c.args in
     (search rules, all-128 a.x (λ b. rounds_left-first elmid128 or128 (round_key_in128 a.keys.now) (a.rounds - 1) b))
 
-loop-again : tie.Need-loop-preserved invariant-loop decreases-loop
+loop-again : tie.Need-loop-i-preserved invariant-loop decreases-loop
 unfolding round_key_in128
 loop-again c =
     let at = c.before.before.before.before in
     let a = at.before.args in
-    let i = at.loop.i in (
+    let i = at.loop-i.i in (
       search rules,
-      then-128 a.x at.loop.y c.elmor-four128.result
+      then-128 a.x at.loop-i.y c.elmor_four128-y.result
           (λ p q r left on. rounds_left-on elmid128 or128 (round_key_in128 a.keys.now) (a.rounds - 1) i p q r (search rules) left on)
-          at.loop.invariant.1 c.elmor-four128.ensures,
+          at.loop-i.invariant.1 c.elmor_four128-y.ensures,
     )
 
 returns : tie.Need-returns invariant-loop decreases-loop
@@ -41,10 +41,10 @@ unfolding round_key_in128 seal128
 returns c =
     let at = c.before.before.before.before in
     let a = at.before.args in
-    let i = at.loop.i in
-    then-128 a.x at.loop.y c.elmid-four128.result
+    let i = at.loop-i.i in
+    then-128 a.x at.loop-i.y c.elmid_four128.result
     (λ p q r left on. rounds_left-last elmid128 or128 (round_key_in128 a.keys.now) a.rounds i p q r (search rules) (search rules) (search rules) left on)
-    at.loop.invariant.1 c.elmid-four128.ensures
+    at.loop-i.invariant.1 c.elmid_four128.ensures
 
 pub seal_four128_spec : {M : Type 1} → statement M
 seal_four128_spec =

@@ -14,10 +14,10 @@ returns c =
     let c1 = c2.before.before in
     let c0 = c1.before.before in
     let x = c0.before.before.args.x in
-    let p = c0.f32.ensures in
-    let q = c1.f322.ensures in
-    let u = c2.f323.ensures in
-    let v = c3.f324.ensures in
+    let p = c0.f32-p.ensures in
+    let q = c1.f32-q.ensures in
+    let u = c2.f32-u.ensures in
+    let v = c3.f32-v.ensures in
     record {
       first = λ i. record { l = x.first.l ⊕ p i; r = x.first.r ⊕ p i };
       second = λ i. record { l = x.second.l ⊕ q i; r = x.second.r ⊕ q i };

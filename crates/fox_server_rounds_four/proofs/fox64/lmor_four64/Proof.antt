@@ -27,10 +27,10 @@ returns c =
     let c1 = c2.before.before in
     let a = c1.before.before.args in
     record {
-      first = round a.rk a.x.first c1.f32.ensures o1.or.ensures;
-      second = round a.rk a.x.second c2.f322.ensures o2.or2.ensures;
-      third = round a.rk a.x.third c3.f323.ensures o3.or3.ensures;
-      fourth = round a.rk a.x.fourth c4.f324.ensures o4.or4.ensures;
+      first = round a.rk a.x.first c1.f32-p.ensures o1.or.ensures;
+      second = round a.rk a.x.second c2.f32-q.ensures o2.or-2.ensures;
+      third = round a.rk a.x.third c3.f32-u.ensures o3.or-3.ensures;
+      fourth = round a.rk a.x.fourth c4.f32-v.ensures o4.or-4.ensures;
     }
 
 pub lmor_four64_spec : {M : Type 1} → statement M

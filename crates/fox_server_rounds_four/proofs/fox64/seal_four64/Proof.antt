@@ -12,28 +12,28 @@ use Rattle.fox_server_rounds_four.proofs.Laws.Each.{all-64, then-64}
 use Rattle.fox_server_rounds_four.proofs.fox64.seal_four64.Statement.{statement}
 use Rattle.fox_server_rounds_four.proofs.fox64.seal_four64.Tie as tie
 
-abbrev invariant-loop : tie.invariant-loop
+abbrev invariant-loop : tie.invariant-loop-i
 invariant-loop s t keys rounds last y₀ i₀ y i =
     (i ≤ last) × Each64 (λ a b. RoundsLeft lmid64 or64 (round_key_in64 keys) last a i b) y₀ y
 
-abbrev decreases-loop : tie.decreases-loop
+abbrev decreases-loop : tie.decreases-loop-i
 decreases-loop s t keys rounds last y₀ i₀ y i = last - i
 
-loop-holds : tie.Need-loop-init invariant-loop decreases-loop
+loop-holds : tie.Need-loop-i-init invariant-loop decreases-loop
 loop-holds c =
     let a = c.args in
     (search rules, all-64 a.x (λ b. rounds_left-first lmid64 or64 (round_key_in64 a.keys.now) (a.rounds - 1) b))
 
-loop-again : tie.Need-loop-preserved invariant-loop decreases-loop
+loop-again : tie.Need-loop-i-preserved invariant-loop decreases-loop
 unfolding round_key_in64
 loop-again c =
     let at = c.before.before.before in
     let a = at.before.args in
-    let i = at.loop.i in (
+    let i = at.loop-i.i in (
       search rules,
-      then-64 a.x at.loop.y c.lmor-four64.result
+      then-64 a.x at.loop-i.y c.lmor_four64-y.result
           (λ p q r left on. rounds_left-on lmid64 or64 (round_key_in64 a.keys.now) (a.rounds - 1) i p q r (search rules) left on)
-          at.loop.invariant.1 c.lmor-four64.ensures,
+          at.loop-i.invariant.1 c.lmor_four64-y.ensures,
     )
 
 returns : tie.Need-returns invariant-loop decreases-loop
@@ -41,10 +41,10 @@ unfolding round_key_in64 seal64
 returns c =
     let at = c.before.before.before in
     let a = at.before.args in
-    let i = at.loop.i in
-    then-64 a.x at.loop.y c.lmid-four64.result
+    let i = at.loop-i.i in
+    then-64 a.x at.loop-i.y c.lmid_four64.result
     (λ p q r left on. rounds_left-last lmid64 or64 (round_key_in64 a.keys.now) a.rounds i p q r (search rules) (search rules) (search rules) left on)
-    at.loop.invariant.1 c.lmid-four64.ensures
+    at.loop-i.invariant.1 c.lmid_four64.ensures
 
 pub seal_four64_spec : {M : Type 1} → statement M
 seal_four64_spec =

@@ -27,15 +27,15 @@ returns c =
     let x = a.x in
     let k = a.k in
     let l = a.l in
-    let p = left.pick-left.result in
-    let q = right.pick-right.result in
+    let p = left.pick_left.result in
+    let q = right.pick_right.result in
     let made = f-made 8 mu8 (x.l ⊕ x.r) (k * 2 ^ 64 + l) (left-pair 64 k l start.ranges.k.fits start.ranges.l.fits)
     (right-pair 64 k l start.ranges.l.fits) (mixed.pick8.ensures ∙ tables-mu8 start.requires _)
-    (ap₂ (λ (u v : ℕ). u * 2 ^ 32 + v) left.pick-left.ensures right.pick-right.ensures ∙ tables-sigma8 start.requires _) in
+    (ap₂ (λ (u v : ℕ). u * 2 ^ 32 + v) left.pick_left.ensures right.pick_right.ensures ∙ tables-sigma8 start.requires _) in
     narrow-xored _ x
     ∙ ap (λ (t : ℕ). xor128 t (narrow x))
-    (joined.pair.ensures ∙ sym (halves-xored p q k (search rules) (search rules)) ∙ made
-    ∙ ap (λ (n : ℕ). f64 n (k * 2 ^ 64 + l)) (sym (input-xor x known.struct_known.given.0.fits known.struct_known.given.1.0.fits)))
+    (joined.pair-f.ensures ∙ sym (halves-xored p q k (search rules) (search rules)) ∙ made
+    ∙ ap (λ (n : ℕ). f64 n (k * 2 ^ 64 + l)) (sym (input-xor x known.struct_known-1.given.0.fits known.struct_known-1.given.1.0.fits)))
 
 pub elmid_wide_spec : {M : Type 1} → statement M
 elmid_wide_spec =

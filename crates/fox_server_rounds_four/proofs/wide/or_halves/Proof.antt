@@ -6,7 +6,7 @@ use Rattle.fox_server_rounds_four.proofs.Laws.Wide.{or-both}
 use Rattle.fox_server_rounds_four.proofs.wide.or_halves.Statement.{statement}
 use Rattle.fox_server_rounds_four.proofs.wide.or_halves.Tie as tie
 
-mul-result : tie.Need-overflow-mul-result
+mul-result : tie.Need-overflow_mul-result
 mul-result c = record { fits = omega (arith, and_le_r c.args.w 0x0000FFFF0000FFFF) }
 
 returns : tie.Need-returns

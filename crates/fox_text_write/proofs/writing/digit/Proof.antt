@@ -6,13 +6,13 @@ use borrow.Author.Rules.{rules}
 use Rattle.fox_text_write.proofs.writing.digit.Statement.{statement}
 use Rattle.fox_text_write.proofs.writing.digit.Tie as tie
 
-returns : tie.Need-returns
+returns : tie.Need-returns-then-n-lt10
 unfolding digit
-returns c = simp (lt-ltb _ _ c.if1.true)
+returns c = simp (lt-ltb _ _ c.if-n-lt10.true)
 
-returns-2 : tie.Need-returns-2
+returns-2 : tie.Need-returns-else-n-lt10
 unfolding digit
-returns-2 c = simp (le-ltb _ _ c.if1.false)
+returns-2 c = simp (le-ltb _ _ c.if-n-lt10.false)
 
 pub digit_spec : {M : Type 1} → statement M
 digit_spec = tie.close (tie.spec (λ c. search rules) (λ c. search rules) returns returns-2)

@@ -13,31 +13,31 @@ use borrow.Author.Rules.{rules}
 use Rattle.fox_text_write.proofs.writing.put_hex.Statement.{statement}
 use Rattle.fox_text_write.proofs.writing.put_hex.Tie as tie
 
-abbrev invariant-loop : tie.invariant-loop
+abbrev invariant-loop : tie.invariant-loop-i
 invariant-loop out₀ at bytes i₀ i-end out i =
     (i ≤ i-end) × (i-end ≡ length bytes) × (length out ≡ length out₀)
     × (sets out (at + i * 2) (hex_text (drop i bytes)) ≡ sets out₀ at (hex_text bytes))
 
-abbrev decreases-loop : tie.decreases-loop
+abbrev decreases-loop : tie.decreases-loop-i
 decreases-loop out₀ at bytes i₀ i-end out i = i-end - i
 
-loop-holds : tie.Need-loop-init invariant-loop decreases-loop
+loop-holds : tie.Need-loop-i-init invariant-loop decreases-loop
 loop-holds c =
     let e : c.before.before.args.at + 0 ≡ c.before.before.args.at = omega arith in
     (search rules, refl, refl, rw e)
 
 digit-requires : tie.Need-digit-requires invariant-loop decreases-loop
-digit-requires c κs = omega (arith, c.shared-slice-known2.given c.before.before.loop.i)
+digit-requires c κs = omega (arith, c.shared_slice_known-in-loop-i-1.given c.before.before.loop-i.i)
 
-slice-write-out-2 : tie.Need-slice-write-out-2 invariant-loop decreases-loop
+slice-write-out-2 : tie.Need-bounds-out-at-in-loop-i invariant-loop decreases-loop
 slice-write-out-2 c = simp length-set (omega arith)
 
-loop-again : tie.Need-loop-preserved invariant-loop decreases-loop
+loop-again : tie.Need-loop-i-preserved invariant-loop decreases-loop
 loop-again c =
     let at = c.before.before.before.before.before in
     let a = at.before.before.before.args in
-    let stored = hex-stored at.loop.out a.bytes.now a.at at.loop.i _ _ (search rules) c.before.before.digit.ensures c.digit2.ensures in
-    (search rules, refl, simp length-set at.loop.invariant.2, stored ∙ at.loop.invariant.3)
+    let stored = hex-stored at.loop-i.out a.bytes.now a.at at.loop-i.i _ _ (search rules) c.before.before.digit.ensures c.digit-in-loop-i.ensures in
+    (search rules, refl, simp length-set at.loop-i.invariant.2, stored ∙ at.loop-i.invariant.3)
 
 returns : tie.Need-returns invariant-loop decreases-loop
 returns c =
@@ -46,7 +46,7 @@ returns c =
     record {
       place = rw (length-hex-text a.bytes.now);
       short = omega arith;
-      bytes = sym (hex-done at.loop.out a.bytes.now a.at at.loop.i c.loop-test.false) ∙ at.loop.invariant.3;
+      bytes = sym (hex-done at.loop-i.out a.bytes.now a.at at.loop-i.i c.loop-i-test.false) ∙ at.loop-i.invariant.3;
     }
 
 pub put_hex_spec : {M : Type 1} → statement M

@@ -10,8 +10,8 @@ use Rattle.fox_layers.specs.Substitution.{S₁, S₂, S₃, halves, whole, or4, 
 use Rattle.fox_layers.specs.Diffusion.{mu8_rows}
 use Rattle.fox_layers.specs.Tables.{table, column}
 use Rattle.fox_server_tables.proofs.Laws.Doubling.{quick, quick_scaled, by_number}
-use Rattle.fox_server_tables.proofs.tbsm8.constant.Statement.{statement}
-use Rattle.fox_server_tables.proofs.tbsm8.constant.Tie as tie
+
+use Rattle.fox_server_tables.proofs.tbsm8.constant.Goals as goal
 
 -- the number that is left when those before it are ruled out
 above : {j k : ℕ} → k ≤ j → (j ≡ k → ⊥) → suc k ≤ j
@@ -20,19 +20,32 @@ above h n = omega arith
 last : {j k : ℕ} → k ≤ j → j < suc k → j ≡ k
 last h l = omega arith
 
-seven : tie.Need-returns-8
+pub returns-in_default : goal.returns-in_default
 unfolding joined double halve S₁ S₂ S₃ halves whole or4 lmid4 lmor4 sbox mu8_rows table column quick quick_scaled
-seven c =
-    let r = c.match.rest in
-    let left : 7 ≤ c.before.args.j =
+returns-in_default c =
+    let r = c.in_default.rest in
+    let left : 7 ≤ c.args.j =
     above (above (above (above (above (above (above (search rules) r.0.0.0.0.0.0.1) r.0.0.0.0.0.1) r.0.0.0.0.1)
     r.0.0.0.1) r.0.0.1) r.0.1) r.1 in
-    by_number mu8_rows 7 (last left c.before.requires) refl
+    by_number mu8_rows 7 (last left c.requires) refl
 
-pub constant_spec : {M : Type 1} → statement M
-unfolding joined double halve S₁ S₂ S₃ halves whole or4 lmid4 lmor4 sbox mu8_rows table column quick quick_scaled
-constant_spec =
-    tie.close (tie.spec (λ c. by_number mu8_rows 0 (search rules) refl) (λ c. by_number mu8_rows 1 (search rules) refl)
-    (λ c. by_number mu8_rows 2 (search rules) refl)
-    (λ c. by_number mu8_rows 3 (search rules) refl) (λ c. by_number mu8_rows 4 (search rules) refl) (λ c. by_number mu8_rows 5 (search rules) refl)
-    (λ c. by_number mu8_rows 6 (search rules) refl) seven)
+pub returns-in-0 : goal.returns-in-0
+returns-in-0 c = by_number mu8_rows 0 (search rules) refl
+
+pub returns-in-1 : goal.returns-in-1
+returns-in-1 c = by_number mu8_rows 1 (search rules) refl
+
+pub returns-in-2 : goal.returns-in-2
+returns-in-2 c = by_number mu8_rows 2 (search rules) refl
+
+pub returns-in-3 : goal.returns-in-3
+returns-in-3 c = by_number mu8_rows 3 (search rules) refl
+
+pub returns-in-4 : goal.returns-in-4
+returns-in-4 c = by_number mu8_rows 4 (search rules) refl
+
+pub returns-in-5 : goal.returns-in-5
+returns-in-5 c = by_number mu8_rows 5 (search rules) refl
+
+pub returns-in-6 : goal.returns-in-6
+returns-in-6 c = by_number mu8_rows 6 (search rules) refl

@@ -18,11 +18,13 @@ use Rattle.fox_text_write.proofs.writing.+put_digits.Lts-put_digits as lts
 use Rattle.fox_text_write.proofs.writing.+put_digits.{statement}
 use Rattle.fox_text_write.proofs.writing.+put_digits.Tie.{close}
 
+use Rattle.fox_text_write.proofs.writing.+put_digits.Goals as goal
+
 abbrev μ : Measures 1 kinds.ps ℕ
 μ κs a = a.1.1.1.0
 
 module _ (t : ℕ) where
-  -- what the function requires at the measure t, and what its call of itself requires below t
+  -- what the function requires at the measure t, and what its c of itself requires below t
   abbrev at : In 1 kinds.ps
   at = and 1 kinds.ps (is 1 kinds.ps μ t) put-digits.Pre
 
@@ -35,21 +37,13 @@ module _ (t : ℕ) where
 
   returns-2 : lts.Need-returns-2 (below, put-digits.Post) at put-digits.Post
   returns-2 c =
-      let a = c.before.before.before.args in
+      let a = c.args in
       let e : digits_text a.places a.n ≡ (48 + a.n) ∷ [] = digits_more a.places a.n (omega arith) ∙ rw (lt-ltb _ _ c.if2.true) in
       rw e (at-most (one _ _ _) (omega arith))
 
   returns-3 : lts.Need-returns-3 (below, put-digits.Post) at put-digits.Post
   returns-3 c =
-      let call = c.before.before in
-      let ten = call.before.before in
-      let a = ten.before.before.before.args in
+      let a = c.args in
       let e : digits_text a.places a.n ≡ digits_text (a.places - 1) (a.n / 10) ++ ((48 + a.n % 10) ∷ []) =
-      digits_more a.places a.n (omega arith) ∙ rw (le-ltb _ _ ten.if2.false) in
-      rw e (at-most (then call.put-digits.ensures (one _ _ _)) (omega arith))
-
-pub +put_digits_spec : {M : Type 1} → statement M
-+put_digits_spec =
-    close μ λ t. lts.spec (below t, put-digits.Post) (at t) put-digits.Post (returns t) (λ c. search rules) (λ c. search rules) (λ c. search rules)
-    (λ c. search rules) (λ c. search rules) (returns-2 t) (λ c. search rules) (λ c κs. search rules) (λ c. search rules) (λ c. search rules)
-    (λ c. search rules) (λ c. search rules) (λ c. search rules) (returns-3 t)
+      digits_more a.places a.n (omega arith) ∙ rw (le-ltb _ _ c.if2.false) in
+      rw e (at-most (then c.put-digits.ensures (one _ _ _)) (omega arith))
