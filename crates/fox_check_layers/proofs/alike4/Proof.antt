@@ -6,10 +6,10 @@ use borrow.Author.Rules.{rules}
 use Rattle.fox_check_layers.proofs.alike4.Statement.{statement}
 use Rattle.fox_check_layers.proofs.alike4.Tie as tie
 
-abbrev invariant-loop : tie.invariant-loop
+abbrev invariant-loop : tie.invariant-loop-i
 invariant-loop s t mask alike₀ w₀ i₀ alike w i = (alike ≤ i) × (i ≤ 4096) × (mask ≡ 255)
 
-abbrev decreases-loop : tie.decreases-loop
+abbrev decreases-loop : tie.decreases-loop-i
 decreases-loop s t mask alike₀ w₀ i₀ alike w i = 4096 - i
 
 pub alike4_spec : {M : Type 1} → statement M

@@ -6,10 +6,10 @@ use borrow.Author.Rules.{rules}
 use Rattle.fox_check_layers.proofs.alike8.Statement.{statement}
 use Rattle.fox_check_layers.proofs.alike8.Tie as tie
 
-abbrev invariant-loop : tie.invariant-loop
+abbrev invariant-loop : tie.invariant-loop-i
 invariant-loop s t mask alike₀ w₀ i₀ alike w i = (alike ≤ i) × (i ≤ 4096) × (mask ≡ 255)
 
-abbrev decreases-loop : tie.decreases-loop
+abbrev decreases-loop : tie.decreases-loop-i
 decreases-loop s t mask alike₀ w₀ i₀ alike w i = 4096 - i
 
 pub alike8_spec : {M : Type 1} → statement M

@@ -13,7 +13,7 @@ use Rattle.fox_key_nonlinear.proofs.nl128.layers128.Goals as goal
 pub returns : goal.returns
 unfolding mix64 mix128 xor_each
 returns c =
-    let fits = c.well-formed.0.1.1 in
+    let fits = c.well_formed.0.1.1 in
     (λ i. c.second8.ensures i ∷ c.second8-2.ensures i
     ∷ c.second8-3.ensures i ∷ c.second8-4.ensures i ∷ [])
     ∙ layers-made 8 4 mu8 mix128 c.args.flip _

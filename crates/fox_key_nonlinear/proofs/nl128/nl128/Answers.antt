@@ -9,7 +9,7 @@ use Rattle.fox_key_nonlinear.proofs.nl128.nl128.Goals as goal
 pub returns : goal.returns
 unfolding number128 through seal128 NL128
 returns c =
-    let fits = c.well-formed.0.1.1 in
+    let fits = c.well_formed.0.1.1 in
     rw (
       pairs32 c.args.d fits.0.1 fits.1.0.1 fits.1.1.0.1 fits.1.1.1.0.1,
       ← c.layers128-t.ensures,

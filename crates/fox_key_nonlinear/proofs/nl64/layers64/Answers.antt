@@ -13,7 +13,7 @@ use Rattle.fox_key_nonlinear.proofs.nl64.layers64.Goals as goal
 pub returns : goal.returns
 unfolding mix64 xor_each
 returns c =
-    let fits = c.well-formed.0.1.1 in
+    let fits = c.well_formed.0.1.1 in
     let x = c.first_two-a.ensures in
     let y = c.first_two-b.ensures in
     let v = c.second_two-v.ensures in

@@ -11,7 +11,7 @@ use Rattle.fox_key_nonlinear.proofs.nl64.nl64.Goals as goal
 pub returns : goal.returns
 unfolding number64 through seal64 NL64
 returns c =
-    let fits = c.well-formed.0.1.1 in
+    let fits = c.well_formed.0.1.1 in
     let t = c.layers64-t in
     let new = c.new-x.ensures in
     let hashed : c.new-x.result ≡ record { l = t.result.w0 ⊕ t.result.w2; r = t.result.w1 ⊕ t.result.w3 } =

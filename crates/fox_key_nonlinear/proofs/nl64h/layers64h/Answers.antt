@@ -13,7 +13,7 @@ use Rattle.fox_key_nonlinear.proofs.nl64h.layers64h.Goals as goal
 pub returns : goal.returns
 unfolding mix64h xor_each
 returns c =
-    let fits = c.well-formed.0.1.1 in
+    let fits = c.well_formed.0.1.1 in
     let x = c.first_two-a.ensures in
     let y = c.first_two-b.ensures in
     let z = c.first_two-c.ensures in

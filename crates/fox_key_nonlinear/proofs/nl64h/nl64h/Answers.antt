@@ -11,7 +11,7 @@ use Rattle.fox_key_nonlinear.proofs.nl64h.nl64h.Goals as goal
 pub returns : goal.returns
 unfolding number64 through seal64 NL64h
 returns c =
-    let fits = c.well-formed.0.1.1 in
+    let fits = c.well_formed.0.1.1 in
     let t = c.layers64h-t.result in
     let new = c.new-x.ensures in
     let hashed : c.new-x.result ≡ record { l = (t.w0 ⊕ t.w1) ⊕ (t.w4 ⊕ t.w5); r = (t.w2 ⊕ t.w3) ⊕ (t.w6 ⊕ t.w7) } =

@@ -14,7 +14,7 @@ returns c = rw (absent c.before.before.find_at.ensures c.if1.true)
 after-requires : tie.Need-after-requires
 after-requires c κs =
     let (there, stands) = present c.before.before.find_at.ensures c.if1.false in
-    movable stands c.before.before.before.before.well-formed.0.0
+    movable stands c.before.before.before.before.well_formed.0.0
 
 returns-2 : tie.Need-returns-2
 unfolding passed_over

@@ -20,13 +20,13 @@ add-first : tie.Need-overflow-add-first
 add-first c =
     let test = c.before.before.before.before.before in
     let (there, stands) = present test.before.before.find_at.ensures test.if1.false in
-    omega (arith, stands.ends, test.before.before.before.before.before.well-formed.1.0.0)
+    omega (arith, stands.ends, test.before.before.before.before.before.well_formed.1.0.0)
 
 add-end : tie.Need-overflow-add-end
 add-end c =
     let test = c.before.before.before.before.before.before in
     let (there, stands) = present test.before.before.find_at.ensures test.if1.false in
-    omega (arith, stands.ends, test.before.before.before.before.before.well-formed.1.0.0)
+    omega (arith, stands.ends, test.before.before.before.before.before.well_formed.1.0.0)
 
 part-run-end : tie.Need-slice-bounds-run-end
 part-run-end c =
@@ -46,7 +46,7 @@ after-requires : tie.Need-after-requires
 after-requires c κs =
     let test = c.before.before.before.before.before.before.before.before.before.before.before.before.before.before in
     let (there, stands) = present test.before.before.find_at.ensures test.if1.false in
-    movable stands test.before.before.before.before.before.well-formed.1.0.0
+    movable stands test.before.before.before.before.before.well_formed.1.0.0
 
 returns-3 : tie.Need-returns-3
 returns-3 c =

@@ -23,29 +23,32 @@ last h l = omega arith
 pub returns-in_default : goal.returns-in_default
 unfolding joined double halve S₁ S₂ S₃ halves whole or4 lmid4 lmor4 sbox mu8_rows table column quick quick_scaled
 returns-in_default c =
-    let r = c.in_default.rest in
-    let left : 7 ≤ c.args.j =
-    above (above (above (above (above (above (above (search rules) r.0.0.0.0.0.0.1) r.0.0.0.0.0.1) r.0.0.0.0.1)
-    r.0.0.0.1) r.0.0.1) r.0.1) r.1 in
-    by_number mu8_rows 7 (last left c.requires) refl
+    by_number mu8_rows 7 (omega arith) refl
 
 pub returns-in-0 : goal.returns-in-0
+unfolding joined double halve S₁ S₂ S₃ halves whole or4 lmid4 lmor4 sbox mu8_rows table column quick quick_scaled
 returns-in-0 c = by_number mu8_rows 0 (search rules) refl
 
 pub returns-in-1 : goal.returns-in-1
+unfolding joined double halve S₁ S₂ S₃ halves whole or4 lmid4 lmor4 sbox mu8_rows table column quick quick_scaled
 returns-in-1 c = by_number mu8_rows 1 (search rules) refl
 
 pub returns-in-2 : goal.returns-in-2
+unfolding joined double halve S₁ S₂ S₃ halves whole or4 lmid4 lmor4 sbox mu8_rows table column quick quick_scaled
 returns-in-2 c = by_number mu8_rows 2 (search rules) refl
 
 pub returns-in-3 : goal.returns-in-3
+unfolding joined double halve S₁ S₂ S₃ halves whole or4 lmid4 lmor4 sbox mu8_rows table column quick quick_scaled
 returns-in-3 c = by_number mu8_rows 3 (search rules) refl
 
 pub returns-in-4 : goal.returns-in-4
+unfolding joined double halve S₁ S₂ S₃ halves whole or4 lmid4 lmor4 sbox mu8_rows table column quick quick_scaled
 returns-in-4 c = by_number mu8_rows 4 (search rules) refl
 
 pub returns-in-5 : goal.returns-in-5
+unfolding joined double halve S₁ S₂ S₃ halves whole or4 lmid4 lmor4 sbox mu8_rows table column quick quick_scaled
 returns-in-5 c = by_number mu8_rows 5 (search rules) refl
 
 pub returns-in-6 : goal.returns-in-6
+unfolding joined double halve S₁ S₂ S₃ halves whole or4 lmid4 lmor4 sbox mu8_rows table column quick quick_scaled
 returns-in-6 c = by_number mu8_rows 6 (search rules) refl

@@ -14,7 +14,7 @@ use Rattle.fox_server_tables.proofs.tbsm8.set_table.Goals as goal
 
 pub loop-x-init : goal.loop-x-init
 loop-x-init c =
-    let begun = c.requires.1 in
+    let begun = c.requires.filled_to in
     (omega arith, begun.long, rw add-zero begun.same)
 
 pub loop-x-preserved : goal.loop-x-preserved

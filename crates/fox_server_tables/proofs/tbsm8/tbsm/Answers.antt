@@ -10,7 +10,7 @@ use Rattle.fox_server_tables.proofs.tbsm8.tbsm.Goals as goal
 
 pub set_table-requires : goal.set_table-requires
 unfolding mu8_rows
-set_table-requires c = (search rules, record { long = sym (length-TBSM mu8_rows); same = refl })
+set_table-requires c = record { j_bound = search rules; filled_to = record { long = sym (length-TBSM mu8_rows); same = refl } }
 
 pub returns : goal.returns
 unfolding mu8_rows

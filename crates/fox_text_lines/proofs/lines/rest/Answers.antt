@@ -15,7 +15,7 @@ returns-then-at-t c =
     let all : length (drop a.at a.t.now) ≤ length a.t.now - a.at = omega (arith, length-drop a.at a.t.now) in
     take_all _ _ all
 
-pub returns-then-at-t : goal.returns
-returns-then-at-t c =
+pub returns : goal.returns
+returns c =
     let past : length c.args.t.now ≤ c.args.at = omega arith in
     sym (drop_of_length-le _ past)

@@ -6,10 +6,10 @@ use borrow.Author.Rules.{rules}
 use Rattle.fox_text_read.proofs.decimal.begins.Statement.{statement}
 use Rattle.fox_text_read.proofs.decimal.begins.Tie as tie
 
-returns : tie.Need-returns
-returns c = begins-short _ c.if1.true
+returns : tie.Need-returns-then-ds-lt2
+returns c = begins-short _ c.if-ds-lt2.true
 
-returns-2 : tie.Need-returns-2
+returns-2 : tie.Need-returns
 returns-2 c = begins-long _ (omega arith)
 
 pub begins_spec : {M : Type 1} → statement M

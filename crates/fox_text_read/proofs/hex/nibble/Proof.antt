@@ -8,16 +8,16 @@ use borrow.Author.Rules.{rules}
 use Rattle.fox_text_read.proofs.hex.nibble.Statement.{statement}
 use Rattle.fox_text_read.proofs.hex.nibble.Tie as tie
 
-sub-result : tie.Need-overflow-sub-result
+sub-result : tie.Need-overflow_sub-result
 sub-result c = omega (arith, (ranges c.before.args.d c.before.requires).low)
 
-returns : tie.Need-returns
+returns : tie.Need-returns-then-d-lt65
 unfolding nibble
-returns c = simp (lt-ltb _ _ c.if1.true)
+returns c = simp (lt-ltb _ _ c.if-d-lt65.true)
 
-returns-2 : tie.Need-returns-2
+returns-2 : tie.Need-returns-else-d-lt65
 unfolding nibble
-returns-2 c = simp (le-ltb _ _ c.if1.false)
+returns-2 c = simp (le-ltb _ _ c.if-d-lt65.false)
 
 pub nibble_spec : {M : Type 1} → statement M
 nibble_spec = tie.close (tie.spec sub-result (λ c. search rules) returns returns-2)

@@ -1,0 +1,8 @@
+-- `hex::is_pairs` meets its contract: the tests are the definition's, in its order.
+-- Assumes nothing.
+use borrow.Author.Rules.{rules}
+
+use Rattle.fox_text_read.proofs.hex.is_pairs.Goals as goal
+
+pub returns : goal.returns
+returns c = rw c.all_hex.ensures
