@@ -14,10 +14,10 @@ SHARED = $(OUT)/libfox.so.$(VERSION)
 ROOT = $(DESTDIR)$(PREFIX)
 BUILD = @PROCESSOR=$(PROCESSOR) sh tools/build.sh
 
-# Folders too, so that a file taken away counts as a change.
-SOURCES := $(shell find crates crates.txt)
+# Folders too, so that a file taken away counts as a change. What rt makes of a crate is in its folder out.
+SOURCES := $(shell find crates crates.txt -name out -prune -o -print)
 
-# rt proves in one folder, and as many crates at once as the machine can.
+# Only one rt at a time works in a crate and in those below it.
 .NOTPARALLEL:
 .PHONY: all help run bench vectors test host count speed fuzz fmt install uninstall clean
 
@@ -111,7 +111,7 @@ fuzz:
 	@sh tests/fuzz.sh
 
 fmt:
-	@rt fmt
+	@for crate in crates/*/; do (cd "$$crate" && rt fmt) || exit 1; done
 
 install: all
 	install -d "$(ROOT)/lib/pkgconfig" "$(ROOT)/include" "$(ROOT)/bin" "$(ROOT)/share/man/man1"
@@ -132,4 +132,4 @@ uninstall:
 	    rm -f "$(ROOT)/$$file"; done
 
 clean:
-	rm -rf target build
+	rm -rf target build crates/*/out

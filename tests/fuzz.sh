@@ -71,7 +71,7 @@ fuzzer_or_stop() {
 # are made to ask.
 guarded_library() { # CRATE
     library=$libraries/$1.o
-    [ ! -f "$library" ] || [ -n "$(find crates crates.txt tests/fuzz.sh -newer "$library" | head -n 1)" ] || return 0
+    fresh "$library" && [ -z "$(find tests/fuzz.sh -newer "$library")" ] && return 0
     sh tools/build.sh module "build/$1.bc" "$1" || return 1
     compiler="$KIT_TOOLS/bin/clang --target=$MACHINE-linux-gnu -Wno-override-module"
     $compiler -S -emit-llvm -Xclang -disable-llvm-passes -x ir "build/$1.bc" -o - 2>"target/log/$1.guarded" |

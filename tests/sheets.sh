@@ -8,4 +8,4 @@ cd "$(dirname "$0")/.." || exit 2
 sh tools/bench.sh <examples/sheet.txt >target/log/fox_bench.sheets ||
     failed_to sheets "the bench program was not built or does not run"
 built sheets sheets tests/sheets/*.c $s/sheet.c $second $helpers
-"./$OUT/sheets" "${1:--}" $(kit_words) target/bin/fox_bench
+"./$OUT/sheets" "${1:--}" $(kit_words) crates/fox_bench/out/fox_bench

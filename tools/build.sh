@@ -10,83 +10,62 @@ stop() { # WHAT
     exit 1
 }
 
-# Proves the crate and has the kit make its archive, target/staticlib/libCRATE.a. All that it stands on is proved first, as
-# many crates at once as can be, with what the other crates of the station's calls stand on; rt would take one at a time.
-proved_archive() { # CRATE [KIT]
-    log=target/log/$1.staticlib like=$1
+# What an export's line of crates.txt says that it stands on; FORM is a name, or an expression for several.
+below() { # FORM
+    sed -n "s/^$1 staticlib: *//p" crates.txt
+}
+
+# Proves the crate and has the kit compile it for PROCESSOR, by the kit's rt or another one, into crates/CRATE/out/libCRATE.a.
+# All that it stands on is proved first, with what the other crates of the station's calls stand on, so that it can be said how
+# many of how many are proved.
+proved_archive() { # CRATE [RT]
+    log=target/log/$1.lib like=$1
     case $1 in fox_station_*) like='fox_station_[a-z]*' ;; esac
-    sh tools/prove.sh $(sed -n "s/^$like: *//p" crates.txt) || stop "$1 was not built"
+    sh tools/prove.sh $(below "$like") || stop "$1 was not built"
+    # The oldest processor of its kind that the kit compiles for.
+    case $PROCESSOR in
+        x86_64) oldest=x86-64 ;;
+        *) oldest=generic ;;
+    esac
     echo "    proving and compiling $1"
-    RATTLE_HOME=${2:-$KIT} rt staticlib "$1" >"$log" 2>&1 || {
-        grep -v -E '^(library|logic) |^logic=proved|^rt: .* proved \(' "$log" | tail -n 20 >&2
+    (cd "crates/$1" && "${2:-rt}" lib --target "$PROCESSOR-unknown-linux-gnu" --cpu "$oldest") >"$log" 2>&1 || {
+        last_said "$log" >&2
         stop "$1 was not built; $log has all that was said"
     }
 }
 
-# A kit like the one in use, but for a compiler that keeps what Rattle hands to it: the module, and the words of the command,
-# one to a line.
+# A kit like the one in use, but for a compiler that keeps the module that Rattle hands to it. rt finds its kit by where its own
+# files are, links followed, so that these are copied.
 keeping_kit() { # FOLDER MODULE
-    own=on/$MACHINE
-    rm -rf "$1"
-    mkdir -p "$1/$own/toolchain/bin"
-    for f in "$KIT"/* "$KIT/$own"/* "$KIT_TOOLS"/* "$KIT_TOOLS/bin"/*; do
+    mkdir -p "$1/bin" "$1/toolchain/bin" && cp "$KIT/bin/rt" "$KIT"/bin/*.py "$1/bin" || return
+    for f in "$KIT"/* "$KIT/bin"/* "$KIT_TOOLS"/* "$KIT_TOOLS/bin"/*; do
         to=$1${f#"$KIT"}
         [ -e "$to" ] || ln -s "$f" "$to"
     done
-    rm "$1/$own/toolchain/bin/clang"
-    cat >"$1/$own/toolchain/bin/clang" <<END
+    rm "$1/toolchain/bin/clang"
+    cat >"$1/toolchain/bin/clang" <<END
 #!/bin/sh
 for word; do case \$word in *.bc) cp "\$word" "$2" ;; esac; done
-printf '%s\n' "\$@" >"$2.words"
 exec "$KIT_TOOLS/bin/clang" "\$@"
 END
-    chmod +x "$1/$own/toolchain/bin/clang"
+    chmod +x "$1/toolchain/bin/clang"
 }
 
-# Whether a file was made since any source of a crate last changed.
-fresh() { # FILE
-    [ -f "$1" ] && [ -z "$(find crates crates.txt -newer "$1" | head -n 1)" ]
-}
-
-# The crate's module as Rattle hands it to its compiler, and in OUT.words the words that go with it.
+# The crate's module as Rattle hands it to its compiler.
 module() { # OUT CRATE
     fresh "$1" && return
-    keeping_kit "$PWD/build/kit" "$PWD/$1" && proved_archive "$2" "$PWD/build/kit" && [ -f "$1" ] ||
+    room=$(mktemp -d) || exit 1
+    trap 'rm -rf "$room"' EXIT
+    keeping_kit "$room/kit" "$PWD/$1" && proved_archive "$2" "$room/kit/bin/rt" && [ -f "$1" ] ||
         stop "the module of $2 was not kept"
-    rm -rf build/kit
     touch "$1"
 }
 
-# Compiles a module for PROCESSOR by the command that the kit compiled it with, but for the processor's name.
-compiled() { # OUT MODULE
-    set -- "$1" "$2" --target="$PROCESSOR-linux-gnu" -Wno-override-module
-    while IFS= read -r word; do
-        case $word in
-            --target=* | -march=* | --sysroot=*) ;;
-            *.bc) set -- "$@" "$2" ;;
-            *.o) set -- "$@" "$1" ;;
-            *) set -- "$@" "$word" ;;
-        esac
-    done <"$2.words"
-    shift 2
-    "$KIT_TOOLS/bin/clang" "$@" 2>"target/log/compiled"
-    status=$?
-    # The functions of the module name the processor that it was made for, of which the compiler then says this.
-    grep -v "is not a recognized processor for this target" target/log/compiled >&2
-    return "$status"
-}
-
-# The object of a crate's exports. For x86-64 it is what the kit makes; for another processor it is the kit's compiler's,
-# from the very module that the kit compiles.
+# The object of a crate's exports, with all in it that they need of the crates below.
 crate() { # OUT CRATE
-    if [ "$PROCESSOR" = x86_64 ]; then
-        archive=$PWD/target/staticlib/lib$2.a
-        fresh "$archive" || proved_archive "$2"
-        (cd "$OUT" && "$KIT_TOOLS/bin/llvm-ar" x "$archive" "$2.o") && touch "$1" || stop "$1 was not made"
-    else
-        module "build/$2.bc" "$2"
-        compiled "$1" "build/$2.bc" || stop "$1 was not made"
-    fi
+    proved_archive "$2"
+    archive=$PWD/crates/$2/out/lib$2.a
+    (cd "$OUT" && "$KIT_TOOLS/bin/llvm-ar" x "$archive" "$2.o") && touch "$1" || stop "$1 was not made"
 }
 
 object() { # OUT SOURCE WORDS..
@@ -115,4 +94,5 @@ program() { # OUT SOURCE.. LIBRARY
 
 sh tools/needs.sh || exit 1
 mkdir -p "$OUT" target/log
+out_folders || exit 1
 "$@"

@@ -5,13 +5,13 @@
 #   EMULATOR           what runs a program for it; nothing where the processor is the machine's own
 #   OUT                the folder that the library and the programs for it are made in
 #   DEBIAN             what Debian's packages for it have behind their names, as in gcc-x86-64-linux-gnu
-#   KIT, KIT_TOOLS     the Rattle kit, and its compiler for this machine; `rt doc` names a file in the kit's folder docs
+#   KIT, KIT_TOOLS     the Rattle kit, and its compiler; `rt doc` names a file right in the kit's folder
 MACHINE=$(uname -m)
 PROCESSOR=${PROCESSOR:-$MACHINE}
 export PROCESSOR
 guide=$(rt doc 2>/dev/null)
-KIT=${guide%/docs/*}
-KIT_TOOLS=$KIT/on/$MACHINE/toolchain
+KIT=${guide%/*}
+KIT_TOOLS=$KIT/toolchain
 EMULATOR='' OUT=build DEBIAN=''
 
 # Programs for an emulator are linked statically, so that it need not know where the libraries for that processor are.
@@ -22,7 +22,7 @@ else
     OUT=build/$PROCESSOR DEBIAN=-$(echo "$PROCESSOR" | tr _ -)-linux-gnu
     CC_PLAIN=$PROCESSOR-linux-gnu-gcc
     CC_HOST="$CC_PLAIN -static" CXX_HOST="$PROCESSOR-linux-gnu-g++ -static"
-    for e in "$KIT_TOOLS/bin/qemu-$PROCESSOR" "qemu-$PROCESSOR" "qemu-$PROCESSOR-static"; do
+    for e in "qemu-$PROCESSOR" "qemu-$PROCESSOR-static"; do
         command -v "$e" >/dev/null 2>&1 || continue
         EMULATOR=$e
         break
@@ -59,9 +59,31 @@ run_host() { # PROGRAM WORDS..
     if [ -n "$EMULATOR" ]; then "$EMULATOR" "$@"; else "$@"; fi
 }
 
-# The words that run a program of Rattle's, which is x86-64 code: the kit's own loader and C library and, on another
-# processor, its emulator. They go before the program's name.
+# The words that run a program of Rattle's: the kit's own loader and C library. They go before the program's name.
 kit_words() {
-    if [ -x "$KIT_TOOLS/bin/qemu-x86_64" ]; then echo "$KIT_TOOLS/bin/qemu-x86_64"; fi
     printf '%s\n' "$KIT_TOOLS/lib/ld-linux-x86-64.so.2" --library-path "$KIT_TOOLS/lib"
+}
+
+# Whether a file was made since any source of a crate last changed. What rt makes of a crate is in its folder out.
+fresh() { # FILE
+    [ -f "$1" ] && [ -z "$(find crates crates.txt -name out -prune -o -newer "$1" -print | head -n 1)" ]
+}
+
+# A crate's folder out is there before anything is made, so that a crate's folder changes only with what stands in it.
+out_folders() {
+    for crate in crates/*/; do mkdir -p "${crate}out" || return; done
+}
+
+# Whether a line of rt's says no more than what is read, and what is proved.
+usual() { # LINE
+    case $1 in
+        'statements '* | 'library '* | 'crate '* | 'logic '* | logic=proved* | 'axioms '* | 'linked '* | 'checked '*) ;;
+        'empty contracts: 0 '* | '== '* | 'rt: chose '* | *': proved' | *': proved, may '*) ;;
+        *) return 1 ;;
+    esac
+}
+
+# The last of what rt said besides.
+last_said() { # FILE
+    while IFS= read -r line; do usual "$line" || printf '%s\n' "$line"; done <"$1" | tail -n 20
 }

@@ -31,12 +31,12 @@ pub record InRange (cipher rounds : ℕ) (counter : List ℕ) (scans : List (Lis
   pub limits : past_limit cipher rounds (sizes_of scans) ≡ false
 
 -- a file that is right in all but perhaps its tag, and says this counter block, these sealed scans, these bytes before the line `close` and this tag
-pub record Says (cipher rounds : ℕ) (file counter : List ℕ) (sealed : List (List ℕ)) (before_close stored : List ℕ) : Type 0 where
+pub record Says (cipher rounds : ℕ) (file counter : List ℕ) (sealed : List (List ℕ)) (before stored : List ℕ) : Type 0 where
   pub header : is_header cipher rounds file ≡ true
   pub rest : is_rest cipher rounds file ≡ true
   pub block : counter_in cipher rounds file ≡ counter
   pub scans : scans_of cipher rounds file ≡ sealed
-  pub text : before_close cipher file ≡ before_close
+  pub text : before_close cipher file ≡ before
   pub tag : close_in cipher file ≡ stored
 
 -- two sets of values are the same

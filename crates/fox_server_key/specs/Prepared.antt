@@ -38,12 +38,12 @@ pub record Prepares (c n : ℕ) (bytes : List ℕ) (r : Preparation) : Type 0 wh
   pub key : r.key ≡ cond (eqb (refusal_of (for_key c n (length bytes))) 0) (prepared_key c n bytes) no_key
 
 -- a key that was prepared: refusal 0, the count of bytes in use, which is rounds times the block size, and the key's cipher, rounds and length
-pub record PreparedFor (c n key_len : ℕ) (r : Preparation) : Type 0 where
+pub record PreparedFor (c n k : ℕ) (r : Preparation) : Type 0 where
   pub refusal : r.answer.refusal ≡ 0
   pub count : r.answer.count ≡ block_size c * n
   pub cipher : r.key.cipher ≡ c
   pub rounds : r.key.rounds ≡ n
-  pub key_len : r.key.key_len ≡ key_len
+  pub key_len : r.key.key_len ≡ k
 
 -- a key that was refused: count 0, and zeros everywhere
 pub record Empty (r : Preparation) : Type 0 where

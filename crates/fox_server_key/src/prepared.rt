@@ -8,7 +8,7 @@ use fox_key_schedule::schedule::Schedule;
 use fox_refusals::answer::Answer;
 use fox_refusals::refusals::{block_size, for_key};
 
-#[derive(Drop)]
+#[derive(Clone, Copy)]
 pub struct Prepared {
     pub cipher: u32,
     pub rounds: u32,

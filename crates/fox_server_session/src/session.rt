@@ -14,7 +14,7 @@ use fox_server_session_block::block::{block_at, read_block};
 use fox_server_session_step::step::{Basis, Step, advance, move_to};
 use fox_session::{Here, Pair};
 
-#[derive(Drop)]
+#[derive(Clone, Copy)]
 pub struct Session {
     pub key: Prepared,
     pub counter: Pair,

@@ -15,7 +15,7 @@ use borrow.Author.Tests.{ltb-true, ltb-false, eqb-true, eqb-false, eq-eqb, ne_eq
 use Rattle.fox_layers.specs.Lists.{numbered}
 use Rattle.fox_layers.proofs.Laws.Lists.{by-test, length-numbered, numbered-at, numbered-snoc}
 use Rattle.fox_tag.specs.Cmac.{blocks_before, block_at, last_at, whole, filled, blocks, flat, padded}
-use Rattle.fox_tag.proofs.Laws.Parts.{block_size, block_room, before-within, last-is, last-few}
+use Rattle.fox_tag.proofs.Laws.Parts.{length-block_at, block_room, before-within, last-is, last-few}
 
 flat_append : (xs ys : List (List ℕ)) → flat (xs ++ ys) ≡ flat xs ++ flat ys
 unfolding flat
@@ -90,7 +90,7 @@ module _ (B : ℕ) (message : List ℕ) (some : 1 ≤ B) where
       (λ t.
       let few = ltb-true i q t in
       ap length (get_or-append first _ [] i (omega arith) ∙ numbered-at (block_at B message) q 0 i [] few ∙ ap (block_at B message) (zero-add i))
-      ∙ block_size B message i (block_room B q i few (before-within B message)))
+      ∙ length-block_at B message i (block_room B q i few (before-within B message)))
       (λ t.
       let here : i ≡ length first + 0 = omega (arith, ltb-false i q t, blocks-many) in
       ap (λ (j : ℕ). length (get_or (first ++ (cond (whole B message) (last_at B message) (filled B (last_at B message)) ∷ [])) j [])) here

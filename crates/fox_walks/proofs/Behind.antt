@@ -3,6 +3,7 @@
 --     Opened               what a walk has of a borrow while it is open
 --     opened, shut         a borrow is opened, which gives `Cell` and `Own`; it is shut for good at the value that the cell then holds, and what is left of
 --                          the reference says that this is its last value
+--     Left, leaves         all that a promise says of a reference at its last value: that it is this, and the borrow, closed; it is shut with all that left
 --     Lent                 what a walk has of a struct while it is lent
 --     lends, comes_back    a struct is lent for a lifetime that is made for it; the lifetime is ended, and the struct is there again, at the reference's last
 --                          value
@@ -10,10 +11,10 @@
 -- Assumes nothing.
 use Prim.Native.Nat.{ℕ}
 use mathlib.Core.List.{List, [], ◌∷◌}
-use seplogic.Ra.TreeShare.{full_share}
+use base.Fraction.{full_share}
 use mir.Syntax.{Lifetime, Ty}
 use mir.Val.{Val}
-use base.Fml.{Lft, GName, Share, Fml, fsep, fat, flft, fobs, fauth, fres, flent, fobor}
+use base.Fml.{Lft, GName, Share, Fml, fsep, fat, flft, fobs, fauth, fres, fbor, flent, fobor}
 use types.Kit.{Goal, Item, Soaks, Seq, Step, step, ‵, ◌⊛◌, some, later, ◌$◌}
 use types.Kit.{move, drop, use1, use3, split, pick, fsplit, fsplit3, fjoin, fjoin3, fpick, fpack, await}
 use types.SemTy.{Body}
@@ -61,10 +62,13 @@ module _ (T : Struct.Declared) (L : LL.Laws T) where
     b = x.ref_ptr.0
 
     abbrev o : ℕ
-    o = x.ptr.1
+    o = x.ref_ptr.1
 
     abbrev pub Opened : Fml
     Opened = fsep (fobor κ q (Body (mem R) b o x.ghost_name)) (fsep (fobs x.ghost_name (R.coded.code x.now)) (fauth x.ghost_name (R.coded.code x.now)))
+
+    abbrev pub Left : T.D → Fml
+    Left h = fsep (fres x.ghost_name (R.coded.code h)) (fbor κ (Body (mem R) b o x.ghost_name))
 
     module _ (w : World) {K : Type 0} {Γ : List (Item w.𝓤)} {G : Goal w.𝓤 w.𝓛.H} where
       pub opened : K → Soaks G → (ℓ : Lifetime) → (Typed (struct T L) x.now → Seq K (W w) (‵ (Cell b o x.now) ∷ ‵ (Own x.now) ∷ ‵ Opened ∷ Γ) G)
@@ -72,11 +76,14 @@ module _ (T : Struct.Declared) (L : LL.Laws T) where
       opened t z ℓ k =
           fsplit3 t $ drop t $ opens t z R {h = x.now} b o (λ vs. move t (2 ∷ 3 ∷ 4 ∷ []) $ fjoin3 t $ move t (1 ∷ 2 ∷ []) $ found b o w t x.now vs k)
 
-      pub shut : K → Soaks G → (h : T.D)
-          → Step K (W w) (‵ (fres x.name (R.coded.code h)) ∷ ‵ (flft κ q) ∷ Γ) G (‵ (Cell b o h) ∷ ‵ (Own h) ∷ ‵ Opened ∷ Γ) G
-      shut t z h = step (λ s.
+      pub leaves : K → Soaks G → (h : T.D) → Step K (W w) (‵ (Left h) ∷ ‵ (flft κ q) ∷ Γ) G (‵ (Cell b o h) ∷ ‵ (Own h) ∷ ‵ Opened ∷ Γ) G
+      leaves t z h = step (λ s.
           laid b o w t h $ move t (2 ∷ []) $ fsplit3 t $ move t (3 ∷ 4 ∷ []) $ closes t z R h (LL.vals T L h) b o $
-          use1 (W w) (‵ (fres x.name (R.coded.code h))) ((W w).names.obs-res x.name (R.coded.code h)) $ move t (1 ∷ []) $ drop t $ s)
+          use1 (W w) (‵ (fres x.ghost_name (R.coded.code h))) ((W w).names.obs-res x.ghost_name (R.coded.code h)) $ fjoin t $ s)
+
+      pub shut : K → Soaks G → (h : T.D)
+          → Step K (W w) (‵ (fres x.ghost_name (R.coded.code h)) ∷ ‵ (flft κ q) ∷ Γ) G (‵ (Cell b o h) ∷ ‵ (Own h) ∷ ‵ Opened ∷ Γ) G
+      shut t z h = step (λ s. leaves t z h $ fsplit t $ move t (1 ∷ []) $ drop t $ s)
 
   module _ (b o : ℕ) where
     abbrev ref : GName → T.D → MutBor T.D
@@ -87,18 +94,19 @@ module _ (T : Struct.Declared) (L : LL.Laws T) where
 
     module _ (w : World) {K : Type 0} {Γ : List (Item w.𝓤)} {G : Goal w.𝓤 w.𝓛.H} where
       pub lends : K → Soaks G → (ℓ : Lifetime) (h : T.D)
-          → ((ν : ℕ) (γ : GName) → Seq K (W w) (‵ ((MutRef ℓ (ν ∷ []) R).own_val (ref γ h) (mut_vals (ref γ h))) ∷ ‵ (flft (ν ∷ []) full_share) ∷ ‵ (Lent ν γ) ∷ Γ) G)
+          → ((ν : ℕ) (γ : GName)
+          → Seq K (W w) (‵ ((MutRef ℓ (ν ∷ []) R).own_val (ref γ h) (mut_vals (ref γ h))) ∷ ‵ (flft (ν ∷ []) full_share) ∷ ‵ (Lent ν γ) ∷ Γ) G)
           → Seq K (W w) (‵ (Cell b o h) ∷ ‵ (Own h) ∷ Γ) G
       unfolding part_of
       lends t z ℓ h k =
           laid b o w t h $ fjoin t $ fpack t (List Val) (λ us. fsep (cell_at full_share R.mir us b o) (R.own_val h us)) (LL.vals T L h) $
           lft_new t z (λ ν. move t (1 ∷ []) $
           use1 (W w) (later (some (λ (γ : GName). ‵ ((MutRef ℓ (ν ∷ []) R).own_val (ref γ h) (mut_vals (ref γ h))) ⊛ ‵ (Lent ν γ))))
-          (lends_ref w.𝓛 (W w) R ℓ (ν ∷ []) h b o) $ await t z $ pick t (λ γ. split t $ move t (0 ∷ 2 ∷ []) $ k ν γ))
+          (lends_ref (W w) R ℓ (ν ∷ []) h b o) $ await t z $ pick t (λ γ. split t $ move t (0 ∷ 2 ∷ []) $ k ν γ))
 
       pub comes_back : K → Soaks G → (ν : ℕ) (γ : GName) (h : T.D) → (Typed (struct T L) h → Seq K (W w) (‵ (Cell b o h) ∷ ‵ (Own h) ∷ Γ) G)
           → Seq K (W w) (‵ (flft (ν ∷ []) full_share) ∷ ‵ (Lent ν γ) ∷ ‵ (fres γ (R.coded.code h)) ∷ Γ) G
       unfolding part_of
       comes_back t z ν γ h k =
-          lft_end t z $ use3 (W w) (later (‵ (part_at R full_share h b o))) (ref_back w.𝓛 (W w) R (ν ∷ []) γ h b o) $ await t z $
+          lft_end t z $ use3 (W w) (later (‵ (part_at R full_share h b o))) (ref_back (W w) R (ν ∷ []) γ h b o) $ await t z $
           fpick t (λ vs. fsplit t $ found b o w t h vs k)

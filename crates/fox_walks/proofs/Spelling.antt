@@ -1,6 +1,6 @@
 -- How the values of a type are spelled by machine values, as a walk wants it of each parameter and each result: the machine value, that the type's relation
 -- tells it, and that it is of the type's MIR type.
---     𝓛                the rules of a model
+--     W                the logic of a model
 --     Spelling         of a type.        Typed     what is known of a value's machine value
 --     Spellings        of a list of types, with `Denote/Laws.antt`'s `Spells` and `Tellss` from them (`spells`, `tellss`).        AllTyped     of their values
 --     struct, enum     the spelling of a declared struct and of an enum
@@ -21,7 +21,7 @@ use denote.Laws as laws
 use denote.Laws.{Is, Ises, Are, Spells, valss, Tells, Tellss, Lawful}
 use denote.Builtin.{u8, u64}
 use denote.Plain.{uint_Tells, uint_Lawful}
-use denote.Ref.{Bor, MutRef, mut_Tells, mut_Lawful}
+use denote.Ref.{Bor, MutBor, MutRef, mut_Tells, mut_Lawful}
 use denote.Slice.{ShrSlice, MutSlice, slice_val, shr_slice_Tells, shr_slice_Lawful, mut_slice_Tells, mut_slice_Lawful}
 use denote.Enum.Declared as Enum
 use denote.Enum.Enum.{Few}
@@ -65,26 +65,29 @@ all_typed w [] ss a are = tt
 all_typed w (R ∷ Rs) ss a are = (typed ss.0 w a.0 _ are.0, all_typed w Rs ss.1 a.1 are.1)
 
 abbrev pub struct : (T : Struct.Declared) → LL.Laws T → Spelling (Struct.row T)
-struct T L = record { val = LL.val T L; tells = LL.tells T L; lawful = λ w. LL.lawful T L w.𝓛 (W w) }
+struct T L = record { val = LL.val T L; tells = LL.tells T L; lawful = λ w. LL.lawful T L (W w) }
 
 abbrev pub enum : (T : Enum.Declared) → EL.Laws T → Few (Enum.shape T) → Spelling (Enum.row T)
-enum T L few = record { val = EL.val T L; tells = EL.tells T L; lawful = λ w. EL.lawful T L w.𝓛 (W w) few }
+enum T L few = record { val = EL.val T L; tells = EL.tells T L; lawful = λ w. EL.lawful T L (W w) few }
 
 abbrev pub number : Spelling u64
-number = record { val = vint w64; tells = uint_Tells w64; lawful = λ w. uint_Lawful w.𝓛 (W w) w64 }
+number = record { val = vint w64; tells = uint_Tells w64; lawful = λ w. uint_Lawful (W w) w64 }
 
 abbrev slice : Bor (List ℕ) → Val
 slice x = slice_val x.ref_ptr (length x.now)
 
+abbrev mut_slice : MutBor (List ℕ) → Val
+mut_slice x = slice_val x.ref_ptr (length x.now)
+
 abbrev pub shared : (ℓ : Lifetime) (κ : Lft) → Spelling (ShrSlice ℓ κ u8)
-shared ℓ κ = record { val = slice; tells = shr_slice_Tells ℓ κ u8; lawful = λ w. shr_slice_Lawful w.𝓛 (W w) ℓ κ u8 }
+shared ℓ κ = record { val = slice; tells = shr_slice_Tells ℓ κ u8; lawful = λ w. shr_slice_Lawful (W w) ℓ κ u8 }
 
 abbrev pub lent : (ℓ : Lifetime) (κ : Lft) → Spelling (MutSlice ℓ κ u8)
-lent ℓ κ = record { val = slice; tells = mut_slice_Tells ℓ κ u8; lawful = λ w. mut_slice_Lawful w.𝓛 (W w) ℓ κ u8 }
+lent ℓ κ = record { val = mut_slice; tells = mut_slice_Tells ℓ κ u8; lawful = λ w. mut_slice_Lawful (W w) ℓ κ u8 }
 
 abbrev pub behind : (ℓ : Lifetime) (κ : Lft) (R : RattleType) → Spelling (MutRef ℓ κ R)
 behind ℓ κ R = record {
-  val = λ x. vptr x.ptr.0 x.ptr.1;
+  val = λ x. vptr x.ref_ptr.0 x.ref_ptr.1;
   tells = mut_Tells ℓ κ R;
-  lawful = λ w. mut_Lawful w.𝓛 (W w) ℓ κ R;
+  lawful = λ w. mut_Lawful (W w) ℓ κ R;
 }

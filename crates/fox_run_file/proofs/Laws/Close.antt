@@ -43,10 +43,11 @@ tail-scan : {t u : List ℕ} (number : ℕ) → Tail t u → Tail t (after_scan 
 unfolding after_scan
 tail-scan {u = u} number p = tail-drop (suc (size_in number u)) (tail-drop (head_in number u) p)
 
-tail-scans : {t u : List ℕ} (most n : ℕ) → Tail t u → Tail t (after_scans most n u)
+tail-scans : {t : List ℕ} (most n : ℕ) (u : List ℕ) → Tail t u → Tail t (after_scans most n u)
 unfolding after_scans
-tail-scans zero n p = p
-tail-scans {u = u} (suc most) n p = by-test (is_scan (suc n) u) (λ e. rw e (tail-scans most (suc n) (tail-scan (suc n) p))) (λ e. rw e p)
+tail-scans zero n u p = p
+tail-scans (suc most) n u p =
+    by-test (is_scan (suc n) u) (λ e. rw e (tail-scans most (suc n) (after_scan (suc n) u) (tail-scan (suc n) p))) (λ e. rw e p)
 
 -- an end of so many bytes is what is left after all but these
 tail-last : {t u : List ℕ} (k : ℕ) → Tail t u → length u ≡ k → 1 ≤ k → (k ≤ length t) × (u ≡ drop (length t - k) t)
@@ -92,7 +93,7 @@ closed cipher rounds file e =
     let (lines, none) = both (starts_with (decimal_line_text scans_name n) t && is_block_line close_name cipher u) (empty (after_line u)) end in
     let right = (both (starts_with (decimal_line_text scans_name n) t) (is_block_line close_name cipher u) lines).1 in
     let from : Tail file u =
-    tail-drop (length (decimal_line_text scans_name n)) (tail-scans 65535 0 (record { at = header_size cipher rounds; is = refl })) in
+    tail-drop (length (decimal_line_text scans_name n)) (tail-scans 65535 0 (scans_from cipher rounds file) (record { at = header_size cipher rounds; is = refl })) in
     let (room, is) = tail-last (block_line_size close_name cipher) from (alone close_name cipher u right none) (omega arith) in
     record { room = room; line = rw is at right; short = leb-true (length (before_close cipher file)) 1073741824 short }
 

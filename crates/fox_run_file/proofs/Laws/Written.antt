@@ -68,8 +68,8 @@ module _ (n : ℕ) (s r : List ℕ) where
       rw (second-line, end-decimal-text bytes_name (length s) (s ++ 10 ∷ r) bytes-plain)
       (sym (length-append (decimal_line_text scan_name n) (decimal_line_text bytes_name (length s))))
 
-  pub from_bytes : from_bytes n (scan_text n s ++ r) ≡ s ++ 10 ∷ r
-  from_bytes = rw (head_read, scan-parts) (drop-append_seam (scan_head n (length s)) _)
+  pub from_bytes-scan_text : from_bytes n (scan_text n s ++ r) ≡ s ++ 10 ∷ r
+  from_bytes-scan_text = rw (head_read, scan-parts) (drop-append_seam (scan_head n (length s)) _)
 
   module _ (short : length s ≤ 65536) where
     pub size-read : size_in n (scan_text n s ++ r) ≡ length s
@@ -86,17 +86,17 @@ module _ (n : ℕ) (s r : List ℕ) where
           second-line,
           right-decimal-text bytes_name (length s) (s ++ 10 ∷ r) bytes-plain 65536 short (omega arith),
           size-read,
-          from_bytes,
+          from_bytes-scan_text,
           drop-append_seam s (10 ∷ r),
         )
 
     pub bytes_read : bytes_in n (scan_text n s ++ r) ≡ s
     unfolding bytes_in
-    bytes_read = rw (size-read, from_bytes) (take-append_seam s (10 ∷ r))
+    bytes_read = rw (size-read, from_bytes-scan_text) (take-append_seam s (10 ∷ r))
 
     pub scan-passed : after_scan n (scan_text n s ++ r) ≡ r
     unfolding after_scan
-    scan-passed = rw (size-read, from_bytes) (drop-written s 10 r)
+    scan-passed = rw (size-read, from_bytes-scan_text) (drop-written s 10 r)
 
 -- the line after the last scan is no scan
 pub scans-no-scan : (n k : ℕ) (r : List ℕ) → is_scan n (decimal_line_text scans_name k ++ r) ≡ false

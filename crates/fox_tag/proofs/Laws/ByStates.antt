@@ -21,14 +21,14 @@ use Rattle.fox_tag.specs.Tag.{tag_with, chain_of}
 use Rattle.fox_tag.specs.States.{xor_states}
 use Rattle.fox_tag.proofs.Laws.Chain.{chained_to-first, chained_to-on, chained_to-tag}
 use Rattle.fox_tag.proofs.Laws.Doubling.{length-doubled}
-use Rattle.fox_tag.proofs.Laws.Parts.{block_size, block_room}
+use Rattle.fox_tag.proofs.Laws.Parts.{length-block_at, block_room}
 use Rattle.fox_tag.proofs.Laws.States.{zero-block, zeros-bytes, chained-block, absorbed}
 
 pub block_of : (c : ℕ) (message : List ℕ) (i : ℕ) → Bytes message → (i + 1) * block_size c ≤ length message → BlockOf c (block_at (block_size c) message i)
 unfolding block_at
 block_of c message i h room =
     let B = block_size c in
-    record { size = block_size B message i room; bytes = take-bytes B (drop (i * B) message) (drop-bytes (i * B) message h) }
+    record { size = length-block_at B message i room; bytes = take-bytes B (drop (i * B) message) (drop-bytes (i * B) message h) }
 
 room : (l B : ℕ) → (l ≡ B → ⊥) → l ≤ B → l + suc (B - 1 - l) ≡ B
 room l B isnt few = omega arith

@@ -33,9 +33,9 @@ size-most c = both (eqb c 64)
 
 -- block number i, where it lies within the message
 
-pub block_size : (B : ℕ) (message : List ℕ) (i : ℕ) → (i + 1) * B ≤ length message → length (block_at B message i) ≡ B
+pub length-block_at : (B : ℕ) (message : List ℕ) (i : ℕ) → (i + 1) * B ≤ length message → length (block_at B message i) ≡ B
 unfolding block_at
-block_size B message i h = length-take-le B (drop (i * B) message) (rw (length-drop (i * B) message) (omega arith))
+length-block_at B message i h = length-take-le B (drop (i * B) message) (rw (length-drop (i * B) message) (omega arith))
 
 -- as code takes it
 pub block-taken : (B : ℕ) (message : List ℕ) (i : ℕ) → take (i * B + B - i * B) (drop (i * B) message) ≡ block_at B message i

@@ -108,7 +108,7 @@ zero-block c = record { size = length-replicate (block_size c) 0; bytes = zeros-
 pub chained-block : (c : ℕ) (rks start : List ℕ) (ms : List (List ℕ)) → BlockOf c start → BlockOf c (chained (seal_with c rks) start ms)
 unfolding chained
 chained-block c rks start [] b = b
-chained-block c rks start (m ∷ ms) b = chained-block c rks _ ms (sealed-block c rks (xor_each start m))
+chained-block c rks start (m ∷ ms) b = chained-block c rks (seal_with c rks (xor_each start m)) ms (sealed-block c rks (xor_each start m))
 
 -- a state sealed is the state of the sealed block
 pub sealed-state : (c : ℕ) (rks block : List ℕ) → BlockOf c block → turned true rks (state c block) ≡ state c (seal_with c rks block)

@@ -7,11 +7,11 @@ use Rattle.fox_card_block.proofs.Laws.Part.{least-below, least_above}
 use Rattle.fox_card_block.proofs.part.least.Statement.{statement}
 use Rattle.fox_card_block.proofs.part.least.Tie as tie
 
-returns : tie.Need-returns
-returns c = let a = c.before.args in omega (arith, least-below a.a a.b c.if1.true)
+returns : tie.Need-returns-then-a-b
+returns c = let a = c.before.args in omega (arith, least-below a.a a.b c.if-a-b.true)
 
-returns-2 : tie.Need-returns-2
-returns-2 c = let a = c.before.args in sym (least_above a.a a.b c.if1.false)
+returns-2 : tie.Need-returns
+returns-2 c = let a = c.before.args in sym (least_above a.a a.b c.if-a-b.false)
 
 pub least_spec : {M : Type 1} → statement M
 least_spec = tie.close (tie.spec (λ c. search rules) returns returns-2)

@@ -9,7 +9,7 @@ returns : tie.Need-returns
 returns c =
     let led = c.before.before in
     let a = led.before.before.args in
-    round_on-made a.sealing a.s a.i a.h led.before.round-key.ensures led.led.ensures c.before.round.ensures c.onward.ensures
+    round_on-made a.sealing a.s a.i a.h led.before.round_key-k.ensures led.led-y.ensures c.before.round.ensures c.onward.ensures
 
 pub round_on_spec : {M : Type 1} → statement M
 round_on_spec = tie.close (tie.spec (λ c κs. search rules) (λ c κs. search rules) (λ c κs. search rules) (λ c κs. search rules) returns)

@@ -10,16 +10,16 @@ use Rattle.fox_card_block.proofs.Laws.Hold.{turned_on}
 use Rattle.fox_card_block.proofs.rounds.turned.Statement.{statement}
 use Rattle.fox_card_block.proofs.rounds.turned.Tie as tie
 
-rounds-on-requires : tie.Need-rounds-on-requires
-rounds-on-requires c κs = c.first.ensures.small
+rounds-on-requires : tie.Need-rounds_on-done-requires
+rounds-on-requires c κs = c.first-reg.ensures.small
 
 returns : tie.Need-returns
 unfolding round_key_of
 returns c =
     let begun = c.before in
     let a = begun.before.args in
-    ap (λ (h : Hold). h.state) c.rounds-on.ensures
-    ∙ turned_on a.sealing (round_key_at a.s) (steps a.s) a.rounds a.x (search rules) (search rules) begun.first.ensures
+    ap (λ (h : Hold). h.state) c.rounds_on-done.ensures
+    ∙ turned_on a.sealing (round_key_at a.s) (steps a.s) a.rounds a.x (search rules) (search rules) begun.first-reg.ensures
 
 pub turned_spec : {M : Type 1} → statement M
 turned_spec = tie.close (tie.spec (λ c κs. search rules) rounds-on-requires returns)

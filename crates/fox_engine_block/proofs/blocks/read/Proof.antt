@@ -7,16 +7,16 @@ use Rattle.fox_engine_block.proofs.blocks.read.Statement.{statement}
 use Rattle.fox_engine_block.proofs.blocks.read.Tie as tie
 
 read64-requires : tie.Need-read64-requires
-read64-requires c κs = c.before.before.requires ∙ size_64 _ c.if1.true
+read64-requires c κs = c.before.before.requires ∙ size_64 _ c.if-cipher-eq64.true
 
-returns : tie.Need-returns
-returns c = ap Of64 c.read64.ensures ∙ sym (state-64 _ _ c.before.if1.true)
+returns : tie.Need-returns-then-cipher-eq64
+returns c = ap Of64 c.read64.ensures ∙ sym (state-64 _ _ c.before.if-cipher-eq64.true)
 
 read128-requires : tie.Need-read128-requires
-read128-requires c κs = c.before.before.requires ∙ size-128 _ c.if1.false
+read128-requires c κs = c.before.before.requires ∙ size-128 _ c.if-cipher-eq64.false
 
-returns-2 : tie.Need-returns-2
-returns-2 c = ap Of128 c.read128.ensures ∙ sym (state-128 _ _ c.before.if1.false)
+returns-2 : tie.Need-returns-else-cipher-eq64
+returns-2 c = ap Of128 c.read128.ensures ∙ sym (state-128 _ _ c.before.if-cipher-eq64.false)
 
 pub read_spec : {M : Type 1} → statement M
 read_spec = tie.close (tie.spec read64-requires read128-requires returns returns-2)

@@ -16,9 +16,9 @@ returns c =
     λ i.
     record {
       ll = (c.new.ensures.0 ∙ c4.load4.ensures) i;
-      lr = (c.new.ensures.1 ∙ c3.load42.ensures) i;
-      rl = (c.new.ensures.2 ∙ c2.load43.ensures) i;
-      rr = (c.new.ensures.3 ∙ c1.load44.ensures) i;
+      lr = (c.new.ensures.1 ∙ c3.load4-2.ensures) i;
+      rl = (c.new.ensures.2 ∙ c2.load4-3.ensures) i;
+      rr = (c.new.ensures.3 ∙ c1.load4-4.ensures) i;
     }
 
 pub read128_spec : {M : Type 1} → statement M

@@ -20,16 +20,16 @@ returns r =
     let x = start.args.x in
     let fits = start.well_formed.0.1.1.1 in
     let one = carry-le x.rr start.args.i fits.1.1.0.1 (omega arith) in
-    let a = out-of-rr.carry.ensures in
+    let a = out-of-rr.carry-a.ensures in
     let b = ap₂ bit_and a through-rl.passed_on.ensures ∙ carry-passed x.rl _ fits.1.0.1 one in
-    let c = ap₂ bit_and b through-lr.passed-on2.ensures
+    let c = ap₂ bit_and b through-lr.passed_on-2.ensures
     ∙ carry-passed x.lr _ fits.0.1 (carry-le x.rl _ fits.1.0.1 (omega (arith, one))) in
     λ j.
     record {
-      ll = (first.wrapping-add-u32.ensures ∙ ap (λ (n : ℕ). (x.ll + n) % 2 ^ 32) c) j;
-      lr = (second.wrapping-add-u322.ensures ∙ ap (λ (n : ℕ). (x.lr + n) % 2 ^ 32) b) j;
-      rl = (third.wrapping-add-u323.ensures ∙ ap (λ (n : ℕ). (x.rl + n) % 2 ^ 32) a) j;
-      rr = r.wrapping-add-u324.ensures j;
+      ll = (first.wrapping_add_u32.ensures ∙ ap (λ (n : ℕ). (x.ll + n) % 2 ^ 32) c) j;
+      lr = (second.wrapping_add_u32-2.ensures ∙ ap (λ (n : ℕ). (x.lr + n) % 2 ^ 32) b) j;
+      rl = (third.wrapping_add_u32-3.ensures ∙ ap (λ (n : ℕ). (x.rl + n) % 2 ^ 32) a) j;
+      rr = r.wrapping_add_u32-4.ensures j;
     }
 
 pub counted128_spec : {M : Type 1} → statement M

@@ -13,8 +13,8 @@ returns c =
     let x = made.before.args.x in
     λ j.
     record {
-      l = (first.wrapping-add-u32.ensures ∙ ap (λ (n : ℕ). (x.l + n) % 2 ^ 32) made.carry.ensures) j;
-      r = c.wrapping-add-u322.ensures j;
+      l = (first.wrapping_add_u32.ensures ∙ ap (λ (n : ℕ). (x.l + n) % 2 ^ 32) made.carry-a.ensures) j;
+      r = c.wrapping_add_u32-2.ensures j;
     }
 
 pub counted64_spec : {M : Type 1} → statement M

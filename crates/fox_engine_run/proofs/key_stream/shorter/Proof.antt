@@ -6,10 +6,10 @@ use borrow.Author.Rules.{rules}
 use Rattle.fox_engine_run.proofs.key_stream.shorter.Statement.{statement}
 use Rattle.fox_engine_run.proofs.key_stream.shorter.Tie as tie
 
-returns : tie.Need-returns
+returns : tie.Need-returns-then-a-b
 returns c = (search rules, search rules, inl refl)
 
-returns-2 : tie.Need-returns-2
+returns-2 : tie.Need-returns-else-a-b
 returns-2 c = (search rules, search rules, inr refl)
 
 pub shorter_spec : {M : Type 1} → statement M

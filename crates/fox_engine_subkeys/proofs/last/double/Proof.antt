@@ -16,11 +16,11 @@ use Rattle.fox_tag.proofs.Laws.Doubling.{shifted, length-shifted, shifted_at, do
 use Rattle.fox_engine_subkeys.proofs.last.double.Statement.{statement}
 use Rattle.fox_engine_subkeys.proofs.last.double.Tie as tie
 
-abbrev invariant-loop : tie.invariant-loop
+abbrev invariant-loop : tie.invariant-loop-i
 invariant-loop block₀ last top i₀ block i =
     (i ≤ last) × (length block₀ ≡ suc last) × (length block ≡ length block₀) × (block ≡ take i (shifted block₀ 0) ++ drop i block₀)
 
-abbrev decreases-loop : tie.decreases-loop
+abbrev decreases-loop : tie.decreases-loop-i
 decreases-loop block₀ last top i₀ block i = last - i
 
 -- one more byte
@@ -50,33 +50,33 @@ last_byte os now n i r h long done e er small =
     ∙ sym (doubled-done n os h long (rw is at small))
     ∙ ap (λ (k : ℕ). doubled k os) (sym long)
 
-loop-holds : tie.Need-loop-init invariant-loop decreases-loop
+loop-holds : tie.Need-loop-i-init invariant-loop decreases-loop
 loop-holds c = (search rules, search rules, refl, refl)
 
-add-block-2 : tie.Need-overflow-add-block-2 invariant-loop decreases-loop
-add-block-2 c = omega (arith, c.slice-known4.given (c.before.before.before.loop.i + 1))
+add-block-2 : tie.Need-overflow_add-block-in-loop-i invariant-loop decreases-loop
+add-block-2 c = omega (arith, c.slice_known-in-loop-i-2-1.given (c.before.before.before.loop-i.i + 1))
 
-loop-again : tie.Need-loop-preserved invariant-loop decreases-loop
+loop-again : tie.Need-loop-i-preserved invariant-loop decreases-loop
 loop-again c =
     let at = c.before.before.before in
-    let inv = at.loop.invariant in
+    let inv = at.loop-i.invariant in
     let a = at.before.before.before.args in (
       search rules,
       inv.1,
-      length-set at.loop.block at.loop.i _ ∙ inv.2,
-      more a.block.now at.loop.block _ at.loop.i (search rules) inv.1 inv.3,
+      length-set at.loop-i.block at.loop-i.i _ ∙ inv.2,
+      more a.block.now at.loop-i.block _ at.loop-i.i (search rules) inv.1 inv.3,
     )
 
 reduced-requires : tie.Need-reduced-requires invariant-loop decreases-loop
-reduced-requires c κs = omega (arith, c.before.before.before.slice-known2.given 0)
+reduced-requires c κs = omega (arith, c.before.before.before.slice_known-2-1.given 0)
 
 returns : tie.Need-returns invariant-loop decreases-loop
 returns c =
     let at = c.before.before.before in
-    let inv = at.loop.invariant in
+    let inv = at.loop-i.invariant in
     let start = at.before.before in
     let a = start.before.args in
-    last_byte a.block.now at.loop.block _ at.loop.i c.reduced.result (λ i. (start.slice-known.given i).fits) inv.1 (search rules) inv.3
+    last_byte a.block.now at.loop-i.block _ at.loop-i.i c.reduced.result (λ i. (start.slice_known-1.given i).fits) inv.1 (search rules) inv.3
     (c.reduced.ensures ∙ ap (λ (k : ℕ). get_or a.block.now 0 0 / 128 * reduction k) inv.2) (search rules)
 
 pub double_spec : {M : Type 1} → statement M

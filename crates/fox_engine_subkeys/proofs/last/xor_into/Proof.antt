@@ -13,11 +13,11 @@ use Rattle.fox_bytes.proofs.Laws.XorEach.{length-xor_each-min, get_or-xor_each, 
 use Rattle.fox_engine_subkeys.proofs.last.xor_into.Statement.{statement}
 use Rattle.fox_engine_subkeys.proofs.last.xor_into.Tie as tie
 
-abbrev invariant-loop : tie.invariant-loop
+abbrev invariant-loop : tie.invariant-loop-i
 invariant-loop block₀ part i₀ i-end block i =
     (i ≤ length part) × (length part ≤ length block₀) × (length block ≡ length block₀) × (block ≡ take i (xor_each block₀ part) ++ drop i block₀)
 
-abbrev decreases-loop : tie.decreases-loop
+abbrev decreases-loop : tie.decreases-loop-i
 decreases-loop block₀ part i₀ i-end block i = length part - i
 
 -- one more byte
@@ -31,27 +31,27 @@ more os part now i here room e =
     (ap (λ (b : ℕ). b ⊕ get_or part i 0) old ∙ sym (get_or-xor_each os part i (omega arith) here))
     ∙ written_next (xor_each os part) os now i (omega arith) (omega arith) e
 
-loop-holds : tie.Need-loop-init invariant-loop decreases-loop
+loop-holds : tie.Need-loop-i-init invariant-loop decreases-loop
 loop-holds c = (omega arith, search rules, refl, refl)
 
-loop-again : tie.Need-loop-preserved invariant-loop decreases-loop
+loop-again : tie.Need-loop-i-preserved invariant-loop decreases-loop
 loop-again c =
     let at = c.before.before.before in
-    let inv = at.loop.invariant in
+    let inv = at.loop-i.invariant in
     let a = at.before.args in (
       search rules,
       inv.1,
-      length-set at.loop.block at.loop.i _ ∙ inv.2,
-      more a.block.now a.part.now at.loop.block at.loop.i (search rules) inv.1 inv.3,
+      length-set at.loop-i.block at.loop-i.i _ ∙ inv.2,
+      more a.block.now a.part.now at.loop-i.block at.loop-i.i (search rules) inv.1 inv.3,
     )
 
 returns : tie.Need-returns invariant-loop decreases-loop
 returns c =
     let at = c.before in
-    let inv = at.loop.invariant in
+    let inv = at.loop-i.invariant in
     let a = at.before.args in
     let s = xor_each a.block.now a.part.now in
-    let all : at.loop.i ≡ length a.part.now = search rules in
+    let all : at.loop-i.i ≡ length a.part.now = search rules in
     inv.3
     ∙ ap (λ (n : ℕ). take n s ++ drop n a.block.now) all
     ∙ ap (λ (xs : List ℕ). xs ++ drop (length a.part.now) a.block.now)

@@ -4,7 +4,7 @@ use mathlib.Core.Path.{ap, ◌∙◌}
 use native.Mathlib.Omega.{arith}
 use lib.ListN.{length}
 use borrow.Author.Rules.{rules}
-use Rattle.fox_tag.proofs.Laws.Parts.{block_size, block-taken}
+use Rattle.fox_tag.proofs.Laws.Parts.{length-block_at, block-taken}
 use Rattle.fox_engine_subkeys.proofs.parts.block_part.Statement.{statement}
 use Rattle.fox_engine_subkeys.proofs.parts.block_part.Tie as tie
 
@@ -13,7 +13,7 @@ returns c =
     let start = c.before in
     let a = start.args in
     let is = block-taken a.size a.message.now a.i in
-    (is, ap length is ∙ block_size a.size a.message.now a.i start.requires)
+    (is, ap length is ∙ length-block_at a.size a.message.now a.i start.requires)
 
 pub block_part_spec : {M : Type 1} → statement M
 block_part_spec =

@@ -10,14 +10,14 @@ use Rattle.fox_tag.specs.Cmac.{blocks_before}
 use Rattle.fox_engine_subkeys.proofs.parts.blocks_before.Statement.{statement}
 use Rattle.fox_engine_subkeys.proofs.parts.blocks_before.Tie as tie
 
-returns : tie.Need-returns
+returns : tie.Need-returns-then-message-eq0
 unfolding blocks_before
 returns c =
     let size = c.before.args.size in
     let none : length c.before.args.message.now - 1 ≡ 0 = search rules in
     sym (ap (λ (n : ℕ). n / size) none ∙ zero-div size)
 
-returns-2 : tie.Need-returns-2
+returns-2 : tie.Need-returns
 unfolding blocks_before
 returns-2 c = search rules
 

@@ -15,23 +15,23 @@ use Rattle.fox_engine_subkeys.proofs.parts.last_part.Tie as tie
 start-within : (n size : ℕ) (message : List ℕ) → n ≡ blocks_before size message → n * size ≤ length message
 start-within n size message e = rw e (before-within size message)
 
-mul_at : tie.Need-overflow-mul-at
+mul_at : tie.Need-overflow_mul-at
 mul_at c =
     let a = c.before.before.args in
-    let within = start-within _ a.size a.message.now c.blocks-before.ensures in
+    let within = start-within _ a.size a.message.now c.blocks_before.ensures in
     omega arith
 
-sub-result : tie.Need-overflow-sub-result
-sub-result c = let a = c.before.before.args in start-within _ a.size a.message.now c.blocks-before.ensures
+sub-result : tie.Need-slice_bounds-result-count
+sub-result c = let a = c.before.before.args in start-within _ a.size a.message.now c.blocks_before.ensures
 
-part-result-start : tie.Need-slice-bounds-result-start
-part-result-start c = let a = c.before.before.args in start-within _ a.size a.message.now c.blocks-before.ensures
+part-result-start : tie.Need-slice_bounds-result-start
+part-result-start c = let a = c.before.before.args in start-within _ a.size a.message.now c.blocks_before.ensures
 
 returns : tie.Need-returns
 returns c =
     let start = c.before.before.before in
     let a = start.args in
-    let is = ap (λ (n : ℕ). take (length a.message.now - n * a.size) (drop (n * a.size) a.message.now)) c.before.blocks-before.ensures
+    let is = ap (λ (n : ℕ). take (length a.message.now - n * a.size) (drop (n * a.size) a.message.now)) c.before.blocks_before.ensures
     ∙ last_taken a.size a.message.now start.requires in
     (is, rw is (last-few a.size a.message.now start.requires))
 

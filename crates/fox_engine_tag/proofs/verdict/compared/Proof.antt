@@ -13,21 +13,21 @@ use Rattle.fox_engine_tag.proofs.verdict.compared.Tie as tie
 answered : {n : ℕ} (right stored : List ℕ) (u : Bool) → same right stored ≡ u → n ≡ cond u 0 10 → n ≡ cond (same right stored) 0 10
 answered right stored u e f = f ∙ ap (λ (b : Bool). cond b 0 10) (sym e)
 
-returns : tie.Need-returns
+returns : tie.Need-returns-then-differ
 returns c =
     let at = c.before in
     let a = at.before.before.before.before.args in
     record {
-      refusal = answered a.right.now a.stored.now false (not-true _ (sym at.before.differ.ensures ∙ at.if1.true)) c.refused.ensures.0;
+      refusal = answered a.right.now a.stored.now false (not-true _ (sym at.before.differ.ensures ∙ at.if-differ.true)) c.refused.ensures.0;
       count = c.refused.ensures.1;
     }
 
-returns-2 : tie.Need-returns-2
+returns-2 : tie.Need-returns
 returns-2 c =
     let at = c.before in
     let a = at.before.before.before.before.args in
     record {
-      refusal = answered a.right.now a.stored.now true (not-false _ (sym at.before.differ.ensures ∙ at.if1.false)) c.served.ensures.0;
+      refusal = answered a.right.now a.stored.now true (not-false _ (sym at.before.differ.ensures ∙ at.if-differ.false)) c.served.ensures.0;
       count = c.served.ensures.1;
     }
 

@@ -12,25 +12,25 @@ use Rattle.fox_engine_tag.proofs.verdict.verdict.Tie as tie
 
 compared64-requires : tie.Need-compared64-requires
 unfolding size
-compared64-requires c κs = let at = c.before in at.before.before.before.requires ∙ ap size at.x.given.1
+compared64-requires c κs = let at = c.before in at.before.before.before.requires ∙ ap size at.x-1.given.1
 
 compared128-requires : tie.Need-compared128-requires
 unfolding size
-compared128-requires c κs = let at = c.before in at.before.before.before.requires ∙ ap size at.x2.given.1
+compared128-requires c κs = let at = c.before in at.before.before.before.requires ∙ ap size at.x-in-Of128-1.given.1
 
-returns : tie.Need-returns
+returns : tie.Need-returns-in-Of64
 unfolding bytes
 returns c =
     let at = c.before.before in
     let a = at.before.before.before.args in
-    subst (λ (right : List ℕ). Compared right a.stored.now c.compared64.result) (sym (ap bytes at.x.given.1)) c.compared64.ensures
+    subst (λ (right : List ℕ). Compared right a.stored.now c.compared64.result) (sym (ap bytes at.x-1.given.1)) c.compared64.ensures
 
-returns-2 : tie.Need-returns-2
+returns-2 : tie.Need-returns-in-Of128
 unfolding bytes
 returns-2 c =
     let at = c.before.before in
     let a = at.before.before.before.args in
-    subst (λ (right : List ℕ). Compared right a.stored.now c.compared128.result) (sym (ap bytes at.x2.given.1)) c.compared128.ensures
+    subst (λ (right : List ℕ). Compared right a.stored.now c.compared128.result) (sym (ap bytes at.x-in-Of128-1.given.1)) c.compared128.ensures
 
 pub verdict_spec : {M : Type 1} → statement M
 verdict_spec = tie.close (tie.spec (λ c. search rules) compared64-requires (λ c. search rules) compared128-requires returns returns-2)

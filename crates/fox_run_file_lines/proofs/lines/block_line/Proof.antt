@@ -9,8 +9,8 @@ returns : tie.Need-returns
 unfolding is_block_line block_in
 returns c =
     let read = c.before.before.before.before in
-    let size = read.before.before.block_size.ensures in
-    let pairs = read.pairs-line.ensures in
+    let size = read.before.before.block_size-size.ensures in
+    let pairs = read.pairs_line-got.ensures in
     record { right = rw (pairs.right, pairs.stored.count, size); bytes = rw (← size) pairs.stored.bytes }
 
 pub block_line_spec : {M : Type 1} → statement M

@@ -19,8 +19,8 @@ returns c =
     let text = size.before.before in
     let put = text.before.before in
     let a = put.before.before.before.before.args in
-    let long : put.put-key-lines.result ≡ length (key_lines a.cipher a.rounds) = omega (arith, put.put-key-lines.ensures.place) in
-    rw (← size.block_size.ensures, ← long, ← text.rest.ensures) read.pairs-line.ensures.stored
+    let long : put.put_key_lines-n.result ≡ length (key_lines a.cipher a.rounds) = omega (arith, put.put_key_lines-n.ensures.place) in
+    rw (← size.block_size.ensures, ← long, ← text.rest.ensures) read.pairs_line-got.ensures.stored
 
 pub counter_of_spec : {M : Type 1} → statement M
 counter_of_spec =

@@ -13,24 +13,24 @@ use borrow.Author.Rules.{rules}
 use Rattle.fox_run_file_lines.proofs.lines.header_fits.Statement.{statement}
 use Rattle.fox_run_file_lines.proofs.lines.header_fits.Tie as tie
 
-slice-aggregate-starts-with : tie.Need-slice-aggregate-starts-with
-slice-aggregate-starts-with c = (put-stored c.before.before.put-key-lines.ensures (search rules)).counts
+slice-aggregate-starts-with : tie.Need-slice_bounds-starts_with-end
+slice-aggregate-starts-with c = (put-stored c.before.before.put_key_lines-n.ensures (search rules)).counts
 
 -- once the lines are compared
-module _ (c : tie.After-starts-with) where
+module _ (c : tie.After-starts_with) where
   starts :
       let a = c.before.before.before.before.before.before.args in
       c.starts_with.result ≡ starts_with (key_lines a.cipher a.rounds) a.file.now
-  starts = compared _ c.before.before.before.put-key-lines.ensures (search rules) c.starts_with.ensures
+  starts = compared _ c.before.before.before.put_key_lines-n.ensures (search rules) c.starts_with.ensures
 
-returns : tie.Need-returns
+returns : tie.Need-returns-then-not-starts_with
 unfolding is_header
-returns c = rw (sym (starts c.before) ∙ not-true _ c.if1.true)
+returns c = rw (sym (starts c.before) ∙ not-true _ c.if-not-starts_with.true)
 
-block-line-requires : tie.Need-block-line-requires
+block-line-requires : tie.Need-block_line-requires
 block-line-requires c κs = block-small _
 
-returns-2 : tie.Need-returns-2
+returns-2 : tie.Need-returns
 unfolding is_header codes ascii counter_name
 returns-2 c =
     let read = c.before in
@@ -38,8 +38,8 @@ returns-2 c =
     let compared = text.before.before in
     let put = compared.before.before.before in
     let a = put.before.before.before.args in
-    let long : put.put-key-lines.result ≡ length (key_lines a.cipher a.rounds) = omega (arith, put.put-key-lines.ensures.place) in
-    rw (sym (starts compared) ∙ not-false _ text.before.if1.false, ← long, ← text.rest.ensures) read.block-line.ensures.right
+    let long : put.put_key_lines-n.result ≡ length (key_lines a.cipher a.rounds) = omega (arith, put.put_key_lines-n.ensures.place) in
+    rw (sym (starts compared) ∙ not-false _ text.before.if-not-starts_with.false, ← long, ← text.rest.ensures) read.block_line.ensures.right
 
 pub header_fits_spec : {M : Type 1} → statement M
 header_fits_spec =

@@ -15,7 +15,7 @@ returns c =
     let three = c.before.before in
     let two = three.before.before.before.before.before in
     let one = two.before.before.before.before.before in
-    at-most (then (then one.put.ensures two.put-decimal-line.ensures) three.put-decimal-line2.ensures) (omega arith)
+    at-most (then (then one.put-a.ensures two.put_decimal_line-b.ensures) three.put_decimal_line.ensures) (omega arith)
 
 pub put_key_lines_spec : {M : Type 1} → statement M
 put_key_lines_spec =

@@ -7,10 +7,10 @@ use Rattle.fox_run_file.proofs.Laws.Sizes.{close-line-size}
 use Rattle.fox_run_file_sizes.proofs.sizes.close_size.Statement.{statement}
 use Rattle.fox_run_file_sizes.proofs.sizes.close_size.Tie as tie
 
-mul-result : tie.Need-overflow-mul-result
+mul-result : tie.Need-overflow_mul-result
 mul-result c = omega (arith, block-small c.before.args.cipher)
 
-add-result : tie.Need-overflow-add-result
+add-result : tie.Need-overflow_add-result
 add-result c = omega (arith, block-small c.before.args.cipher)
 
 returns : tie.Need-returns

@@ -35,49 +35,49 @@ module _ {sizes : List ℕ} {s : Sizes} (added : Added sizes s) where
     unfolding unclosed_size
     before_close cipher rounds h d = omega (arith, h, d, rw short at added.size, scans-line-size (length sizes))
 
-returns : tie.Need-returns
+returns : tie.Need-returns-then-number-gt65535
 returns c = let a = c.before.before.args in sized_past a.cipher a.rounds a.sizes.now (many-past a.cipher a.rounds _ (search rules))
 
-returns-2 : tie.Need-returns-2
+returns-2 : tie.Need-returns-then-not-scans
 returns-2 c =
     let a = c.before.before.before.before.before.args in
     sized_past a.cipher a.rounds a.sizes.now
-    (long-past a.cipher a.rounds _ (long c.before.before.scans-size.ensures (not-true _ c.if2.true)))
+    (long-past a.cipher a.rounds _ (long c.before.before.scans_size-scans.ensures (not-true _ c.if-not-scans.true)))
 
-add-before : tie.Need-overflow-add-before
+add-before : tie.Need-overflow_add-before
 add-before c = let a = c.before.before.before.before.before.before.before.args in omega (arith, header-few a.cipher a.rounds)
 
-add-before-2 : tie.Need-overflow-add-before-2
+add-before-2 : tie.Need-overflow_add-before-2
 add-before-2 c = let a = c.before.before.before.before.before.before.before.args in omega (arith, header-few a.cipher a.rounds)
 
-add-before-3 : tie.Need-overflow-add-before-3
+add-before-3 : tie.Need-overflow_add-before-3
 add-before-3 c = let a = c.before.before.before.before.before.before.before.before.args in omega (arith, header-few a.cipher a.rounds)
 
-returns-3 : tie.Need-returns-3
+returns-3 : tie.Need-returns-then-before-gt1073741824
 returns-3 c =
     let test = c.before.before.before.before in
     let a = test.before.before.before.before.before.args in
     let is =
-    before_close test.before.before.scans-size.ensures (not-false _ test.if2.false) a.cipher a.rounds
-    c.before.before.before.header-size.ensures c.before.digits.ensures.0 in
+    before_close test.before.before.scans_size-scans.ensures (not-false _ test.if-not-scans.false) a.cipher a.rounds
+    c.before.before.before.header_size-header.ensures c.before.digits.ensures.0 in
     sized_past a.cipher a.rounds a.sizes.now (large-past a.cipher a.rounds _ (omega arith))
 
-add-t11 : tie.Need-overflow-add-t11
+add-t11 : tie.Need-overflow_add-result
 add-t11 c = let a = c.before.before.before.before.before.before.before.before.before.before.args in omega (arith, close-small a.cipher)
 
-returns-4 : tie.Need-returns-4
+returns-4 : tie.Need-returns
 unfolding file_size
 returns-4 c =
     let test = c.before.before.before.before.before in
     let a = test.before.before.before.before.before.args in
     let scans = test.before.before in
-    let fit = not-false _ test.if2.false in
+    let fit = not-false _ test.if-not-scans.false in
     let is =
-    before_close scans.scans-size.ensures fit a.cipher a.rounds c.before.before.before.before.header-size.ensures
+    before_close scans.scans_size-scans.ensures fit a.cipher a.rounds c.before.before.before.before.header_size-header.ensures
     c.before.before.digits.ensures.0 in
     sized-in a.cipher a.rounds a.sizes.now
-    (in-limits a.cipher a.rounds _ (search rules) (short scans.scans-size.ensures fit) (omega arith)) (summed scans.scans-size.ensures fit)
-    (omega (arith, is, c.close-size.ensures))
+    (in-limits a.cipher a.rounds _ (search rules) (short scans.scans_size-scans.ensures fit) (omega arith)) (summed scans.scans_size-scans.ensures fit)
+    (omega (arith, is, c.close_size-close.ensures))
 
 pub file_size_spec : {M : Type 1} → statement M
 file_size_spec =

@@ -60,44 +60,44 @@ module _ (c r k b d : ℕ) (sizes : List ℕ) (o : ℕ) where
       let told = told-refused (for_write c r k b d sizes o) (file_size c r sizes) e isnt ensures in
       record { refusal = told.0; count = told.1 }
 
-in-front : (x : tie.After-or-else)
-    → let a = x.before.before.before.before.args in x.or_else.result ≡ refusal_of (front a.cipher a.rounds a.key_len a.counter-len)
-in-front x = front-tested _ _ _ _ x.before.before.for-turn.ensures x.before.block_size.ensures x.or_else.ensures
+in-front : (x : tie.After-or_else-of_counter)
+    → let a = x.before.before.before.before.args in x.or_else-of_counter.result ≡ refusal_of (front a.cipher a.rounds a.key_len a.counter_len)
+in-front x = front-tested _ _ _ _ x.before.before.for_turn-of_key.ensures x.before.block_size-block.ensures x.or_else-of_counter.ensures
 
-whole : (x : tie.After-or-else3)
+whole : (x : tie.After-or_else-refusal)
     → let a = x.before.before.before.before.before.before.before.before.before.before.before.before.args in
-    x.or-else3.result ≡ refusal_of (for_write a.cipher a.rounds a.key_len a.counter-len a.input-len a.sizes.now a.out-len)
+    x.or_else-refusal.result ≡ refusal_of (for_write a.cipher a.rounds a.key_len a.counter_len a.input_len a.sizes.now a.out_len)
 whole x =
     let test = x.before.before.before.before in
     let sized = test.before.before in
-    x.or-else3.ensures
-    ∙ all_tested _ _ _ _ _ _ _ (in-front sized.before.before) (told_in sized.file-size.ensures (not-false _ test.if2.false))
-    x.before.before.or-else2.ensures
+    x.or_else-refusal.ensures
+    ∙ all_tested _ _ _ _ _ _ _ (in-front sized.before.before) (told_in sized.file_size-s.ensures (not-false _ test.if-not-s.false))
+    x.before.before.or_else-of_sizes.ensures
 
-returns : tie.Need-returns
+returns : tie.Need-returns-then-of_counter-ne0
 returns c =
     let test = c.before in
-    refused _ _ _ _ _ _ _ (early _ _ _ _ _ _ _ (in-front test.before) test.if1.true) test.if1.true c.refused.ensures
+    refused _ _ _ _ _ _ _ (early _ _ _ _ _ _ _ (in-front test.before) test.if-of_counter-ne0.true) test.if-of_counter-ne0.true c.refused.ensures
 
-file-size-requires : tie.Need-file-size-requires
-file-size-requires c κs = few-digits (front-keyed _ _ _ _ (sym (in-front c.before) ∙ c.if1.false))
+file-size-requires : tie.Need-file_size-s-requires
+file-size-requires c κs = few-digits (front-keyed _ _ _ _ (sym (in-front c.before) ∙ c.if-of_counter-ne0.false))
 
-returns-2 : tie.Need-returns-2
+returns-2 : tie.Need-returns-then-not-s
 returns-2 c =
     let sized = c.before.before.before in
-    let limit = told-past sized.file-size.ensures (not-true _ c.before.if2.true) in
-    let zero = sym (in-front sized.before.before) ∙ sized.before.if1.false in
-    refused _ _ _ _ _ _ _ (past _ _ _ _ _ _ _ limit zero) (λ z. omega arith) c.refused2.ensures
+    let limit = told-past sized.file_size-s.ensures (not-true _ c.before.if-not-s.true) in
+    let zero = sym (in-front sized.before.before) ∙ sized.before.if-of_counter-ne0.false in
+    refused _ _ _ _ _ _ _ (past _ _ _ _ _ _ _ limit zero) (λ z. omega arith) c.refused-then-not-s.ensures
 
-returns-3 : tie.Need-returns-3
-returns-3 c = let test = c.before in refused _ _ _ _ _ _ _ (whole test.before) test.if3.true c.refused3.ensures
+returns-3 : tie.Need-returns-then-refusal-ne0
+returns-3 c = let test = c.before in refused _ _ _ _ _ _ _ (whole test.before) test.if-refusal-ne0.true c.refused-then-refusal-ne0.ensures
 
-returns-4 : tie.Need-returns-4
+returns-4 : tie.Need-returns
 returns-4 c =
     let test = c.before in
     let lengths = test.before.before.before.before.before in
-    let (limits, sum, size) = told_in lengths.before.before.file-size.ensures (not-false _ lengths.if2.false) in
-    let told = told-served _ (sym (whole test.before) ∙ test.if3.false) (c.served.ensures.0, c.served.ensures.1 ∙ size) in
+    let (limits, sum, size) = told_in lengths.before.before.file_size-s.ensures (not-false _ lengths.if-not-s.false) in
+    let told = told-served _ (sym (whole test.before) ∙ test.if-refusal-ne0.false) (c.served.ensures.0, c.served.ensures.1 ∙ size) in
     record { refusal = told.0; count = told.1 }
 
 pub for_write_spec : {M : Type 1} → statement M

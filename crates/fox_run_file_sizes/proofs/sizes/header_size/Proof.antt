@@ -7,10 +7,10 @@ use Rattle.fox_run_file.proofs.Laws.Sizes.{header-line-sizes}
 use Rattle.fox_run_file_sizes.proofs.sizes.header_size.Statement.{statement}
 use Rattle.fox_run_file_sizes.proofs.sizes.header_size.Tie as tie
 
-mul-result : tie.Need-overflow-mul-result
+mul-result : tie.Need-overflow_mul-result
 mul-result c = omega (arith, block-small c.before.before.before.args.cipher)
 
-add-result-3 : tie.Need-overflow-add-result-3
+add-result-3 : tie.Need-overflow_add-result-3
 add-result-3 c = omega (arith, block-small c.before.before.before.args.cipher)
 
 returns : tie.Need-returns

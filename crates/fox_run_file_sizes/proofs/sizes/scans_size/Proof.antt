@@ -52,30 +52,30 @@ module _ {sizes : List ℕ} {i t s : ℕ} (far : SoFar sizes i t s) where
         few = omega (arith, far.size_few, far.within);
       }
 
-abbrev invariant-loop : tie.invariant-loop
+abbrev invariant-loop : tie.invariant-loop-i
 invariant-loop sizes total₀ size₀ i₀ i-end t s i = (i-end ≡ length sizes) × SoFar sizes i t s
 
-abbrev decreases-loop : tie.decreases-loop
+abbrev decreases-loop : tie.decreases-loop-i
 decreases-loop sizes total₀ size₀ i₀ i-end t s i = i-end - i
 
-loop-holds : tie.Need-loop-init invariant-loop decreases-loop
+loop-holds : tie.Need-loop-i-init invariant-loop decreases-loop
 loop-holds c =
     (refl, record { within = omega arith; sum-few = omega arith; size_few = omega arith; sum = omega arith; size = omega arith; fit = refl })
 
-returns : tie.Need-returns invariant-loop decreases-loop
-returns c = too_long c.before.before.before.loop.invariant.1 (search rules) (search rules)
+returns : tie.Need-returns-then-n-gt65536 invariant-loop decreases-loop
+returns c = too_long c.before.before.before.loop-i.invariant.1 (search rules) (search rules)
 
-add-size : tie.Need-overflow-add-size invariant-loop decreases-loop
+add-size : tie.Need-overflow_add-size invariant-loop decreases-loop
 add-size c =
     let at = c.before.before.before.before in
-    let n = get_or at.before.before.args.sizes.now at.loop.i 0 in
-    omega (arith, scan-few (at.loop.i + 1) n (search rules))
+    let n = get_or at.before.before.args.sizes.now at.loop-i.i 0 in
+    omega (arith, scan-few (at.loop-i.i + 1) n (search rules))
 
-loop-again : tie.Need-loop-preserved invariant-loop decreases-loop
-loop-again c = (refl, rw c.scan-size.ensures (one_more c.before.before.before.before.loop.invariant.1 (search rules) (search rules)))
+loop-again : tie.Need-loop-i-preserved invariant-loop decreases-loop
+loop-again c = (refl, rw c.scan_size-size.ensures (one_more c.before.before.before.before.loop-i.invariant.1 (search rules) (search rules)))
 
-returns-2 : tie.Need-returns-2 invariant-loop decreases-loop
-returns-2 c = all-added c.before.loop.invariant.1 c.before.before.before.requires (search rules)
+returns-2 : tie.Need-returns invariant-loop decreases-loop
+returns-2 c = all-added c.before.loop-i.invariant.1 c.before.before.before.requires (search rules)
 
 pub scans_size_spec : {M : Type 1} → statement M
 scans_size_spec =

@@ -32,32 +32,32 @@ module _ (c r : ℕ) (sizes : List ℕ) where
       let told = told-refused (for_size c r sizes) (file_size c r sizes) e isnt ensures in
       record { refusal = told.0; count = told.1 }
 
-returns : tie.Need-returns
+returns : tie.Need-returns-then-refusal-ne0
 returns c =
     let test = c.before in
     let a = test.before.before.before.args in
     refused a.cipher a.rounds a.sizes.now
-    (of-key a.cipher a.rounds a.sizes.now test.before.for-key.ensures test.if1.true) test.if1.true c.refused.ensures
+    (of-key a.cipher a.rounds a.sizes.now test.before.for_key-refusal.ensures test.if-refusal-ne0.true) test.if-refusal-ne0.true c.refused.ensures
 
-file-size-requires : tie.Need-file-size-requires
-file-size-requires c κs = few-digits (keyed _ _ _ (sym c.before.for-key.ensures ∙ c.if1.false))
+file-size-requires : tie.Need-file_size-s-requires
+file-size-requires c κs = few-digits (keyed _ _ _ (sym c.before.for_key-refusal.ensures ∙ c.if-refusal-ne0.false))
 
-returns-2 : tie.Need-returns-2
+returns-2 : tie.Need-returns-then-not-s
 returns-2 c =
     let sized = c.before.before.before in
     let test = sized.before in
     let a = test.before.before.before.args in
-    let past = past-key a.cipher a.rounds a.sizes.now (sym test.before.for-key.ensures ∙ test.if1.false) in
-    let limit = told-past sized.file-size.ensures (not-true _ c.before.if2.true) in
-    refused a.cipher a.rounds a.sizes.now (sym (rw limit at past)) (λ z. omega arith) c.refused2.ensures
+    let past = past-key a.cipher a.rounds a.sizes.now (sym test.before.for_key-refusal.ensures ∙ test.if-refusal-ne0.false) in
+    let limit = told-past sized.file_size-s.ensures (not-true _ c.before.if-not-s.true) in
+    refused a.cipher a.rounds a.sizes.now (sym (rw limit at past)) (λ z. omega arith) c.refused-then-not-s.ensures
 
-returns-3 : tie.Need-returns-3
+returns-3 : tie.Need-returns
 returns-3 c =
     let sized = c.before.before.before in
     let test = sized.before in
     let a = test.before.before.before.args in
-    let past = past-key a.cipher a.rounds a.sizes.now (sym test.before.for-key.ensures ∙ test.if1.false) in
-    let (limits, sum, size) = told_in sized.file-size.ensures (not-false _ c.before.if2.false) in
+    let past = past-key a.cipher a.rounds a.sizes.now (sym test.before.for_key-refusal.ensures ∙ test.if-refusal-ne0.false) in
+    let (limits, sum, size) = told_in sized.file_size-s.ensures (not-false _ c.before.if-not-s.false) in
     let told = told-served (for_size a.cipher a.rounds a.sizes.now) (rw limits at past) (c.served.ensures.0, c.served.ensures.1 ∙ size) in
     record { refusal = told.0; count = told.1 }
 

@@ -18,8 +18,8 @@ returns c =
     let r = s.before.before.before.before.before in
     let a = r.before.before.before.args in
     w.write128.ensures
-    ∙ ap bytes (s.turn128.ensures ∙ ap (λ (x : Fox128). turned a.sealing (round_keys_in128 a.keys.now a.rounds) (Of128 x))
-    r.read128.ensures)
+    ∙ ap bytes (s.turn128-y.ensures ∙ ap (λ (x : Fox128). turned a.sealing (round_keys_in128 a.keys.now a.rounds) (Of128 x))
+    r.read128-x.ensures)
 
 pub block128_spec : {M : Type 1} → statement M
 block128_spec =

@@ -18,8 +18,8 @@ returns c =
     let r = s.before.before.before.before.before in
     let a = r.before.before.before.args in
     w.write64.ensures
-    ∙ ap bytes (s.turn64.ensures ∙ ap (λ (x : Fox64). turned a.sealing (round_keys_in64 a.keys.now a.rounds) (Of64 x))
-    r.read64.ensures)
+    ∙ ap bytes (s.turn64-y.ensures ∙ ap (λ (x : Fox64). turned a.sealing (round_keys_in64 a.keys.now a.rounds) (Of64 x))
+    r.read64-x.ensures)
 
 pub block64_spec : {M : Type 1} → statement M
 block64_spec =

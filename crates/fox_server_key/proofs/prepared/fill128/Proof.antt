@@ -17,39 +17,39 @@ use Rattle.fox_server_key.proofs.Laws.Filled.{filled-128}
 use Rattle.fox_server_key.proofs.prepared.fill128.Statement.{statement}
 use Rattle.fox_server_key.proofs.prepared.fill128.Tie as tie
 
-abbrev invariant-loop : tie.invariant-loop
+abbrev invariant-loop : tie.invariant-loop-i
 invariant-loop s rounds keys₀ reg₀ i₀ keys reg i =
     (i ≤ rounds) × RegisterAt (steps s) true rounds i reg × (keys ≡ filled (in_halves (numbered (round_key_of s rounds) i 0)))
 
-abbrev decreases-loop : tie.decreases-loop
+abbrev decreases-loop : tie.decreases-loop-i
 decreases-loop s rounds keys₀ reg₀ i₀ keys reg i = rounds - i
 
-loop-holds : tie.Need-loop-init invariant-loop decreases-loop
+loop-holds : tie.Need-loop-i-init invariant-loop decreases-loop
 unfolding filled in_halves numbered
-loop-holds c = (search rules, c.first.ensures, refl)
+loop-holds c = (search rules, c.first-reg.ensures, refl)
 
-loop-again : tie.Need-loop-preserved invariant-loop decreases-loop
+loop-again : tie.Need-loop-i-preserved invariant-loop decreases-loop
 unfolding place onward
 loop-again c =
     let at = c.before.before in
     let a = at.before.before.args in
-    let l = c.round-key.result.key.left in
-    let r = c.round-key.result.key.right in
-    let made = c.round-key.ensures in
-    let key = made.key.whole ∙ register_at-key a.s a.rounds true at.loop.i (search rules) at.loop.invariant.1 in (
+    let l = c.round_key-k.result.key.left in
+    let r = c.round_key-k.result.key.right in
+    let made = c.round_key-k.ensures in
+    let key = made.key.whole ∙ register_at-key a.s a.rounds true at.loop-i.i (search rules) at.loop-i.invariant.1 in (
       search rules,
-      register_at-on a.s a.rounds true at.loop.i (search rules) (search rules) at.loop.invariant.1 made,
-      filled-128 (round_key_of a.s a.rounds) at.loop.i l r at.loop.keys (search rules)
+      register_at-on a.s a.rounds true at.loop-i.i (search rules) (search rules) at.loop-i.invariant.1 made,
+      filled-128 (round_key_of a.s a.rounds) at.loop-i.i l r at.loop-i.keys (search rules)
           (sym (left-pair 64 l r (search rules) (search rules)) ∙ ap (left 64) key) (sym (right-pair 64 l r (search rules)) ∙ ap (right 64) key)
-          at.loop.invariant.2,
+          at.loop-i.invariant.2,
     )
 
 returns : tie.Need-returns invariant-loop decreases-loop
 returns c =
     let at = c.before in
     let a = at.before.before.args in
-    let all : at.loop.i ≡ a.rounds = search rules in
-    at.loop.invariant.2 ∙ ap (λ (n : ℕ). filled (in_halves (numbered (round_key_of a.s a.rounds) n 0))) all
+    let all : at.loop-i.i ≡ a.rounds = search rules in
+    at.loop-i.invariant.2 ∙ ap (λ (n : ℕ). filled (in_halves (numbered (round_key_of a.s a.rounds) n 0))) all
 
 pub fill128_spec : {M : Type 1} → statement M
 fill128_spec =

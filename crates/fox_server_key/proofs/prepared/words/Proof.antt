@@ -13,25 +13,25 @@ use Rattle.fox_server_key.proofs.prepared.words.Tie as tie
 fill64-requires : tie.Need-fill64-requires
 fill64-requires c κs =
     let of = c.before in
-    (scheduled-narrow _ _ of.of.result of.of.ensures c.if1.true, search rules)
+    (scheduled-narrow _ _ of.of-s.result of.of-s.ensures c.if-cipher-eq64.true, search rules)
 
-returns : tie.Need-returns
+returns : tie.Need-returns-then-cipher-eq64
 returns c =
     let test = c.before in
     let of = test.before in
     let a = of.before.before.args in
     c.fill64.ensures
-    ∙ ap filled (sym (round_keys-scheduled a.cipher a.rounds a.key.now of.of.result of.of.ensures))
-    ∙ sym (prepared_words-64 a.cipher a.rounds a.key.now test.if1.true)
+    ∙ ap filled (sym (round_keys-scheduled a.cipher a.rounds a.key.now of.of-s.result of.of-s.ensures))
+    ∙ sym (prepared_words-64 a.cipher a.rounds a.key.now test.if-cipher-eq64.true)
 
-returns-2 : tie.Need-returns-2
+returns-2 : tie.Need-returns-else-cipher-eq64
 returns-2 c =
     let test = c.before in
     let of = test.before in
     let a = of.before.before.args in
     c.fill128.ensures
-    ∙ ap (λ (ks : List ℕ). filled (in_halves ks)) (sym (round_keys-scheduled a.cipher a.rounds a.key.now of.of.result of.of.ensures))
-    ∙ sym (prepared_words-128 a.cipher a.rounds a.key.now test.if1.false)
+    ∙ ap (λ (ks : List ℕ). filled (in_halves ks)) (sym (round_keys-scheduled a.cipher a.rounds a.key.now of.of-s.result of.of-s.ensures))
+    ∙ sym (prepared_words-128 a.cipher a.rounds a.key.now test.if-cipher-eq64.false)
 
 pub words_spec : {M : Type 1} → statement M
 words_spec = tie.close (tie.spec (λ c κs. search rules) fill64-requires (λ c κs. search rules) returns returns-2)

@@ -11,9 +11,9 @@ returns c =
     let c2 = c3.before.before in
     let c1 = c2.before.before in (
       c1.of.ensures ∙ c1.before.counted128.ensures,
-      c2.of2.ensures ∙ c2.before.counted1282.ensures,
-      c3.of3.ensures ∙ c3.before.counted1283.ensures,
-      c.of4.ensures ∙ c.before.counted1284.ensures,
+      c2.of-2.ensures ∙ c2.before.counted128-2.ensures,
+      c3.of-3.ensures ∙ c3.before.counted128-3.ensures,
+      c.of-4.ensures ∙ c.before.counted128-4.ensures,
     )
 
 pub counted_four128_spec : {M : Type 1} → statement M

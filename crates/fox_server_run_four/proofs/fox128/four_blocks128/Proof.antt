@@ -30,13 +30,13 @@ returns c =
     let start = counted.before.before.before in
     let a = start.args in
     let rks = round_keys_in128 a.keys.now a.rounds in
-    let each = made.seal-four128.ensures in
-    let blocks = counted.counted-four128.ensures in
+    let each = made.seal_four128-sealed.ensures in
+    let blocks = counted.counted_four128-blocks.ensures in
     let i = a.n / 16 in
-    four-xored_to (sealed rks (Of128 a.x)) 16 a.n _ _ _ _ a.input.now a.out.now (size-pos (Of128 a.x)) (length-sealed rks (Of128 a.x))
+    four-xored_to (sealed rks (Of128 a.x)) 16 a.n _ _ _ _ a.input.now a.out-1.now (size-pos (Of128 a.x)) (length-sealed rks (Of128 a.x))
     start.requires.1.2 (block rks a.x i each.first blocks.0) (block rks a.x (i + 1) each.second blocks.1)
     (block rks a.x (i + 2) each.third blocks.2) (block rks a.x (i + 3) each.fourth blocks.3)
-    xored.xor-four128.ensures
+    xored.xor_four128.ensures
 
 pub four_blocks128_spec : {M : Type 1} → statement M
 four_blocks128_spec =

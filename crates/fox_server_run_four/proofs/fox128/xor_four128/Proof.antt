@@ -24,11 +24,11 @@ returns c =
     let start = p.before.before.before.before.before.before.before in
     let a = start.args in
     let wide : 32 ≤ length a.input.now = omega (arith, start.requires.0) in
-    xored_to-two 32 (bytes128 p.narrowed.result ++ bytes128 q.narrowed2.result) (bytes128 u.narrowed3.result ++ bytes128 v.narrowed4.result)
-    a.input.now a.out.now first.xor-two128.new.1.1.1.0 second.xor-two1282.new.1.1.1.0 refl wide first.xor-two128.ensures
-    second.xor-two1282.ensures
-    ∙ (λ i. xor_each ((bytes128 (p.narrowed.ensures i) ++ bytes128 (q.narrowed2.ensures i)) ++ (bytes128 (u.narrowed3.ensures i)
-    ++ bytes128 (v.narrowed4.ensures i))) a.input.now ++ drop 64 a.out.now)
+    xored_to-two 32 (bytes128 p.narrowed.result ++ bytes128 q.narrowed-2.result) (bytes128 u.narrowed-3.result ++ bytes128 v.narrowed-4.result)
+    a.input.now a.out-1.now first.xor_two128.new.1.1.1.0 second.xor_two128-2.new.1.1.1.0 refl wide first.xor_two128.ensures
+    second.xor_two128-2.ensures
+    ∙ (λ i. xor_each ((bytes128 (p.narrowed.ensures i) ++ bytes128 (q.narrowed-2.ensures i)) ++ (bytes128 (u.narrowed-3.ensures i)
+    ++ bytes128 (v.narrowed-4.ensures i))) a.input.now ++ drop 64 a.out-1.now)
 
 pub xor_four128_spec : {M : Type 1} → statement M
 xor_four128_spec =

@@ -17,8 +17,8 @@ returns c =
     let second = c.before.before in
     let a = first.before.before.before.before.args in
     let wide : 16 ≤ length a.input.now = search rules in
-    xored_to-two 16 (bytes128 a.x) (bytes128 a.y) a.input.now a.out.now first.xor-whole128.new.1.1.0 second.xor-whole1282.new.1.1.0
-    refl wide first.xor-whole128.ensures second.xor-whole1282.ensures
+    xored_to-two 16 (bytes128 a.x) (bytes128 a.y) a.input.now a.out-1.now first.xor_whole128.new.1.1.0 second.xor_whole128-2.new.1.1.0
+    refl wide first.xor_whole128.ensures second.xor_whole128-2.ensures
 
 pub xor_two128_spec : {M : Type 1} → statement M
 xor_two128_spec =

@@ -8,7 +8,7 @@ returns : tie.Need-returns
 returns c =
     let third = c.before in
     let second = third.before in
-    (second.before.counted64.ensures, second.counted642.ensures, third.counted643.ensures, c.counted644.ensures)
+    (second.before.counted64.ensures, second.counted64-2.ensures, third.counted64-3.ensures, c.counted64-4.ensures)
 
 pub counted_four64_spec : {M : Type 1} → statement M
 counted_four64_spec =

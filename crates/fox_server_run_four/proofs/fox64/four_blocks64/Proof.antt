@@ -30,13 +30,13 @@ returns c =
     let start = counted.before.before.before in
     let a = start.args in
     let rks = round_keys_in64 a.keys.now a.rounds in
-    let each = made.seal-four64.ensures in
-    let blocks = counted.counted-four64.ensures in
+    let each = made.seal_four64-sealed.ensures in
+    let blocks = counted.counted_four64-blocks.ensures in
     let i = a.n / 8 in
-    four-xored_to (sealed rks (Of64 a.x)) 8 a.n _ _ _ _ a.input.now a.out.now (size-pos (Of64 a.x)) (length-sealed rks (Of64 a.x))
+    four-xored_to (sealed rks (Of64 a.x)) 8 a.n _ _ _ _ a.input.now a.out-1.now (size-pos (Of64 a.x)) (length-sealed rks (Of64 a.x))
     start.requires.1.2 (block rks a.x i each.first blocks.0) (block rks a.x (i + 1) each.second blocks.1)
     (block rks a.x (i + 2) each.third blocks.2) (block rks a.x (i + 3) each.fourth blocks.3)
-    xored.xor-four64.ensures
+    xored.xor_four64.ensures
 
 pub four_blocks64_spec : {M : Type 1} → statement M
 four_blocks64_spec =

@@ -18,8 +18,8 @@ returns c =
     let second = c.before.before in
     let a = first.before.before.before.before.before.before.before.before.args in
     let wide : 16 ≤ length a.input.now = search rules in
-    xored_to-two 16 (bytes64 a.x.first ++ bytes64 a.x.second) (bytes64 a.x.third ++ bytes64 a.x.fourth) a.input.now a.out.now
-    first.xor-two64.new.1.1.1.0 second.xor-two642.new.1.1.1.0 refl wide first.xor-two64.ensures second.xor-two642.ensures
+    xored_to-two 16 (bytes64 a.x.first ++ bytes64 a.x.second) (bytes64 a.x.third ++ bytes64 a.x.fourth) a.input.now a.out-1.now
+    first.xor_two64.new.1.1.1.0 second.xor_two64-2.new.1.1.1.0 refl wide first.xor_two64.ensures second.xor_two64-2.ensures
 
 pub xor_four64_spec : {M : Type 1} → statement M
 xor_four64_spec =

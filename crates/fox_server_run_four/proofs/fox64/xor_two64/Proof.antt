@@ -17,8 +17,8 @@ returns c =
     let second = c.before.before in
     let a = first.before.before.before.before.args in
     let wide : 8 ≤ length a.input.now = search rules in
-    xored_to-two 8 (bytes64 a.x) (bytes64 a.y) a.input.now a.out.now first.xor-whole64.new.1.1.0 second.xor-whole642.new.1.1.0
-    refl wide first.xor-whole64.ensures second.xor-whole642.ensures
+    xored_to-two 8 (bytes64 a.x) (bytes64 a.y) a.input.now a.out-1.now first.xor_whole64.new.1.1.0 second.xor_whole64-2.new.1.1.0
+    refl wide first.xor_whole64.ensures second.xor_whole64-2.ensures
 
 pub xor_two64_spec : {M : Type 1} → statement M
 xor_two64_spec =
