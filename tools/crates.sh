@@ -14,22 +14,23 @@ trap 'rm -rf "$room"' EXIT
 
 # "floor NAME" and "crate NAME", in the order of crates.txt, lowest first.
 listed() {
-    sed -n 's/^# \([a-z]*\): .*/floor \1/p; s/^\(fox_[a-z0-9_]*\):.*/crate \1/p' crates.txt
+    sed -n 's/^# \([a-z]*\): .*/floor \1/p; s/^\(fox_[a-z0-9_]*\)\( staticlib\)\{0,1\}:.*/crate \1/p' crates.txt
 }
 
-# "CRATE BELOW": what the `use` lines of a crate's sources name, its own name left out.
+# "CRATE BELOW": what the `use` lines of a crate's sources name, its own name left out. A line may begin with words as `ghost`
+# and `pub`, and what it names comes right after `use`.
 used() {
     for crate in crates/*/; do
         crate=$(basename "$crate")
-        find "crates/$crate" \( -name '*.rt' -o -name '*.antt' \) ! -path '*/must-fail/*' -exec grep -hE '^(ghost )?use ' {} + |
-            sed -n 's/^.*Rattle·\(fox_[a-z0-9_]*\).*/\1/p; s/^use \(fox_[a-z0-9_]*\)::.*/\1/p' |
+        find "crates/$crate" -name out -prune -o \( -name '*.rt' -o -name '*.antt' \) -exec sed -nE \
+            's/^ *([a-z()]+ )*use (Rattle\.)?(fox_[a-z0-9_]+)(\.|::).*/\3/p' {} + |
             sort -u | sed "/^$crate\$/d; s/^/$crate /"
     done
 }
 
 # "CRATE BELOW": what crates.txt says that a crate stands on, the kit's own libraries left out.
 said() {
-    awk '/^fox_/ { sub(":", "", $1); for (k = 2; k <= NF; k++) if ($k ~ /^fox_/) print $1, $k }' crates.txt
+    awk '/^fox_/ { for (k = 2; k <= NF; k++) if ($k ~ /^fox_/) { sub(":", "", $1); print $1, $k } }' crates.txt
 }
 
 # The arrows that are left when one follows from two others, from the highest crate down.

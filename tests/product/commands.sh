@@ -87,7 +87,7 @@ says_missing() { # TEXT WORDS..: those of make
         return 1
     }
     grep -qF -- "$text" "$room/error" || return 1
-    same_text '' "$(find target/log "$OUT" -maxdepth 1 -newer "$room/before" \( -name '*.[ao]' -o -name '*.res' \))"
+    same_text '' "$(find target/log "$OUT" crates/*/out -maxdepth 1 -newer "$room/before" \( -name '*.[ao]' -o -name '*.said' \))"
 }
 
 missing() { # TEXT NAME..: the commands that are missing
@@ -124,8 +124,8 @@ shows_proving() {
     mkdir -p "$try/crates/first/src" "$try/crates/then/src"
     cp -r tools "$try"
     printf 'first:\nthen: first\n' >"$try/crates.txt"
-    echo 'pub fn same(x: u32) -> u32 { x }' >"$try/crates/first/src/lib.rt"
-    echo 'pub fn next(x: u32) -> u32 { first::same(x) + 1 }' >"$try/crates/then/src/lib.rt"
+    printf '#![tactic(auto)]\n\npub fn same(x: u32) -> u32 {\n    x\n}\n' >"$try/crates/first/src/lib.rt"
+    printf '#![tactic(auto)]\n\npub fn next(x: u32) -> u32 {\n    first::same(x) + 1\n}\n' >"$try/crates/then/src/lib.rt"
     if sh "$try/tools/prove.sh" then >"$room/out" 2>&1; then
         echo "it went on"
         return 1

@@ -18,5 +18,5 @@ returns c =
     let went = c.turn_part-first.ensures in
     let zero = sym went.reply.refusal ∙ c.if-first-ne0.false in
     let size = (blocked _ _ _ _ _ _ zero).block in
-    let block : BlockOf a.cipher a.block.now = record { size = size; bytes = λ i. c.type_inv.block i } in
+    let block : BlockOf a.cipher a.block.now = record { size = size; bytes = λ i. (c.type_inv.block i).fits } in
     two-served a.sealing a.cipher a.rounds a.key.now a.block.now block a.stop went c.if-first-ne0.false c.turn_part-rest.ensures

@@ -13,7 +13,7 @@ use Rattle.fox_tag.proofs.Laws.Parts.{block_room}
 use Rattle.fox_card_tag.proofs.chain.block_at.Statement.{statement}
 use Rattle.fox_card_tag.proofs.chain.block_at.Tie as tie
 
-block-part-requires : tie.Need-block-part-requires
+block-part-requires : tie.Need-block_part-requires
 block-part-requires c κs =
     let start = c.before.before.before in
     let a = start.args in
@@ -22,22 +22,22 @@ block-part-requires c κs =
 read-requires : tie.Need-read-requires
 read-requires c κs =
     let start = c.before.before.before.before in
-    c.block-part.ensures.1 ∙ start.requires.1
+    c.block_part.ensures.1 ∙ start.requires.1
 
-returns : tie.Need-returns
+returns : tie.Need-returns-then-i-n
 returns c =
     let part = c.before in
     let start = part.before.before.before.before in
     let a = start.args in
     let few : a.i < a.n = search rules in
     c.read.ensures
-    ∙ ap (state a.cipher) (part.block-part.ensures.0 ∙ ap (λ (b : ℕ). block_at b a.message.now a.i) start.requires.1
+    ∙ ap (state a.cipher) (part.block_part.ensures.0 ∙ ap (λ (b : ℕ). block_at b a.message.now a.i) start.requires.1
     ∙ sym (ap (λ (t : Bool). cond t (block_at (block_size a.cipher) a.message.now a.i) a.last.now) (lt-ltb a.i a.n few)))
 
-returns-2 : tie.Need-returns-2
+returns-2 : tie.Need-returns
 returns-2 c =
     let a = c.before.before.before.before.args in
-    c.read2.ensures
+    c.read-2.ensures
     ∙ ap (state a.cipher) (sym (ap (λ (t : Bool). cond t (block_at (block_size a.cipher) a.message.now a.i) a.last.now)
     (le-ltb a.i a.n (search rules))))
 

@@ -25,50 +25,50 @@ use Rattle.fox_tag.proofs.Laws.States.{sealed-block}
 use Rattle.fox_card_tag.proofs.chain.chain.Statement.{statement}
 use Rattle.fox_card_tag.proofs.chain.chain.Tie as tie
 
-abbrev invariant-loop : tie.invariant-loop
+abbrev invariant-loop : tie.invariant-loop-i
 invariant-loop cipher rounds key message out s n y₀ i₀ i-end y i =
     (i ≤ n + 1) × (n + 1 < 2 ^ 64) × ChainedState cipher (round_keys_of s rounds) (with_last cipher (round_keys_of s rounds) message out n) i y
 
-abbrev decreases-loop : tie.decreases-loop
+abbrev decreases-loop : tie.decreases-loop-i
 decreases-loop cipher rounds key message out s n y₀ i₀ i-end y i = n + 1 - i
 
 -- the blocks before the last lie within the message
 all-within : (cipher n : ℕ) {size : ℕ} (message : List ℕ) → size ≡ block_size cipher → n ≡ blocks_before size message → n * block_size cipher ≤ length message
 all-within cipher n message is many = rw (many ∙ ap (λ (b : ℕ). blocks_before b message) is) (before-within (block_size cipher) message)
 
-blocks-before-requires : tie.Need-blocks-before-requires invariant-loop decreases-loop
+blocks-before-requires : tie.Need-blocks_before-n-requires invariant-loop decreases-loop
 blocks-before-requires c κs =
     let start = c.before.before.before.before in
     rw start.requires.2 (size-some start.args.cipher)
 
-add-i-end : tie.Need-overflow-add-i-end invariant-loop decreases-loop
+add-i-end : tie.Need-overflow_add-i-end invariant-loop decreases-loop
 add-i-end c =
     let many = c.before in
     let start = many.before.before.before.before.before in
     let a = start.args in
     let fits = one_more (length a.out.now) a.message.now (search rules) in
-    omega (arith, many.blocks-before.ensures)
+    omega (arith, many.blocks_before-n.ensures)
 
-loop-holds : tie.Need-loop-init invariant-loop decreases-loop
+loop-holds : tie.Need-loop-i-init invariant-loop decreases-loop
 loop-holds c =
     let many = c.before in
     let of = many.before in
     let start = of.before.before.before.before in
     let a = start.args in (
       omega arith,
-      rw many.blocks-before.ensures (one_more (length a.out.now) a.message.now (search rules)),
-      chained_state-first a.cipher (round_keys_of of.of.result a.rounds)
-          (with_last a.cipher (round_keys_of of.of.result a.rounds) a.message.now a.out.now many.blocks-before.result) c.zero.ensures,
+      rw many.blocks_before-n.ensures (one_more (length a.out.now) a.message.now (search rules)),
+      chained_state-first a.cipher (round_keys_of of.of-s.result a.rounds)
+          (with_last a.cipher (round_keys_of of.of-s.result a.rounds) a.message.now a.out.now many.blocks_before-n.result) c.zero-y.ensures,
     )
 
-block-at-requires : tie.Need-block-at-requires invariant-loop decreases-loop
+block-at-requires : tie.Need-block_at-requires invariant-loop decreases-loop
 block-at-requires c κs =
     let many = c.before.before.before.before in
     let start = many.before.before.before.before.before in
     let a = start.args in
-    (all-within a.cipher _ a.message.now start.requires.2 many.blocks-before.ensures, start.requires.2)
+    (all-within a.cipher _ a.message.now start.requires.2 many.blocks_before-n.ensures, start.requires.2)
 
-loop-again : tie.Need-loop-preserved invariant-loop decreases-loop
+loop-again : tie.Need-loop-i-preserved invariant-loop decreases-loop
 loop-again c =
     let xor = c.before in
     let block = xor.before in
@@ -79,23 +79,23 @@ loop-again c =
     let message = out.before in
     let start = message.before.before in
     let a = start.args in
-    let rks = round_keys_of of.of.result a.rounds in
-    let room = all-within a.cipher _ a.message.now start.requires.2 many.blocks-before.ensures in
-    let last : BlockOf a.cipher a.out.now = record { size = start.requires.2; bytes = λ i. (out.slice-known.given i).fits } in
-    let f = with_last a.cipher rks a.message.now a.out.now many.blocks-before.result in (
+    let rks = round_keys_of of.of-s.result a.rounds in
+    let room = all-within a.cipher _ a.message.now start.requires.2 many.blocks_before-n.ensures in
+    let last : BlockOf a.cipher a.out.now = record { size = start.requires.2; bytes = λ i. (out.slice_known-1.given i).fits } in
+    let f = with_last a.cipher rks a.message.now a.out.now many.blocks_before-n.result in (
       search rules,
-      at.loop.invariant.1,
-      chained_state-on a.cipher rks f at.loop.i
-          (with_last-block a.cipher rks a.message.now a.out.now many.blocks-before.result at.loop.i
-          (λ i. (message.shared-slice-known2.given i).fits) room last)
-          at.loop.invariant.2 block.block_at.ensures (c.turned.ensures ∙ ap (turned true rks) xor.xored.ensures),
+      at.loop-i.invariant.1,
+      chained_state-on a.cipher rks f at.loop-i.i
+          (with_last-block a.cipher rks a.message.now a.out.now many.blocks_before-n.result at.loop-i.i
+          (λ i. (message.shared_slice_known-2-1.given i).fits) room last)
+          at.loop-i.invariant.2 block.block_at.ensures (c.turned-y.ensures ∙ ap (turned true rks) xor.xored.ensures),
     )
 
 write-requires : tie.Need-write-requires invariant-loop decreases-loop
 write-requires c κs =
     let at = c.before.before in
     let start = at.before.before.before.before.before.before.before in
-    start.requires.2 ∙ sym (ap size at.loop.invariant.2 ∙ state-size _ _)
+    start.requires.2 ∙ sym (ap size at.loop-i.invariant.2 ∙ state-size _ _)
 
 returns : tie.Need-returns invariant-loop decreases-loop
 returns c =
@@ -106,17 +106,17 @@ returns c =
     let out = of.before in
     let start = out.before.before.before in
     let a = start.args in
-    let rks = round_keys_of of.of.result a.rounds in
-    let n = many.blocks-before.result in
-    let all : at.loop.i ≡ n + 1 = search rules in
+    let rks = round_keys_of of.of-s.result a.rounds in
+    let n = many.blocks_before-n.result in
+    let all : at.loop-i.i ≡ n + 1 = search rules in
     let f = with_last a.cipher rks a.message.now a.out.now n in
-    let done = subst (λ (k : ℕ). ChainedState a.cipher rks f k at.loop.y) all at.loop.invariant.2 in
-    let key = sym (round_keys-scheduled a.cipher a.rounds a.key.now of.of.result of.of.ensures) in
+    let done = subst (λ (k : ℕ). ChainedState a.cipher rks f k at.loop-i.y) all at.loop-i.invariant.2 in
+    let key = sym (round_keys-scheduled a.cipher a.rounds a.key.now of.of-s.result of.of-s.ensures) in
     write.write.ensures
     ∙ ap bytes (done ∙ ap (state a.cipher) (all-chained a.cipher rks a.message.now a.out.now n))
     ∙ bytes-state a.cipher _ (sealed-block a.cipher rks _)
     ∙ ap₂ (λ (ks : List ℕ) (k : ℕ). seal_with a.cipher ks (xor_each (chain_of a.cipher ks a.message.now k) a.out.now)) key
-    (many.blocks-before.ensures ∙ ap (λ (b : ℕ). blocks_before b a.message.now) start.requires.2)
+    (many.blocks_before-n.ensures ∙ ap (λ (b : ℕ). blocks_before b a.message.now) start.requires.2)
 
 pub chain_spec : {M : Type 1} → statement M
 chain_spec =

@@ -24,18 +24,18 @@ write-requires c κs =
     let start = c.before.before.before.before.before.before.before in
     start.requires.2 ∙ sym (ap size c.turned.ensures ∙ turned-size _ _ _ ∙ ap size c.before.zero.ensures ∙ state-size _ _)
 
-last-part-requires : tie.Need-last-part-requires
+last-part-requires : tie.Need-last_part-part-requires
 last-part-requires c κs =
     let write = c.before.before in
     let start = write.before.before.before.before.before.before.before.before in
     rw (write.write.auto.0 ∙ start.requires.2) (size-some start.args.cipher)
 
-last-block-requires : tie.Need-last-block-requires
+last-block-requires : tie.Need-last_block-requires
 last-block-requires c κs =
     let part = c.before in
     let write = part.before.before.before in
     let start = write.before.before.before.before.before.before.before.before in
-    (rw (write.write.auto.0 ∙ start.requires.2) (size-some start.args.cipher), part.last-part.ensures.1)
+    (rw (write.write.auto.0 ∙ start.requires.2) (size-some start.args.cipher), part.last_part-part.ensures.1)
 
 returns : tie.Need-returns
 unfolding turn_with
@@ -50,9 +50,9 @@ returns c =
     let a = start.args in
     let B = block_size a.cipher in
     let is = write.write.auto.0 ∙ start.requires.2 in
-    let rks = sym (round_keys-scheduled a.cipher a.rounds a.key.now of.of.result of.of.ensures) in
+    let rks = sym (round_keys-scheduled a.cipher a.rounds a.key.now of.of-s.result of.of-s.ensures) in
     last.last_block.ensures
-    ∙ ap (λ (l : List ℕ). keyed_block (length write.write.new.0) write.write.new.0 l) part.last-part.ensures.0
+    ∙ ap (λ (l : List ℕ). keyed_block (length write.write.new.0) write.write.new.0 l) part.last_part-part.ensures.0
     ∙ ap (λ (b : ℕ). keyed_block b write.write.new.0 (last_at b a.message.now)) is
     ∙ ap (λ (block : List ℕ). keyed_block B block (last_at B a.message.now))
     (write.write.ensures

@@ -22,7 +22,7 @@ returns c =
     let rks = round_keys a.cipher a.rounds a.key.now in
     chain.chain.ensures
     ∙ ap (λ (l : List ℕ). seal_with a.cipher rks (xor_each (chain_of a.cipher rks a.message.now (blocks_before (block_size a.cipher) a.message.now)) l))
-    last.last-into.ensures
+    last.last_into.ensures
     ∙ last-chained a.cipher rks a.message.now
 
 pub tag_spec : {M : Type 1} → statement M

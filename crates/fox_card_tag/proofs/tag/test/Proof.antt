@@ -14,34 +14,34 @@ use Rattle.fox_tag.proofs.Laws.Parts.{size-most}
 use Rattle.fox_card_tag.proofs.tag.test.Statement.{statement}
 use Rattle.fox_card_tag.proofs.tag.test.Tie as tie
 
-returns : tie.Need-returns
+returns : tie.Need-returns-then-refusal-ne0
 returns c =
     let at = c.before in
     let call = at.before in
     let a = call.before.before.before.before.args in
-    test-refused a.cipher a.rounds _ (round_keys a.cipher a.rounds a.key.now) a.message.now a.stored.now call.for-tag.ensures
-    at.if1.true c.refused.ensures
+    test-refused a.cipher a.rounds _ (round_keys a.cipher a.rounds a.key.now) a.message.now a.stored.now call.for_tag-refusal.ensures
+    at.if-refusal-ne0.true c.refused.ensures
 
 -- the front of a buffer of 16 bytes
 front-size : (n b : ℕ) → n ≡ b → b ≤ 16 → length {A = ℕ} (take (n - 0) (replicate 16 0)) ≡ b
 front-size n b e most = length-take {A = ℕ} (n - 0) (replicate 16 0) ∙ omega (arith, length-replicate {A = ℕ} 16 0)
 
-part-right-end : tie.Need-slice-bounds-right-end
-part-right-end c = rw c.block_size.ensures (size-most c.before.before.before.before.before.before.args.cipher)
+part-right-end : tie.Need-slice_bounds-right-end
+part-right-end c = rw c.block_size-size.ensures (size-most c.before.before.before.before.before.before.args.cipher)
 
 tested-requires : tie.Need-tested-requires
 tested-requires c κs =
     let at = c.before.before in
-    let known = tagged _ _ _ _ _ _ (sym at.before.for-tag.ensures ∙ at.if1.false) in
-    let size = c.before.block_size.ensures in
+    let known = tagged _ _ _ _ _ _ (sym at.before.for_tag-refusal.ensures ∙ at.if-refusal-ne0.false) in
+    let size = c.before.block_size-size.ensures in
     (omega (arith, known.keyed.low, known.keyed.high), known.keyed.key, front-size _ _ size (size-most _), known.tag)
 
-returns-2 : tie.Need-returns-2
+returns-2 : tie.Need-returns
 returns-2 c =
     let call = c.before in
     let at = call.before.before.before in
     let a = at.before.before.before.before.before.args in
-    let known = tagged _ _ _ _ _ _ (sym at.before.for-tag.ensures ∙ at.if1.false) in
+    let known = tagged _ _ _ _ _ _ (sym at.before.for_tag-refusal.ensures ∙ at.if-refusal-ne0.false) in
     test_compared a.cipher a.rounds _ (round_keys a.cipher a.rounds a.key.now) a.message.now a.stored.now known
     (ap (λ (n : ℕ). tag_with a.cipher (round_keys a.cipher n a.key.now) a.message.now) (rounds-whole known.keyed)) call.tested.ensures
 

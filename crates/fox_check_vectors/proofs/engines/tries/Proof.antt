@@ -6,7 +6,7 @@ use borrow.Author.Rules.{rules}
 use Rattle.fox_check_vectors.proofs.engines.tries.Statement.{statement}
 use Rattle.fox_check_vectors.proofs.engines.tries.Tie as tie
 
-slice-aggregate-puts : tie.Need-slice-aggregate-puts
+slice-aggregate-puts : tie.Need-slice_bounds-puts-end
 slice-aggregate-puts c = sym (length-take-le _ _ (search rules))
 
 pub tries_spec : {M : Type 1} → statement M

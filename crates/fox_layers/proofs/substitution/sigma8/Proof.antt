@@ -1,10 +1,10 @@
 -- `substitution::sigma8` meets its contract: it takes the S-box's three rounds on the halves of all eight bytes, and joins what they come to.
 -- Assumes nothing.
-use mathlib.Core.Path.{◌≡◌, ap, ap₂, ◌∙◌, subst}
+use mathlib.Core.Path.{ap₂, ◌∙◌, subst}
 use mathlib.Core.List.{List}
 use Prim.Native.Nat.{ℕ, ◌+◌, ◌*◌}
 use native.Mathlib.Omega.{arith}
-use Rattle.fox_layers.specs.Words.{split, joined}
+use Rattle.fox_layers.specs.Words.{split}
 use Rattle.fox_layers.specs.Substitution.{S₁, S₂, S₃, Halves, halves, whole, lmid4, lmor4, sbox, sigma}
 use Rattle.fox_layers.specs.Structs.{Held}
 use Rattle.fox_layers.proofs.Laws.Bits.{upper, joined-sum}

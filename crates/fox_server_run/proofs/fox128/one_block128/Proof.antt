@@ -22,7 +22,7 @@ returns c =
     let a = made.before.before.before.before.args in
     let rks = round_keys_in128 a.keys.now a.rounds in
     part-made 16 (sealed rks (Of128 a.x)) (size-pos (Of128 a.x)) (length-sealed rks (Of128 a.x)) a.n
-    (ap bytes (made.turn128.ensures ∙ ap (λ (y : Fox128). turned true rks (Of128 y)) made.before.counted128.ensures)) call.xor-part128.ensures
+    (ap bytes (made.turn128-sealed.ensures ∙ ap (λ (y : Fox128). turned true rks (Of128 y)) made.before.counted128-block.ensures)) call.xor_part128.ensures
 
 pub one_block128_spec : {M : Type 1} → statement M
 one_block128_spec =

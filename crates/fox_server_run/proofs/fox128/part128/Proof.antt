@@ -5,7 +5,7 @@ use native.Mathlib.Omega.{arith}
 use Rattle.fox_server_run.proofs.fox128.part128.Statement.{statement}
 use Rattle.fox_server_run.proofs.fox128.part128.Tie as tie
 
-four-blocks128-requires : tie.Need-four-blocks128-requires
+four-blocks128-requires : tie.Need-four_blocks128-requires
 four-blocks128-requires c κs =
     let start = c.before.before.before.before.before in
     let pre = start.requires in

@@ -22,7 +22,7 @@ returns c =
     let a = made.before.before.before.before.args in
     let rks = round_keys_in64 a.keys.now a.rounds in
     part-made 8 (sealed rks (Of64 a.x)) (size-pos (Of64 a.x)) (length-sealed rks (Of64 a.x)) a.n
-    (ap bytes (made.turn64.ensures ∙ ap (λ (y : Fox64). turned true rks (Of64 y)) made.before.counted64.ensures)) call.xor-part64.ensures
+    (ap bytes (made.turn64-sealed.ensures ∙ ap (λ (y : Fox64). turned true rks (Of64 y)) made.before.counted64-block.ensures)) call.xor_part64.ensures
 
 pub one_block64_spec : {M : Type 1} → statement M
 one_block64_spec =

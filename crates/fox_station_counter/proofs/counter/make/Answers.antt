@@ -5,7 +5,6 @@ use borrow.Author.Rules.{rules}
 use mathlib.Core.Path.{sym, ◌∙◌}
 use Rattle.fox_refusals.proofs.Laws.Refusals.{counter-known}
 use Rattle.fox_refusals.proofs.Laws.Reply.{served-reply, refused-reply}
-
 use Rattle.fox_station_counter.proofs.counter.make.Goals as goal
 
 pub returns-then-refusal-ne0 : goal.returns-then-refusal-ne0
@@ -17,4 +16,4 @@ lay-requires c = (counter-known _ _ (sym c.for_counter-refusal.ensures ∙ c.if-
 pub returns : goal.returns
 returns c =
     let zero = sym c.for_counter-refusal.ensures ∙ c.if-refusal-ne0.false in
-    served-reply _ _ _ _ _ zero c.served.ensures.0 (c.served.ensures.1 ∙ c.lay.auto.1.1.0) c.lay.ensures
+    served-reply _ _ _ _ _ zero c.served.ensures.0 (c.served.ensures.1 ∙ c.lay.auto.out) c.lay.ensures

@@ -1,0 +1,21 @@
+-- `stretch::stretch` meets its contract: whenever the loop's test is reached, the output is XORed up to `at`, and the rest of it is as it was after the first
+-- block. Each step does at least one byte of what is left.
+-- Assumes nothing.
+use mathlib.Core.Path.{◌≡◌}
+use Prim.Native.Nat.{◌-◌, ◌≤◌}
+use native.Mathlib.Omega.{arith}
+use lib.ListN.{length}
+use borrow.Author.Rules.{rules}
+use Rattle.fox_key_schedule.specs.Step.{round_keys_of}
+use Rattle.fox_run.specs.States.{stream}
+use Rattle.fox_run.specs.Parts.{XoredTo}
+use Rattle.fox_run.proofs.Laws.Loop.{xored_to-first, xored_to-self, xored_to-length, xored_to-last}
+use Rattle.fox_run.proofs.Laws.Parts.{part-within, part-some, part-xored_to}
+use Rattle.fox_card_run.proofs.stretch.stretch.Given as goal
+
+abbrev pub invariant-loop-at : goal.invariant-loop-at
+invariant-loop-at l =
+    (l.at ≤ length l.input) × (length l.out ≡ length l.input) × XoredTo (stream (round_keys_of l.s l.rounds) l.x) l.n l.input l.initial.out l.at l.out
+
+abbrev pub decreases-loop-at : goal.decreases-loop-at
+decreases-loop-at l = length l.input - l.at

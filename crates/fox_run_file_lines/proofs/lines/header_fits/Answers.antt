@@ -1,0 +1,34 @@
+-- `lines::header_fits` meets its contract: the lines that the key settles are compared, and the counter's line begins where they end.
+-- Assumes nothing.
+use mathlib.Core.Path.{◌≡◌, sym, ◌∙◌}
+use native.Mathlib.Omega.{arith}
+use lib.ListN.{length}
+use Rattle.fox_text.specs.Ascii.{codes, ascii, starts_with}
+use Rattle.fox_text.proofs.Laws.Stores.{put-stored}
+use Rattle.fox_run_file.specs.Format.{counter_name, key_lines}
+use Rattle.fox_run_file.specs.Says.{is_header}
+use Rattle.fox_run_file.proofs.Laws.Lines.{block-small, compared}
+use borrow.Author.Rules.{rules}
+
+use Rattle.fox_run_file_lines.proofs.lines.header_fits.Goals as goal
+
+pub slice_bounds-starts_with-end : goal.slice_bounds-starts_with-end
+slice_bounds-starts_with-end c = (put-stored c.put_key_lines-n.ensures (search rules)).counts
+
+pub returns-then-not-starts_with : goal.returns-then-not-starts_with
+unfolding is_header
+returns-then-not-starts_with c =
+    let starts = compared _ c.put_key_lines-n.ensures (search rules) c.starts_with.ensures in
+    rw (sym starts ∙ c.if-not-starts_with.true)
+
+pub block_line-requires : goal.block_line-requires
+block_line-requires c = block-small _
+
+pub returns : goal.returns
+unfolding is_header codes ascii counter_name
+returns c =
+    let a = c.args in
+    let starts : c.starts_with.result ≡ starts_with (key_lines a.cipher a.rounds) a.file.now =
+    compared _ c.put_key_lines-n.ensures (search rules) c.starts_with.ensures in
+    let long : c.put_key_lines-n.result ≡ length (key_lines a.cipher a.rounds) = omega (arith, c.put_key_lines-n.ensures.place) in
+    rw (sym starts ∙ c.if-not-starts_with.false, ← long, ← c.rest.ensures) c.block_line.ensures.right

@@ -1,0 +1,19 @@
+-- `fox64::xor_two64` meets its contract: two blocks XORed one after the other are one XOR with their bytes joined.
+-- Assumes nothing.
+use Prim.Native.Nat.{◌≤◌}
+use lib.ListN.{length}
+use mathlib.Core.Path.{refl}
+use Rattle.fox_block.specs.Block.{bytes64}
+use Rattle.fox_layers.specs.Words.{split}
+use Rattle.fox_run.proofs.Laws.FourBlocks.{xored_to-two}
+use borrow.Author.Rules.{rules}
+
+use Rattle.fox_server_run_four.proofs.fox64.xor_two64.Goals as goal
+
+pub returns : goal.returns
+unfolding bytes64 split
+returns c =
+    let a = c.args in
+    let wide : 8 ≤ length a.input.now = search rules in
+    xored_to-two 8 (bytes64 a.x) (bytes64 a.y) a.input.now a.out.now c.xor_whole64.new.out c.xor_whole64-2.new.out
+    refl wide c.xor_whole64.ensures c.xor_whole64-2.ensures
