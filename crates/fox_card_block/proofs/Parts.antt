@@ -3,15 +3,14 @@
 -- and what is in hand in between.
 -- Assumes nothing.
 use mathlib.Core.Path.{◌≡◌, refl, sym, ap, ap₂, ◌∙◌, subst}
-use mathlib.Core.Bool.{Bool, cond}
+use mathlib.Core.Bool.{Bool}
 use mathlib.Core.List.{List}
 use Prim.Native.Nat.{ℕ, ◌<◌, ◌≤◌}
 use native.Mathlib.Omega.{arith}
-use lib.Dec.{eqb}
 use lib.ListN.{length}
 use Rattle.fox_layers.specs.Lists.{numbered}
 use Rattle.fox_rounds.specs.Skeleton.{through, round, between, place}
-use Rattle.fox_key_schedule.specs.Schedule.{round_key, round_keys, step_block}
+use Rattle.fox_key_schedule.specs.Schedule.{round_key, step_block}
 use Rattle.fox_key_schedule.specs.Step.{stands, number}
 use Rattle.fox_refusals.specs.Refusals.{Refusal, refusal_of, for_block}
 use Rattle.fox_refusals.specs.Reply.{Reply}

@@ -1,5 +1,5 @@
-// The reader of a run file as one value: the file, its refusal, and the place of the next scan, with thin functions over it. The borrow checker covers no
-// function over a struct that holds a reference, so each is proved by a walk by hand; the work is in fox_run_file_take_up and fox_run_file_read, on slices and places.
+// The reader of a run file as one value: the file, its refusal, and the place of the next scan, with thin functions over it. The work is in
+// fox_run_file_take_up and fox_run_file_read, on slices and places.
 #![tactic(auto)]
 
 ghost use Rattle.std.specs.Prelude.{◌≡◌};
@@ -67,7 +67,7 @@ pub fn read<'a, 'b>(r: Reader<'a>, p: Prepared, out: &'b mut [u8]) -> Read
     read_at(p, r.file, r.place, out)
 }
 
-// What comes first in a file. Its contract says nothing of a reader, so whoever calls it needs no walk by hand.
+// What comes first in a file. Its contract says nothing of a reader.
 pub fn first_length(p: Prepared, file: &[u8]) -> Next
     ensures { TellsFirst p.cipher p.rounds p.key_len (round_keys_in p) file.now result }
 {

@@ -1,5 +1,5 @@
 // The calls on a session that change it where the caller has it. Each reads the session, calls the function of fox_server_session and keeps where the session
-// then stands; the prepared key and the counter stay. The borrow checker covers no function over a reference to a struct, so each is proved by a walk by hand.
+// then stands; the prepared key and the counter stay.
 #![tactic(auto)]
 
 ghost use Rattle.std.specs.Prelude.{[]};
@@ -34,8 +34,7 @@ pub struct After {
     pub session: Session,
 }
 
-// The next bytes, on a copy of the session, which is lent to `advance`. No reference to a session is in the signature, so whoever calls it needs no walk by
-// hand.
+// The next bytes, on a copy of the session, which is lent to `advance`. No reference to a session is in the signature.
 pub fn advance_copy(s: Session, input: &[u8], out: &mut [u8]) -> After
     ensures { Changes s (Advance input.now out.old) out.new result.answer result.session }
 {

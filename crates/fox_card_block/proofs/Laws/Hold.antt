@@ -1,11 +1,11 @@
 -- Rounds of a block in hand: cut anywhere they are the same rounds, and all of them, from the first on, are the block sealed or opened.
 -- Assumes nothing.
-use mathlib.Core.Path.{◌≡◌, refl, sym, ap, ap₂, ◌∙◌, subst}
+use mathlib.Core.Path.{◌≡◌, refl, ap, ap₂, ◌∙◌, subst}
 use mathlib.Core.Bool.{Bool}
 use Prim.Native.Nat.{ℕ, zero, suc, ◌+◌, ◌-◌, ◌*◌, ◌^◌, ◌<◌, ◌≤◌}
 use native.Mathlib.Omega.{arith}
 use Rattle.fox_layers.specs.Lists.{numbered}
-use Rattle.fox_rounds.specs.Skeleton.{size, round, between, place, turned}
+use Rattle.fox_rounds.specs.Skeleton.{size, round, between, turned}
 use Rattle.fox_rounds.specs.declared.state.State.{State}
 use Rattle.fox_rounds.proofs.Laws.Skeleton.{TurnDone, turn_done-none, turn_done-one, turn_done-more, turn_done-all}
 use Rattle.fox_rounds.proofs.Laws.Undoing.{Fits, round-fits, between-fits}

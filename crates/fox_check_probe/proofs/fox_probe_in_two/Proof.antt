@@ -9,7 +9,7 @@ use Rattle.fox_check_probe.proofs.fox_probe_in_two.Tie as tie
 returns : tie.Need-returns
 unfolding asks_to_seal
 returns c =
-    let done = c.before.before.before.before.turn-in-two.ensures in
+    let done = c.before.before.before.before.turn_in_two-answer.ensures in
     record { reply = handed-reply (record { refusal = done.reply.refusal; output = done.reply.output }); kept = done.kept }
 
 pub fox_probe_in_two_spec : {M : Type 1} → statement M

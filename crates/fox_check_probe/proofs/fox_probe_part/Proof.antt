@@ -28,7 +28,7 @@ unpacks p small back =
 
 returns : tie.Need-returns
 unfolding asks_to_seal
-returns c = let call = c.before.before.before.before.turn-part in unpacks call.result (search rules) call.ensures
+returns c = let call = c.before.before.before.before.turn_part-part in unpacks call.result (search rules) call.ensures
 
 pub fox_probe_part_spec : {M : Type 1} → statement M
 fox_probe_part_spec =

@@ -5,13 +5,13 @@ use borrow.Author.Rules.{rules}
 use Rattle.fox_station_session.proofs.keep.Statement.{statement}
 use Rattle.fox_station_session.proofs.keep.Tie as tie
 
-returns : tie.Need-returns
+returns : tie.Need-returns-then-refusal-eq0
 returns c =
-    let served = c.before.before.before.before.if1.true in
-    record { refusal = refl; served = λ z. c.before.before.write-here.ensures.0; refused = λ isnt. absurd (isnt served) }
+    let served = c.before.before.before.before.if-refusal-eq0.true in
+    record { refusal = refl; served = λ z. c.before.before.write_here.ensures.0; refused = λ isnt. absurd (isnt served) }
 
-returns-2 : tie.Need-returns-2
-returns-2 c = record { refusal = refl; served = λ z. absurd (c.if1.false z); refused = λ isnt. refl }
+returns-2 : tie.Need-returns-else-refusal-eq0
+returns-2 c = record { refusal = refl; served = λ z. absurd (c.if-refusal-eq0.false z); refused = λ isnt. refl }
 
 pub keep_spec : {M : Type 1} → statement M
 keep_spec = tie.close (tie.spec (λ c κs. search rules) (λ c. search rules) returns returns-2)

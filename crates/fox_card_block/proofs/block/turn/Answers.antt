@@ -1,6 +1,5 @@
 -- `block::turn` meets its contract: all rounds of a block, from the first on, are the block.
 -- Assumes nothing.
-use borrow.Author.Rules.{rules}
 use Rattle.fox_card_block.proofs.Parts.{whole_part}
 use Rattle.fox_card_block.proofs.block.turn.Goals as goal
 

@@ -1,7 +1,7 @@
 -- `part::least` meets its contract: the smaller number fits a byte, since the other does.
 -- Assumes nothing.
 use borrow.Author.Rules.{rules}
-use mathlib.Core.Path.{sym, ◌∙◌}
+use mathlib.Core.Path.{sym}
 use native.Mathlib.Omega.{arith}
 use Rattle.fox_card_block.proofs.Laws.Part.{least-below, least_above}
 use Rattle.fox_card_block.proofs.part.least.Statement.{statement}

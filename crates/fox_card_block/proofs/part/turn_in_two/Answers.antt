@@ -1,7 +1,6 @@
 -- `part::turn_in_two` meets its contract: where the first part is refused, so is the block; where it is served, both parts are the block.
 -- Assumes nothing.
-use borrow.Author.Rules.{rules}
-use mathlib.Core.Path.{◌≡◌, sym, ◌∙◌}
+use mathlib.Core.Path.{sym, ◌∙◌}
 use Rattle.fox_refusals.proofs.Laws.Refusals.{blocked}
 use Rattle.fox_block.specs.Block.{BlockOf}
 use Rattle.fox_card_block.proofs.Parts.{two-refused, two-served}

@@ -1,19 +1,16 @@
 -- `part::turn_part` meets its contract: a refused call returns the first refusal that applies and writes nothing; past the refusals the key's schedule gives
 -- the round keys of the definition, and what is written and returned is the definition's block in hand.
 -- Assumes nothing.
-use borrow.Author.Rules.{rules}
-use mathlib.Core.Path.{◌≡◌, sym, ap, ◌∙◌}
-use Prim.Native.Nat.{ℕ, ◌-◌}
+use mathlib.Core.Path.{sym, ap, ◌∙◌}
+use Prim.Native.Nat.{ℕ}
 use native.Mathlib.Omega.{arith}
 use Rattle.fox_rounds.specs.Skeleton.{size}
-use Rattle.fox_key_schedule.specs.Schedule.{step_block}
-use Rattle.fox_key_schedule.specs.Step.{round_key_at, steps}
-use Rattle.fox_key_schedule.proofs.Laws.Schedules.{scheduled-steps}
+use Rattle.fox_key_schedule.specs.Step.{steps}
 use Rattle.fox_refusals.proofs.Laws.Refusals.{blocked}
 use Rattle.fox_refusals.proofs.Laws.Reply.{served-reply, refused-reply, chosen, passed_over}
-use Rattle.fox_block.specs.Block.{bytes, state}
+use Rattle.fox_block.specs.Block.{bytes}
 use Rattle.fox_block.proofs.Laws.Block.{rounds-whole}
-use Rattle.fox_card_block.specs.Part.{least, in_hand, parted}
+use Rattle.fox_card_block.specs.Part.{least, in_hand}
 use Rattle.fox_card_block.specs.declared.rounds.Hold.{Hold}
 use Rattle.fox_card_block.proofs.Laws.Part.{parted-size, parted-scheduled}
 use Rattle.fox_card_block.proofs.part.turn_part.Goals as goal

@@ -1,9 +1,7 @@
 -- `rounds::led` meets its contract: nothing comes before round number 0.
 -- Assumes nothing.
 use borrow.Author.Rules.{rules}
-use mathlib.Core.Path.{sym, ap, ◌∙◌}
-use Prim.Native.Nat.{ℕ}
-use Rattle.fox_card_block.specs.Hold.{led}
+use mathlib.Core.Path.{sym, ◌∙◌}
 use Rattle.fox_card_block.proofs.Laws.Hold.{led-first, led-later}
 use Rattle.fox_card_block.proofs.rounds.led.Statement.{statement}
 use Rattle.fox_card_block.proofs.rounds.led.Tie as tie

@@ -1,9 +1,9 @@
 -- `rounds::rounds_on` meets its contract: whenever the loop's test is reached, i - from rounds are done.
 -- Assumes nothing.
 use borrow.Author.Rules.{rules}
-use mathlib.Core.Path.{◌≡◌, refl, sym, ap, ◌∙◌}
+use mathlib.Core.Path.{◌≡◌, ap, ◌∙◌}
 use native.Mathlib.Omega.{arith}
-use Prim.Native.Nat.{ℕ, suc, ◌+◌, ◌-◌, ◌^◌, ◌≤◌, ◌<◌}
+use Prim.Native.Nat.{ℕ, ◌-◌, ◌≤◌}
 use Rattle.fox_key_schedule.specs.Step.{round_key_at, steps}
 use Rattle.fox_card_block.specs.Hold.{round_on, rounds_on}
 use Rattle.fox_card_block.proofs.Laws.Hold.{rounds_on-lt, rounds_on-next}

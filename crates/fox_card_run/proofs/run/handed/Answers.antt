@@ -1,7 +1,6 @@
 -- `run::handed` meets its contract: a refused call returns the first refusal that applies and writes nothing; past the refusals the key's schedule gives the
 -- round keys of the definition, and what is written is the definition's value.
 -- Assumes nothing.
-use borrow.Author.Rules.{rules}
 use mathlib.Core.Path.{sym, ap, ap₂, ◌∙◌}
 use mathlib.Core.List.{List}
 use Prim.Native.Nat.{ℕ}

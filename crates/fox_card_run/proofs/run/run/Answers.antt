@@ -2,7 +2,6 @@
 -- Assumes nothing.
 use mathlib.Core.Path.{sym, ◌∙◌}
 use Rattle.fox_refusals.proofs.Laws.Reply.{chosen, passed_over, handed-answer}
-use borrow.Author.Rules.{rules}
 use Rattle.fox_card_run.proofs.run.run.Goals as goal
 
 pub returns-then-refusal-ne0 : goal.returns-then-refusal-ne0

@@ -1,14 +1,8 @@
 -- `stretch::stretch` meets its contract: whenever the loop's test is reached, the output is XORed up to `at`, and the rest of it is as it was after the first
 -- block. Each step does at least one byte of what is left.
 -- Assumes nothing.
-use mathlib.Core.Path.{◌≡◌}
-use Prim.Native.Nat.{◌-◌, ◌≤◌}
 use native.Mathlib.Omega.{arith}
-use lib.ListN.{length}
 use borrow.Author.Rules.{rules}
-use Rattle.fox_key_schedule.specs.Step.{round_keys_of}
-use Rattle.fox_run.specs.States.{stream}
-use Rattle.fox_run.specs.Parts.{XoredTo}
 use Rattle.fox_run.proofs.Laws.Loop.{xored_to-first, xored_to-self, xored_to-length, xored_to-last}
 use Rattle.fox_run.proofs.Laws.Parts.{part-within, part-some, part-xored_to}
 use Rattle.fox_card_run.proofs.stretch.stretch.Goals as goal

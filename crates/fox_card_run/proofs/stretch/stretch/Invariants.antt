@@ -3,14 +3,10 @@
 -- Assumes nothing.
 use mathlib.Core.Path.{◌≡◌}
 use Prim.Native.Nat.{◌-◌, ◌≤◌}
-use native.Mathlib.Omega.{arith}
 use lib.ListN.{length}
-use borrow.Author.Rules.{rules}
 use Rattle.fox_key_schedule.specs.Step.{round_keys_of}
 use Rattle.fox_run.specs.States.{stream}
 use Rattle.fox_run.specs.Parts.{XoredTo}
-use Rattle.fox_run.proofs.Laws.Loop.{xored_to-first, xored_to-self, xored_to-length, xored_to-last}
-use Rattle.fox_run.proofs.Laws.Parts.{part-within, part-some, part-xored_to}
 use Rattle.fox_card_run.proofs.stretch.stretch.Given as goal
 
 abbrev pub invariant-loop-at : goal.invariant-loop-at

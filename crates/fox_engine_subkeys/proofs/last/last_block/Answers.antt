@@ -2,7 +2,6 @@
 -- Assumes nothing.
 use mathlib.Core.Path.{◌∙◌}
 use lib.ListN.{length-set}
-use borrow.Author.Rules.{rules}
 use Rattle.fox_engine_subkeys.proofs.Laws.Last.{keyed-whole, keyed-part}
 use Rattle.fox_engine_subkeys.proofs.last.last_block.Goals as goal
 

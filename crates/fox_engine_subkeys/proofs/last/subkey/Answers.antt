@@ -2,7 +2,6 @@
 -- Assumes nothing.
 use mathlib.Core.Path.{sym, ap, ap₂, ◌∙◌}
 use lib.ListN.{length}
-use borrow.Author.Rules.{rules}
 use Rattle.fox_tag.specs.Cmac.{doubled, subkey_of}
 use Rattle.fox_engine_subkeys.proofs.last.subkey.Goals as goal
 

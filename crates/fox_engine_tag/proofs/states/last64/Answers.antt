@@ -3,8 +3,6 @@
 use mathlib.Core.Path.{ap, ap₂, ◌∙◌}
 use mathlib.Core.List.{List}
 use Prim.Native.Nat.{ℕ}
-use lib.ListN.{length}
-use borrow.Author.Rules.{rules}
 use Rattle.fox_block.specs.Block.{state64}
 use Rattle.fox_tag.specs.Cmac.{keyed_block}
 use Rattle.fox_engine_tag.proofs.states.last64.Goals as goal

@@ -1,7 +1,6 @@
 -- `states::xored` meets its contract: by cases of the two states.
 -- Assumes nothing.
 use mathlib.Core.Path.{sym, ap, ap₂, ◌∙◌}
-use borrow.Author.Rules.{rules}
 use Rattle.fox_rounds.specs.declared.state.State.TheVariants.{Of64, Of128}
 use Rattle.fox_tag.specs.States.{xor_states}
 use Rattle.fox_engine_tag.proofs.states.xored.Goals as goal

@@ -1,14 +1,11 @@
 -- `states::zero` meets its contract: the state of a zero block has zero words.
 -- Assumes nothing.
-use mathlib.Core.Path.{refl, sym, ap, ap₂, ◌∙◌}
-use mathlib.Core.List.{List}
+use mathlib.Core.Path.{sym, ap, ◌∙◌}
 use Prim.Native.Nat.{ℕ}
 use lib.ListN.{replicate}
 use borrow.Author.Rules.{rules}
 use Rattle.fox_layers.specs.Words.{joined}
-use Rattle.fox_rounds.specs.declared.state.State.{State}
 use Rattle.fox_rounds.specs.declared.state.State.TheVariants.{Of64, Of128}
-use Rattle.fox_refusals.specs.Refusals.{block_size}
 use Rattle.fox_block.specs.Block.{state64, state128, state}
 use Rattle.fox_block.proofs.Laws.Block.{size_64, size-128, state-64, state-128}
 use Rattle.fox_engine_tag.proofs.states.zero.Statement.{statement}

@@ -3,7 +3,6 @@
 use mathlib.Core.Path.{sym, ap, ◌∙◌, subst}
 use mathlib.Core.List.{List}
 use Prim.Native.Nat.{ℕ}
-use borrow.Author.Rules.{rules}
 use Rattle.fox_rounds.specs.Skeleton.{size}
 use Rattle.fox_block.specs.Block.{bytes}
 use Rattle.fox_tag.specs.Promise.{Compared}

@@ -6,14 +6,14 @@ use Rattle.fox_run_file_read.proofs.Laws.Found.{absent, present}
 use Rattle.fox_run_file_read.proofs.places.next_at.Statement.{statement}
 use Rattle.fox_run_file_read.proofs.places.next_at.Tie as tie
 
-returns : tie.Need-returns
+returns : tie.Need-returns-then-not-next
 unfolding next_at
-returns c = rw (absent c.before.before.find_at.ensures c.if1.true)
+returns c = rw (absent c.before.before.find_at-next.ensures c.if-not-next.true)
 
-returns-2 : tie.Need-returns-2
+returns-2 : tie.Need-returns
 unfolding next_at
 returns-2 c =
-    let (there, stands) = present c.before.before.find_at.ensures c.if1.false in
+    let (there, stands) = present c.before.before.find_at-next.ensures c.if-not-next.false in
     rw (there, stands.size)
 
 pub next_at_spec : {M : Type 1} → statement M

@@ -7,19 +7,19 @@ use Rattle.fox_run_file_read.proofs.Laws.Found.{absent, present, moved, movable}
 use Rattle.fox_run_file_read.proofs.places.pass_over.Statement.{statement}
 use Rattle.fox_run_file_read.proofs.places.pass_over.Tie as tie
 
-returns : tie.Need-returns
+returns : tie.Need-returns-then-not-s
 unfolding passed_over
-returns c = rw (absent c.before.before.find_at.ensures c.if1.true)
+returns c = rw (absent c.before.before.find_at-s.ensures c.if-not-s.true)
 
 after-requires : tie.Need-after-requires
 after-requires c κs =
-    let (there, stands) = present c.before.before.find_at.ensures c.if1.false in
+    let (there, stands) = present c.before.before.find_at-s.ensures c.if-not-s.false in
     movable stands c.before.before.before.before.well_formed.0.0
 
-returns-2 : tie.Need-returns-2
+returns-2 : tie.Need-returns
 unfolding passed_over
 returns-2 c =
-    let (there, stands) = present c.before.before.before.find_at.ensures c.before.if1.false in
+    let (there, stands) = present c.before.before.before.find_at-s.ensures c.before.if-not-s.false in
     rw there (c.after.ensures ∙ moved stands)
 
 pub pass_over_spec : {M : Type 1} → statement M

@@ -14,24 +14,24 @@ use borrow.Author.Rules.{rules}
 use Rattle.fox_server_session_block.proofs.seal.sealed.Statement.{statement}
 use Rattle.fox_server_session_block.proofs.seal.sealed.Tie as tie
 
-abbrev invariant-loop : tie.invariant-loop
+abbrev invariant-loop : tie.invariant-loop-i
 invariant-loop cipher keys rounds last y₀ i₀ y i = (i ≤ last) × TurnLeft true (held_key cipher keys) rounds y₀ i y
 
-abbrev decreases-loop : tie.decreases-loop
+abbrev decreases-loop : tie.decreases-loop-i
 decreases-loop cipher keys rounds last y₀ i₀ y i = last - i
 
-loop-holds : tie.Need-loop-init invariant-loop decreases-loop
+loop-holds : tie.Need-loop-i-init invariant-loop decreases-loop
 loop-holds c = (search rules, turn_left-first true (held_key c.args.cipher c.args.keys.now) c.args.rounds c.args.x)
 
-loop-again : tie.Need-loop-preserved invariant-loop decreases-loop
+loop-again : tie.Need-loop-i-preserved invariant-loop decreases-loop
 unfolding place
 loop-again c =
     let at = c.before.before.before in
     let a = at.before.args in (
       search rules,
-      turn_left-on true (held_key a.cipher a.keys.now) a.rounds at.loop.i a.x at.loop.y c.between.result (search rules)
-          at.loop.invariant.1
-          (c.between.ensures ∙ ap (between true) c.before.round-at.ensures),
+      turn_left-on true (held_key a.cipher a.keys.now) a.rounds at.loop-i.i a.x at.loop-i.y c.between-y.result (search rules)
+          at.loop-i.invariant.1
+          (c.between-y.ensures ∙ ap (between true) c.before.round_at.ensures),
     )
 
 returns : tie.Need-returns invariant-loop decreases-loop
@@ -39,8 +39,8 @@ unfolding place
 returns c =
     let at = c.before.before in
     let a = at.before.args in
-    turn_left-last true (held_key a.cipher a.keys.now) a.rounds at.loop.i a.x at.loop.y c.round-at2.result
-    (search rules) (search rules) (search rules) at.loop.invariant.1 c.round-at2.ensures
+    turn_left-last true (held_key a.cipher a.keys.now) a.rounds at.loop-i.i a.x at.loop-i.y c.round_at-2.result
+    (search rules) (search rules) (search rules) at.loop-i.invariant.1 c.round_at-2.ensures
     ∙ ap (λ (ks : List ℕ). turned true ks a.x) (held_keys-numbered a.cipher a.keys.now a.rounds)
 
 pub sealed_spec : {M : Type 1} → statement M

@@ -11,10 +11,10 @@ use borrow.Author.Rules.{rules}
 use Rattle.fox_server_session_step.proofs.step.round_keys.Statement.{statement}
 use Rattle.fox_server_session_step.proofs.step.round_keys.Tie as tie
 
-abbrev invariant-loop : tie.invariant-loop
+abbrev invariant-loop : tie.invariant-loop-i
 invariant-loop words keys₀ i₀ keys i = (i ≤ 510) × (length keys ≡ 510) × (take i keys ≡ take i words)
 
-abbrev decreases-loop : tie.decreases-loop
+abbrev decreases-loop : tie.decreases-loop-i
 decreases-loop words keys₀ i₀ keys i = 510 - i
 
 -- one word more
@@ -27,25 +27,25 @@ copied words keys i h l e =
     ∙ sym (take-suc words i 0 h)
     ∙ ap (λ (j : ℕ). take j words) (sym (add-one i))
 
-loop-holds : tie.Need-loop-init invariant-loop decreases-loop
+loop-holds : tie.Need-loop-i-init invariant-loop decreases-loop
 loop-holds c = (omega arith, refl, refl)
 
-loop-again : tie.Need-loop-preserved invariant-loop decreases-loop
+loop-again : tie.Need-loop-i-preserved invariant-loop decreases-loop
 loop-again c =
     let at = c.before.before in
-    let inv = at.loop.invariant in
+    let inv = at.loop-i.invariant in
     let words = at.before.args.words.now in (
       search rules,
-      length-set at.loop.keys at.loop.i _ ∙ inv.1,
-      copied words at.loop.keys at.loop.i (search rules) (search rules) inv.2,
+      length-set at.loop-i.keys at.loop-i.i _ ∙ inv.1,
+      copied words at.loop-i.keys at.loop-i.i (search rules) (search rules) inv.2,
     )
 
 returns : tie.Need-returns invariant-loop decreases-loop
 returns c =
     let at = c.before in
-    let inv = at.loop.invariant in
-    let done : at.loop.i ≡ 510 = search rules in
-    sym (take_all 510 at.loop.keys (search rules)) ∙ rw done at inv.2
+    let inv = at.loop-i.invariant in
+    let done : at.loop-i.i ≡ 510 = search rules in
+    sym (take_all 510 at.loop-i.keys (search rules)) ∙ rw done at inv.2
 
 pub round_keys_spec : {M : Type 1} → statement M
 round_keys_spec =

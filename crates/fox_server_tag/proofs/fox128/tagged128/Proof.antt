@@ -22,11 +22,11 @@ use Rattle.fox_server_tag.proofs.Laws.Zero.{zero-128, isnt}
 use Rattle.fox_server_tag.proofs.fox128.tagged128.Statement.{statement}
 use Rattle.fox_server_tag.proofs.fox128.tagged128.Tie as tie
 
-chain128-requires : tie.Need-chain128-requires
+chain128-requires : tie.Need-chain128-y-requires
 chain128-requires c κs =
     let many = c.before.before.before.before in
     let start = many.before.before in
-    (start.requires.0, (start.requires.1.0, start.requires.1.1, rw many.blocks-before.ensures (before-within 16 start.args.message.now)))
+    (start.requires.0, (start.requires.1.0, start.requires.1.1, rw many.blocks_before-n.ensures (before-within 16 start.args.message.now)))
 
 returns : tie.Need-returns
 unfolding block_size xor_states
@@ -43,12 +43,12 @@ returns c =
     let zeros : List ℕ = replicate (block_size 128) 0 in
     let rks = round_keys_in128 a.keys.now a.rounds in
     let sealed = turned-128 true 128 rks zeros isnt
-    (seal.turn128.ensures ∙ ap (turned true rks) (zero-128 new.new.ensures ∙ state-128 128 zeros isnt)) in
-    tag-state 128 rks a.message.now (λ i. (known.shared-slice-known.given i).fits)
-    (chain.chain128.ensures ∙ ap (λ (k : ℕ). state 128 (chain_of 128 rks a.message.now k)) many.blocks-before.ensures)
-    part.last-part.ensures.0 part.last-part.ensures.1
-    (ap Of128 (last.last128.ensures ∙ ap (λ (l : List ℕ). state128 (keyed_block 16 l part.last-part.result.now)) sealed) ∙ sym (state-128 128 _ isnt))
-    (c.turn1282.ensures ∙ ap (λ (w : Fox128). turned true rks (Of128 w)) xor.xor128.ensures)
+    (seal.turn128-x.ensures ∙ ap (turned true rks) (zero-128 new.new.ensures ∙ state-128 128 zeros isnt)) in
+    tag-state 128 rks a.message.now (λ i. (known.shared_slice_known-1.given i).fits)
+    (chain.chain128-y.ensures ∙ ap (λ (k : ℕ). state 128 (chain_of 128 rks a.message.now k)) many.blocks_before-n.ensures)
+    part.last_part.ensures.0 part.last_part.ensures.1
+    (ap Of128 (last.last128-z.ensures ∙ ap (λ (l : List ℕ). state128 (keyed_block 16 l part.last_part.result.now)) sealed) ∙ sym (state-128 128 _ isnt))
+    (c.turn128.ensures ∙ ap (λ (w : Fox128). turned true rks (Of128 w)) xor.xor128.ensures)
 
 pub tagged128_spec : {M : Type 1} → statement M
 tagged128_spec =

@@ -22,11 +22,11 @@ use Rattle.fox_server_tag.proofs.Laws.Zero.{zero-64}
 use Rattle.fox_server_tag.proofs.fox64.tagged64.Statement.{statement}
 use Rattle.fox_server_tag.proofs.fox64.tagged64.Tie as tie
 
-chain64-requires : tie.Need-chain64-requires
+chain64-requires : tie.Need-chain64-y-requires
 chain64-requires c κs =
     let many = c.before.before.before.before in
     let start = many.before.before in
-    (start.requires.0, (start.requires.1.0, start.requires.1.1, rw many.blocks-before.ensures (before-within 8 start.args.message.now)))
+    (start.requires.0, (start.requires.1.0, start.requires.1.1, rw many.blocks_before-n.ensures (before-within 8 start.args.message.now)))
 
 returns : tie.Need-returns
 unfolding block_size xor_states
@@ -43,12 +43,12 @@ returns c =
     let zeros : List ℕ = replicate (block_size 64) 0 in
     let rks = round_keys_in64 a.keys.now a.rounds in
     let sealed = turned-64 true 64 rks zeros refl
-    (seal.turn64.ensures ∙ ap (turned true rks) (zero-64 new.new.ensures ∙ state-64 64 zeros refl)) in
-    tag-state 64 rks a.message.now (λ i. (known.shared-slice-known.given i).fits)
-    (chain.chain64.ensures ∙ ap (λ (k : ℕ). state 64 (chain_of 64 rks a.message.now k)) many.blocks-before.ensures)
-    part.last-part.ensures.0 part.last-part.ensures.1
-    (ap Of64 (last.last64.ensures ∙ ap (λ (l : List ℕ). state64 (keyed_block 8 l part.last-part.result.now)) sealed) ∙ sym (state-64 64 _ refl))
-    (c.turn642.ensures ∙ ap (λ (w : Fox64). turned true rks (Of64 w)) xor.xor64.ensures)
+    (seal.turn64-x.ensures ∙ ap (turned true rks) (zero-64 new.new.ensures ∙ state-64 64 zeros refl)) in
+    tag-state 64 rks a.message.now (λ i. (known.shared_slice_known-1.given i).fits)
+    (chain.chain64-y.ensures ∙ ap (λ (k : ℕ). state 64 (chain_of 64 rks a.message.now k)) many.blocks_before-n.ensures)
+    part.last_part.ensures.0 part.last_part.ensures.1
+    (ap Of64 (last.last64-z.ensures ∙ ap (λ (l : List ℕ). state64 (keyed_block 8 l part.last_part.result.now)) sealed) ∙ sym (state-64 64 _ refl))
+    (c.turn64.ensures ∙ ap (λ (w : Fox64). turned true rks (Of64 w)) xor.xor64.ensures)
 
 pub tagged64_spec : {M : Type 1} → statement M
 tagged64_spec =

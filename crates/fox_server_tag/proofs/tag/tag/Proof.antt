@@ -15,16 +15,16 @@ other : {cipher : ℕ} → (cipher ≡ 64) ⊎ (cipher ≡ 128) → (cipher ≡ 
 other (inl e) isnt = absurd (isnt e)
 other (inr e) isnt = e
 
-returns : tie.Need-returns
+returns : tie.Need-returns-then-cipher-eq64
 returns c =
-    let is = c.before.if1.true in
+    let is = c.before.if-cipher-eq64.true in
     let a = c.before.before.before.args in
     c.tag64.ensures
     ∙ ap₂ (λ (cipher : ℕ) (ks : List ℕ). state cipher (tag_with cipher ks a.message.now)) (sym is) (sym (held_keys-64 a.cipher a.keys.now a.rounds is))
 
-returns-2 : tie.Need-returns-2
+returns-2 : tie.Need-returns-else-cipher-eq64
 returns-2 c =
-    let isnt = c.before.if1.false in
+    let isnt = c.before.if-cipher-eq64.false in
     let start = c.before.before.before in
     let a = start.args in
     c.tag128.ensures

@@ -1,7 +1,6 @@
 -- `counter::make` meets its contract: a refused call returns the first refusal that applies and writes nothing; past the refusals the room is as long as the
 -- cipher's block, and what is written there is the definition's value.
 -- Assumes nothing.
-use borrow.Author.Rules.{rules}
 use mathlib.Core.Path.{sym, ◌∙◌}
 use Rattle.fox_refusals.proofs.Laws.Refusals.{counter-known}
 use Rattle.fox_refusals.proofs.Laws.Reply.{served-reply, refused-reply}

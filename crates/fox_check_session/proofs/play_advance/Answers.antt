@@ -1,0 +1,10 @@
+-- `play_advance` is safe: the output that it passes is as long as the input.
+-- Assumes nothing.
+use mathlib.Core.Path.{sym}
+use lib.Seq.{length-take-le}
+use borrow.Author.Rules.{rules}
+
+use Rattle.fox_check_session.proofs.play_advance.Goals as goal
+
+pub advance_into-requires : goal.advance_into-requires
+advance_into-requires c = sym (length-take-le _ _ (search rules))

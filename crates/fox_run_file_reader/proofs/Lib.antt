@@ -1,2 +1,0 @@
--- What the walks of this crate have in common.
-pub mod Parts

@@ -1,0 +1,42 @@
+-- `block::block_at` meets its contract: the first counter block is read as a state, counted on to the position's block, and sealed. At the run's end there is
+-- nothing to show.
+-- Assumes nothing.
+use mathlib.Core.Path.{sym, ◌∙◌}
+use Prim.Native.Nat.{◌≤◌}
+use native.Mathlib.Nat.{div-le_self}
+use native.Mathlib.Omega.{arith}
+use lib.ListN.{length}
+use lib.Seq.{length-take-le}
+use Rattle.fox_server_key.specs.Prepared.{held_keys}
+use Rattle.fox_server_key.proofs.Laws.Prepares.{size-le}
+use Rattle.fox_server_session_block.proofs.Laws.Blocks.{size-some, front_length, block-sealed}
+use borrow.Author.Rules.{rules}
+
+use Rattle.fox_server_session_block.proofs.block.block_at.Goals as goal
+
+pub returns-then-position-eq1073741824 : goal.returns-then-position-eq1073741824
+returns-then-position-eq1073741824 c = λ h. absurd (omega (arith, c.if-position-eq1073741824.true))
+
+pub slice_bounds-bytes-end : goal.slice_bounds-bytes-end
+slice_bounds-bytes-end c = omega (arith, size-le _ c.block_size-size.ensures, c.put_pair.auto.out)
+
+pub slice_bounds-read-end : goal.slice_bounds-read-end
+slice_bounds-read-end c = sym (length-take-le _ _ (omega (arith, size-le _ c.block_size-size.ensures, c.put_pair.auto.out)))
+
+pub read-first-requires : goal.read-first-requires
+read-first-requires c =
+    let a = c.args in
+    front_length a.cipher a.counter c.put_pair.ensures c.block_size-size.ensures
+
+pub nonzero_div-position : goal.nonzero_div-position
+nonzero_div-position c = size-some _ c.block_size-size.ensures
+
+pub overflow_cast-position : goal.overflow_cast-position
+overflow_cast-position c =
+    record { fits = omega (arith, div-le_self c.args.position c.block_size-size.result, c.requires.2) }
+
+pub returns : goal.returns
+returns c =
+    let a = c.args in
+    λ h. block-sealed a.cipher (held_keys a.cipher a.keys.now a.rounds) a.position a.counter c.pair_of_state.result c.block_size-size.ensures
+    c.put_pair.ensures c.read-first.ensures c.counted-here.ensures c.sealed-block.ensures c.pair_of_state.ensures
