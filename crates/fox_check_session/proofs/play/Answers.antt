@@ -5,19 +5,16 @@ use Prim.Native.Nat.{◌-◌, ◌≤◌}
 use native.Mathlib.Omega.{arith}
 use borrow.Author.Rules.{rules}
 use lib.ListN.{length, length-drop}
-
 use Rattle.fox_check_session.proofs.play.Goals as goal
 
--- after a turn less is left: the call was c from what was left before
-module _ (c : tie.After-left_after-left invariant-loop decreases-loop) where
-  less : c.left_after-left.result ≤ c.loop-left.left - 1
-  less =
-      let text = c.args.text.now in
-      let left = c.loop-left.left in
-      omega (arith, c.left_after-left.ensures, ap length c.rest-t.ensures, length-drop (length text - left) text, c.loop-left.invariant)
-
 pub loop-left-smaller : goal.loop-left-smaller
-loop-left-smaller c = omega (arith, less c)
+loop-left-smaller c =
+    let text = c.args.text.now in
+    let left = c.loop-left.left in
+    omega (arith, c.left_after-left.ensures, ap length c.rest-t.ensures, length-drop (length text - left) text, c.loop-left.invariant)
 
 pub loop-left-preserved : goal.loop-left-preserved
-loop-left-preserved c = omega (arith, less c)
+loop-left-preserved c =
+    let text = c.args.text.now in
+    let left = c.loop-left.left in
+    omega (arith, c.left_after-left.ensures, ap length c.rest-t.ensures, length-drop (length text - left) text, c.loop-left.invariant)

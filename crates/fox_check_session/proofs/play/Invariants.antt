@@ -5,7 +5,6 @@ use Prim.Native.Nat.{◌-◌, ◌≤◌}
 use native.Mathlib.Omega.{arith}
 use borrow.Author.Rules.{rules}
 use lib.ListN.{length, length-drop}
-
 use Rattle.fox_check_session.proofs.play.Given as goal
 
 abbrev pub invariant-loop-left : goal.invariant-loop-left

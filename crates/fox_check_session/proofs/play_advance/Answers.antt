@@ -3,8 +3,7 @@
 use mathlib.Core.Path.{sym}
 use lib.Seq.{length-take-le}
 use borrow.Author.Rules.{rules}
-
 use Rattle.fox_check_session.proofs.play_advance.Goals as goal
 
-pub advance_into-requires : goal.advance_into-requires
-advance_into-requires c = sym (length-take-le _ _ (search rules))
+pub slice_bounds-advance_into-end-2 : goal.slice_bounds-advance_into-end-2
+slice_bounds-advance_into-end-2 c = sym (length-take-le _ _ (search rules))

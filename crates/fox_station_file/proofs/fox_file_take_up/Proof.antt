@@ -7,7 +7,7 @@ use Rattle.fox_station_file.proofs.fox_file_take_up.Tie as tie
 
 returns : tie.Need-returns
 returns c =
-    let taken = c.before.before.take-up-from-key.ensures in
+    let taken = c.before.before.take_up_from_key-taken.ensures in
     record { refusal = taken.refusal; place = c.words_of.ensures ∙ taken.place }
 
 pub fox_file_take_up_spec : {M : Type 1} → statement M

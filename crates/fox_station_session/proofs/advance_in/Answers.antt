@@ -2,7 +2,6 @@
 -- Assumes nothing.
 use borrow.Author.Rules.{rules}
 use Rattle.fox_station_session.proofs.Laws.Calls.{step_kept}
-
 use Rattle.fox_station_session.proofs.advance_in.Goals as goal
 
 pub returns : goal.returns

@@ -9,32 +9,27 @@ use native.Mathlib.Omega.{arith}
 use lib.ListN.{length, take, length-set}
 use lib.Seq.{take-suc, take-suc-set, take_all}
 use Rattle.fox_station_session.proofs.Laws.Words.{last_stored, all-stored}
-
 use Rattle.fox_station_session.proofs.words_of.Goals as goal
-
--- the array of round keys has 510 words
-keys-long : (c : tie.Start invariant-loop decreases-loop) → length c.args.s.key-1.keys-1 ≡ 510
-keys-long c = search rules
 
 pub loop-i-preserved : goal.loop-i-preserved
 loop-i-preserved c =
     let at = c.loop-i in
-    let keys = c.args.s.key-1.keys-1 in
-    let long : length at.words-1 ≡ 519 = at.invariant.1 in
-    let here : at.i < length at.words-1 = omega arith in
-    let there : at.i < length keys = omega (arith, keys-long c) in
-    (omega arith, simp length-set long, rw (add-one, take-suc-set at.words-1 at.i, take-suc keys at.i 0, at.invariant.2))
+    let keys = c.args.s.key.keys in
+    let long : length at.words ≡ 519 = at.invariant.1 in
+    let here : at.i < length at.words = omega arith in
+    let there : at.i < length keys = omega arith in
+    (omega arith, simp length-set long, rw (add-one, take-suc-set at.words at.i, take-suc keys at.i 0, at.invariant.2))
 
 pub returns : goal.returns
 returns c =
     let at = c.loop-i in
     let all : at.i ≡ 510 = omega arith in
-    let keys = rw all at at.invariant.2 ∙ take_all 510 c.args.s.key-1.keys-1 (omega (arith, keys-long c)) in
+    let keys = rw all at at.invariant.2 ∙ take_all 510 c.args.s.key.keys (omega arith) in
     let stored = c.write_here.ensures in (
       stored.0
-          ∙ all-stored at.words-1 c.args.s at.invariant.1 keys c.struct_known-1.given.0.fits c.struct_known-2-1.given.1.0.fits
+          ∙ all-stored at.words c.args.s at.invariant.1 keys c.struct_known-1.given.0.fits c.struct_known-2-1.given.1.0.fits
           c.direction.ensures,
-      stored.1 ∙ last_stored at.words-1 c.args.s _ at.invariant.1 ∙ c.direction.ensures,
+      stored.1 ∙ last_stored at.words c.args.s _ at.invariant.1 ∙ c.direction.ensures,
     )
 
 pub loop-i-init : goal.loop-i-init

@@ -9,7 +9,6 @@ use native.Mathlib.Omega.{arith}
 use lib.ListN.{length, take, length-set}
 use lib.Seq.{take-suc, take-suc-set, take_all}
 use Rattle.fox_station_session.proofs.Laws.Words.{last_stored, all-stored}
-
 use Rattle.fox_station_session.proofs.words_of.Given as goal
 
 abbrev pub invariant-loop-i : goal.invariant-loop-i

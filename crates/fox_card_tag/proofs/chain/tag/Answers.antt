@@ -10,7 +10,6 @@ use Rattle.fox_block.specs.Block.{seal_with}
 use Rattle.fox_tag.specs.Cmac.{blocks_before}
 use Rattle.fox_tag.specs.Tag.{chain_of}
 use Rattle.fox_tag.proofs.Laws.ByStates.{last-chained}
-
 use Rattle.fox_card_tag.proofs.chain.tag.Goals as goal
 
 pub returns : goal.returns

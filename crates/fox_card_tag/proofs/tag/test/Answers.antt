@@ -10,7 +10,6 @@ use Rattle.fox_block.proofs.Laws.Block.{rounds-whole}
 use Rattle.fox_tag.specs.Tag.{tag_with}
 use Rattle.fox_tag.proofs.Laws.Answers.{test-refused, test_compared}
 use Rattle.fox_tag.proofs.Laws.Parts.{size-most}
-
 use Rattle.fox_card_tag.proofs.tag.test.Goals as goal
 
 pub returns-then-refusal-ne0 : goal.returns-then-refusal-ne0

@@ -3,7 +3,6 @@
 use Prim.Native.Nat.{◌-◌, ◌≤◌}
 use borrow.Author.Rules.{rules}
 use lib.ListN.{length}
-
 use Rattle.fox_check_session.proofs.lines.print_bytes.Given as goal
 
 abbrev pub invariant-loop-i : goal.invariant-loop-i

@@ -4,7 +4,6 @@ use borrow.Author.Rules.{rules}
 use mathlib.Core.Path.{sym, ap, ◌∙◌}
 use Rattle.fox_rounds.specs.Skeleton.{size}
 use Rattle.fox_block.specs.Block.{bytes}
-
 use Rattle.fox_engine_block.proofs.blocks.write.Goals as goal
 
 pub write64-requires : goal.write64-requires

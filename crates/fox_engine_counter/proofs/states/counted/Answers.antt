@@ -4,7 +4,6 @@ use Rattle.std.proofs.Common.{sym, ap, ◌∙◌, rules}
 use Rattle.fox_rounds.specs.declared.state.State.{State}
 use Rattle.fox_rounds.specs.declared.state.State.TheVariants.{Of64, Of128}
 use Rattle.fox_run.specs.States.{counted}
-
 use Rattle.fox_engine_counter.proofs.states.counted.Goals as goal
 
 pub returns-in-Of64 : goal.returns-in-Of64

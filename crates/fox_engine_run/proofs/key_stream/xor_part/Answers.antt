@@ -8,7 +8,6 @@ use Rattle.fox_rounds.specs.Skeleton.{size}
 use Rattle.fox_rounds.specs.declared.state.State.{State}
 use Rattle.fox_block.specs.Block.{bytes}
 use Rattle.fox_run.specs.Parts.{Xored}
-
 use Rattle.fox_engine_run.proofs.key_stream.xor_part.Goals as goal
 
 pub xor_part64-requires : goal.xor_part64-requires

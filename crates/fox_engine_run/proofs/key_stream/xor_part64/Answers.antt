@@ -8,7 +8,6 @@ use lib.Seq.{take_all}
 use Rattle.fox_layers.specs.Words.{xor_each}
 use Rattle.fox_block.specs.Block.{bytes64}
 use borrow.Author.Rules.{rules}
-
 use Rattle.fox_engine_run.proofs.key_stream.xor_part64.Goals as goal
 
 pub returns : goal.returns

@@ -12,7 +12,6 @@ use Rattle.fox_layers.proofs.Laws.Words.{length-split}
 use Rattle.fox_block.specs.Block.{bytes128}
 use Rattle.fox_bytes.proofs.Laws.XorEach.{length-xor_each-min, xor_each-append, xored_to-after}
 use borrow.Author.Rules.{rules}
-
 use Rattle.fox_engine_run.proofs.key_stream.xor_whole128.Goals as goal
 
 pub returns : goal.returns

@@ -2,7 +2,6 @@
 -- Assumes nothing.
 use borrow.Author.Rules.{rules}
 use Rattle.fox_block.specs.Block.{bytes64}
-
 use Rattle.fox_engine_run.proofs.key_stream.xor_whole64.Goals as goal
 
 pub returns : goal.returns

@@ -11,7 +11,6 @@ use Rattle.fox_layers.specs.Words.{Bytes, split, xor_each}
 use Rattle.fox_layers.proofs.Laws.Words.{length-split}
 use Rattle.fox_bytes.proofs.Laws.XorEach.{length-xor_each-min, xor_each-append, word-xored, xored_to-after}
 use borrow.Author.Rules.{rules}
-
 use Rattle.fox_engine_run.proofs.key_stream.xor_words.Goals as goal
 
 pub returns : goal.returns

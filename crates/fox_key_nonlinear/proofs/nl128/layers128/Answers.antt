@@ -7,7 +7,6 @@ use Rattle.fox_layers.specs.Diffusion.{mu8}
 use Rattle.fox_key_nonlinear.specs.Nonlinear.{mix64, mix128, layers}
 use Rattle.fox_key_nonlinear.proofs.Laws.KeyWords.{words32}
 use Rattle.fox_key_nonlinear.proofs.Laws.Layers.{pad-8-4, layers-made}
-
 use Rattle.fox_key_nonlinear.proofs.nl128.layers128.Goals as goal
 
 pub returns : goal.returns

@@ -3,7 +3,6 @@
 use Rattle.fox_rounds.specs.Skeleton.{through, seal128}
 use Rattle.fox_key_nonlinear.specs.Nonlinear.{number128, NL128}
 use Rattle.fox_key_nonlinear.proofs.Laws.KeyWords.{pairs32}
-
 use Rattle.fox_key_nonlinear.proofs.nl128.nl128.Goals as goal
 
 pub returns : goal.returns

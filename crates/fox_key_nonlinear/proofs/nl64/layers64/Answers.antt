@@ -7,7 +7,6 @@ use Rattle.fox_layers.specs.Diffusion.{mu4}
 use Rattle.fox_key_nonlinear.specs.Nonlinear.{mix64, layers}
 use Rattle.fox_key_nonlinear.proofs.Laws.KeyWords.{halves16}
 use Rattle.fox_key_nonlinear.proofs.Laws.Layers.{pad-4-4, layers-made}
-
 use Rattle.fox_key_nonlinear.proofs.nl64.layers64.Goals as goal
 
 pub returns : goal.returns

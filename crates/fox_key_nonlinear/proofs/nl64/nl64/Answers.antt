@@ -5,7 +5,6 @@ use Rattle.fox_layers.specs.Words.{◌⊕◌}
 use Rattle.fox_rounds.specs.Skeleton.{through, seal64}
 use Rattle.fox_key_nonlinear.specs.Nonlinear.{number64, NL64}
 use Rattle.fox_key_nonlinear.proofs.Laws.KeyWords.{words16}
-
 use Rattle.fox_key_nonlinear.proofs.nl64.nl64.Goals as goal
 
 pub returns : goal.returns

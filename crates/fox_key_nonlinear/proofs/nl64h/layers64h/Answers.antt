@@ -7,7 +7,6 @@ use Rattle.fox_layers.specs.Diffusion.{mu4}
 use Rattle.fox_key_nonlinear.specs.Nonlinear.{mix64h, layers}
 use Rattle.fox_key_nonlinear.proofs.Laws.KeyWords.{halves32}
 use Rattle.fox_key_nonlinear.proofs.Laws.Layers.{pad-4-8, layers-made}
-
 use Rattle.fox_key_nonlinear.proofs.nl64h.layers64h.Goals as goal
 
 pub returns : goal.returns

@@ -5,7 +5,6 @@ use Rattle.fox_layers.specs.Words.{◌⊕◌}
 use Rattle.fox_rounds.specs.Skeleton.{through, seal64}
 use Rattle.fox_key_nonlinear.specs.Nonlinear.{number64, NL64h}
 use Rattle.fox_key_nonlinear.proofs.Laws.KeyWords.{words32}
-
 use Rattle.fox_key_nonlinear.proofs.nl64h.nl64h.Goals as goal
 
 pub returns : goal.returns

@@ -7,7 +7,6 @@ use native.Mathlib.Omega.{arith}
 use lib.ListN.{length}
 use Rattle.fox_run_file_lay.proofs.Laws.Scans.{Onward, onward-first, onward-room, onward-next, onward-last}
 use borrow.Author.Rules.{rules}
-
 use Rattle.fox_run_file_lay.proofs.lay.put_scans.Goals as goal
 
 pub loop-i-init : goal.loop-i-init

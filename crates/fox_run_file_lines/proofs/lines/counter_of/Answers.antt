@@ -8,7 +8,6 @@ use Rattle.fox_text.specs.Ascii.{codes, ascii}
 use Rattle.fox_run_file.specs.Format.{counter_name, key_lines}
 use Rattle.fox_run_file.specs.Says.{block_in, counter_in}
 use borrow.Author.Rules.{rules}
-
 use Rattle.fox_run_file_lines.proofs.lines.counter_of.Goals as goal
 
 pub returns : goal.returns

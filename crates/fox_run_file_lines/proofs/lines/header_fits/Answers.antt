@@ -9,7 +9,6 @@ use Rattle.fox_run_file.specs.Format.{counter_name, key_lines}
 use Rattle.fox_run_file.specs.Says.{is_header}
 use Rattle.fox_run_file.proofs.Laws.Lines.{block-small, compared}
 use borrow.Author.Rules.{rules}
-
 use Rattle.fox_run_file_lines.proofs.lines.header_fits.Goals as goal
 
 pub slice_bounds-starts_with-end : goal.slice_bounds-starts_with-end

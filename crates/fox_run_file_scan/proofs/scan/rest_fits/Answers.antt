@@ -4,7 +4,6 @@ use mathlib.Core.Path.{◌≡◌, sym, ◌∙◌}
 use native.Mathlib.Omega.{arith}
 use Rattle.fox_run_file.proofs.Laws.Rest.{close-small, past-limit, within-limit}
 use borrow.Author.Rules.{rules}
-
 use Rattle.fox_run_file_scan.proofs.scan.rest_fits.Goals as goal
 
 pub overflow_add-close : goal.overflow_add-close

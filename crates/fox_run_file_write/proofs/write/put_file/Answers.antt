@@ -3,7 +3,6 @@
 use Rattle.fox_server_key.specs.Prepared.{round_keys_in}
 use Rattle.fox_run_file_write.proofs.Laws.File.{input-within, sealed-ready, file-room, close-room, file-put}
 use borrow.Author.Rules.{rules}
-
 use Rattle.fox_run_file_write.proofs.write.put_file.Goals as goal
 
 pub overflow_sub-from : goal.overflow_sub-from

@@ -8,7 +8,6 @@ use Rattle.fox_refusals.proofs.Laws.Reply.{served-reply, refused-reply}
 use Rattle.fox_block.proofs.Laws.Block.{size_64, size-128}
 use Rattle.fox_server_block.proofs.Laws.Ready.{ready}
 use Rattle.fox_server_key.proofs.Laws.RoundKeys.{turned-in-64, turned-in-128}
-
 use Rattle.fox_server_block.proofs.block.turn.Goals as goal
 
 pub returns-then-refusal-ne0 : goal.returns-then-refusal-ne0

@@ -6,7 +6,6 @@ use mathlib.Core.Path.{sym, ◌∙◌}
 use Rattle.fox_refusals.proofs.Laws.Refusals.{blocked}
 use Rattle.fox_refusals.proofs.Laws.Reply.{refused-reply}
 use Rattle.fox_server_block.proofs.ByPrepared.{turn-prepared}
-
 use Rattle.fox_server_block.proofs.block.turn_from_key.Goals as goal
 
 pub returns-then-refusal-ne0 : goal.returns-then-refusal-ne0

@@ -12,7 +12,6 @@ use Rattle.fox_run.specs.States.{stream}
 use Rattle.fox_run.specs.Parts.{XoredTo}
 use Rattle.fox_run.proofs.Laws.Loop.{xored_to-first, xored_to-last}
 use Rattle.fox_run.proofs.Laws.Parts.{part-within, part-some, part-xored_to}
-
 use Rattle.fox_server_run.proofs.fox64.stretch64.Given as goal
 
 abbrev pub invariant-loop-at : goal.invariant-loop-at

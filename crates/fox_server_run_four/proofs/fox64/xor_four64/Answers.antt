@@ -8,7 +8,6 @@ use Rattle.fox_block.specs.Block.{bytes64}
 use Rattle.fox_layers.specs.Words.{split}
 use Rattle.fox_run.proofs.Laws.FourBlocks.{xored_to-two}
 use borrow.Author.Rules.{rules}
-
 use Rattle.fox_server_run_four.proofs.fox64.xor_four64.Goals as goal
 
 pub returns : goal.returns

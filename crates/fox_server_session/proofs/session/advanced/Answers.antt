@@ -5,7 +5,6 @@ use lib.Seq.{take_all}
 use Rattle.fox_session.specs.Machine.{Advance}
 use Rattle.fox_server_session.proofs.Laws.Sessions.{in-session}
 use borrow.Author.Rules.{rules}
-
 use Rattle.fox_server_session.proofs.session.advanced.Goals as goal
 
 pub returns : goal.returns

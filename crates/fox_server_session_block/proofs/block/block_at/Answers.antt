@@ -11,7 +11,6 @@ use Rattle.fox_server_key.specs.Prepared.{held_keys}
 use Rattle.fox_server_key.proofs.Laws.Prepares.{size-le}
 use Rattle.fox_server_session_block.proofs.Laws.Blocks.{size-some, front_length, block-sealed}
 use borrow.Author.Rules.{rules}
-
 use Rattle.fox_server_session_block.proofs.block.block_at.Goals as goal
 
 pub returns-then-position-eq1073741824 : goal.returns-then-position-eq1073741824

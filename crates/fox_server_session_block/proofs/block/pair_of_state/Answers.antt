@@ -12,7 +12,6 @@ use Rattle.fox_block.specs.Block.{bytes}
 use Rattle.fox_block.proofs.Laws.Block.{length-bytes}
 use borrow.Author.Rules.{rules}
 use Rattle.fox_server_session_block.proofs.Laws.Blocks.{state-small}
-
 use Rattle.fox_server_session_block.proofs.block.pair_of_state.Goals as goal
 
 pub slice_bounds-block-end : goal.slice_bounds-block-end

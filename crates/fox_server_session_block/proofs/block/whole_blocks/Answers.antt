@@ -10,7 +10,6 @@ use Rattle.fox_run.proofs.Laws.Loop.{xored_to-first, xored_to-last}
 use Rattle.fox_server_key.proofs.Laws.Prepares.{size-le}
 use Rattle.fox_server_session_block.proofs.Laws.Blocks.{front-block, front_length}
 use borrow.Author.Rules.{rules}
-
 use Rattle.fox_server_session_block.proofs.block.whole_blocks.Goals as goal
 
 pub returns-then-input-eq0 : goal.returns-then-input-eq0

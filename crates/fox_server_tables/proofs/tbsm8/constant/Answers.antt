@@ -10,7 +10,6 @@ use Rattle.fox_layers.specs.Substitution.{S₁, S₂, S₃, halves, whole, or4, 
 use Rattle.fox_layers.specs.Diffusion.{mu8_rows}
 use Rattle.fox_layers.specs.Tables.{table, column}
 use Rattle.fox_server_tables.proofs.Laws.Doubling.{quick, quick_scaled, by_number}
-
 use Rattle.fox_server_tables.proofs.tbsm8.constant.Goals as goal
 
 -- the number that is left when those before it are ruled out

@@ -9,7 +9,6 @@ use borrow.Author.Rules.{rules}
 use Rattle.fox_layers.specs.Diffusion.{mu8_rows}
 use Rattle.fox_layers.specs.Tables.{TBSM}
 use Rattle.fox_server_tables.proofs.Laws.Filled.{tbsm_entry-entered, filled_to-next}
-
 use Rattle.fox_server_tables.proofs.tbsm8.set_table.Given as goal
 
 abbrev pub invariant-loop-x : goal.invariant-loop-x

@@ -5,7 +5,6 @@ use borrow.Author.Rules.{rules}
 use Rattle.fox_layers.specs.Diffusion.{mu8_rows}
 use Rattle.fox_layers.proofs.Laws.Tables.{length-TBSM}
 use Rattle.fox_server_tables.proofs.Laws.Filled.{filled_to-all}
-
 use Rattle.fox_server_tables.proofs.tbsm8.tbsm.Goals as goal
 
 pub set_table-requires : goal.set_table-requires

@@ -8,7 +8,6 @@ use Rattle.fox_text.specs.Lines.{after_line, after_lines, lines}
 use Rattle.fox_sheet.specs.Sheet.{said, values_of}
 use Rattle.fox_sheet.proofs.Laws.{first-broken, same-values, broken-answer, right_answer}
 use borrow.Author.Rules.{rules}
-
 use Rattle.fox_sheet_answer.proofs.answer.answer.Goals as goal
 
 -- once the sheet is read: the text that follows the settings, and the first malformed line

@@ -2,7 +2,6 @@
 -- Assumes nothing.
 use lib.Seq.{length-take-le}
 use borrow.Author.Rules.{rules}
-
 use Rattle.fox_sheet_answer.proofs.answer.answer_block.Goals as goal
 
 pub write_answer-requires : goal.write_answer-requires

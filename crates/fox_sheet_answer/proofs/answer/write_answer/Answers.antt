@@ -6,7 +6,6 @@ use Rattle.fox_text.specs.Ascii.{codes, ascii}
 use Rattle.fox_text.proofs.Laws.Stores.{at-most}
 use Rattle.fox_sheet.specs.Answer.{refusal_name, values_from, refusal}
 use Rattle.fox_sheet.proofs.Laws.{refused-text, served-text}
-
 use Rattle.fox_sheet_answer.proofs.answer.write_answer.Goals as goal
 
 pub returns-then-a-ne0 : goal.returns-then-a-ne0

@@ -9,7 +9,6 @@ use lib.ListN.{length, drop, get_or}
 use Rattle.fox_text.specs.Decimal.{all_digits, onward, decimal_of}
 use Rattle.fox_text.proofs.Laws.Decimals.{not_found, is_found, digits-here, onward-here, digits-done, grows, no-digits, too_large, in-range, Digit, digit-known}
 use borrow.Author.Rules.{rules}
-
 use Rattle.fox_text_read.proofs.decimal.digits.Given as goal
 
 abbrev pub invariant-loop-i : goal.invariant-loop-i

@@ -3,7 +3,6 @@
 use mathlib.Core.Path.{sym, ◌∙◌}
 use Rattle.fox_text.proofs.Laws.Decimals.{begun, not-begun, not_found}
 use borrow.Author.Rules.{rules}
-
 use Rattle.fox_text_read.proofs.decimal.read_decimal.Goals as goal
 
 pub returns-then-begins : goal.returns-then-begins

@@ -2,7 +2,6 @@
 -- Assumes nothing.
 use Rattle.fox_text.proofs.Laws.Fields.{read-decimal-line}
 use borrow.Author.Rules.{rules}
-
 use Rattle.fox_text_read.proofs.fields.decimal_line.Goals as goal
 
 pub returns : goal.returns

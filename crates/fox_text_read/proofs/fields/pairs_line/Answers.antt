@@ -3,7 +3,6 @@
 use Rattle.fox_text.proofs.Laws.Pairs.{joinable}
 use Rattle.fox_text.proofs.Laws.Fields.{right-pairs, wrong-pairs}
 use borrow.Author.Rules.{rules}
-
 use Rattle.fox_text_read.proofs.fields.pairs_line.Goals as goal
 
 pub join_pairs-requires : goal.join_pairs-requires

@@ -7,7 +7,6 @@ use lib.ListN.{length, drop}
 use Rattle.fox_text.specs.Hex.{all_hex}
 use Rattle.fox_text.proofs.Laws.Pairs.{hex-here, hex-done}
 use borrow.Author.Rules.{rules}
-
 use Rattle.fox_text_read.proofs.hex.all_hex.Given as goal
 
 abbrev pub invariant-loop-i : goal.invariant-loop-i

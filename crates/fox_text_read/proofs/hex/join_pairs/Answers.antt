@@ -10,7 +10,6 @@ use lib.Seq.{sets}
 use Rattle.fox_text.specs.Hex.{is_hex, nibble, pairs_of}
 use Rattle.fox_text.proofs.Laws.Pairs.{hex-at, nibble-small, pairs-stored, pairs-done}
 use borrow.Author.Rules.{rules}
-
 use Rattle.fox_text_read.proofs.hex.join_pairs.Goals as goal
 
 pub loop-i-init : goal.loop-i-init

@@ -10,7 +10,6 @@ use lib.Seq.{sets}
 use Rattle.fox_text.specs.Hex.{is_hex, nibble, pairs_of}
 use Rattle.fox_text.proofs.Laws.Pairs.{hex-at, nibble-small, pairs-stored, pairs-done}
 use borrow.Author.Rules.{rules}
-
 use Rattle.fox_text_read.proofs.hex.join_pairs.Given as goal
 
 abbrev pub invariant-loop-i : goal.invariant-loop-i

@@ -5,7 +5,6 @@ use mathlib.Core.Path.{sym, subst}
 use mathlib.Core.Bool.{Bool}
 use Rattle.fox_key_schedule.specs.Step.{steps, RegisterAt}
 use Rattle.fox_key_schedule.proofs.Laws.RegisterAt.{register_at-first, register_at-last}
-
 use Rattle.fox_key_schedule.proofs.schedule.Schedule.first.Goals as goal
 
 pub returns-then-sealing : goal.returns-then-sealing

@@ -7,7 +7,6 @@ use native.Mathlib.Nat.{zero-add}
 use Rattle.fox_key_nonlinear.specs.Nonlinear.{NL64, NL64h, NL128}
 use Rattle.fox_key_schedule.specs.Step.{round_key_at, narrow}
 use Rattle.fox_key_schedule.specs.declared.schedule.Schedule.{Schedule}
-
 use Rattle.fox_key_schedule.proofs.schedule.Schedule.key_at.Goals as goal
 
 pub returns-in-Ks64 : goal.returns-in-Ks64

@@ -6,7 +6,6 @@ use Prim.Native.Nat.{ℕ, ◌*◌}
 use native.Mathlib.Omega.{arith}
 use Rattle.fox_key_register.specs.Register.{stepped}
 use Rattle.fox_key_schedule.proofs.Laws.RegisterAt.{few-steps}
-
 use Rattle.fox_key_schedule.proofs.schedule.Schedule.moved.Goals as goal
 
 pub overflow_mul-blocks : goal.overflow_mul-blocks

@@ -7,7 +7,6 @@ use Prim.Native.Nat.{ℕ}
 use native.Mathlib.Nat.{one-mul}
 use Rattle.fox_key_register.specs.Register.{stepped}
 use Rattle.fox_key_schedule.specs.Step.{steps}
-
 use Rattle.fox_key_schedule.proofs.schedule.Schedule.round_key.Goals as goal
 
 pub returns : goal.returns

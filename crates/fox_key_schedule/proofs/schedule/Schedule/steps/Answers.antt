@@ -3,7 +3,6 @@
 use borrow.Author.Rules.{rules}
 use mathlib.Core.Path.{sym, ap}
 use Rattle.fox_key_schedule.specs.Step.{steps}
-
 use Rattle.fox_key_schedule.proofs.schedule.Schedule.steps.Goals as goal
 
 pub returns-in-Ks64 : goal.returns-in-Ks64

@@ -7,7 +7,6 @@ use Rattle.fox_rounds.specs.Skeleton.{round}
 use Rattle.fox_rounds.specs.declared.state.State.{State}
 use Rattle.fox_rounds.specs.declared.state.State.TheVariants.{Of64, Of128}
 use Rattle.fox_rounds.proofs.Laws.Rounds.{lmid64-low}
-
 use Rattle.fox_rounds.proofs.state.State.round.Goals as goal
 
 pub returns-in-Of64 : goal.returns-in-Of64

@@ -3,7 +3,6 @@
 use borrow.Author.Rules.{rules}
 use mathlib.Core.Path.{sym, ap}
 use Rattle.fox_rounds.specs.Skeleton.{size}
-
 use Rattle.fox_rounds.proofs.state.State.size.Goals as goal
 
 pub returns-in-Of64 : goal.returns-in-Of64

@@ -10,8 +10,8 @@ use Rattle.fox_run_file.specs.declared.place.Place.{Place}
 use Rattle.fox_run_file.specs.declared.reading.Read.{Read}
 use Rattle.fox_run_file.specs.Promise.{ReadsWith, number_of, count_of, place_of}
 use Rattle.fox_station_file.specs.Files.{place_in, ReadHanded}
-use Rattle.fox_station_file.proofs.fox_file_read.Statement.{statement}
-use Rattle.fox_station_file.proofs.fox_file_read.Tie as tie
+
+use Rattle.fox_station_file.proofs.fox_file_read.Goals as goal
 
 handed : {c r : ℕ} {key file words words-after before after : List ℕ} {place next : Place} {x : Read} {n m : ℕ} → place ≡ place_in words
     → ReadsWith c r (length key) (round_keys c r key) file place before after x → next ≡ place_of place x → place_in words-after ≡ next → n ≡ count_of x
@@ -25,15 +25,7 @@ handed at reading on stored count number =
       output = read.output;
     }
 
-returns : tie.Need-returns
+pub returns : goal.returns
 returns c =
-    let later = c.before.before in
-    let reading = later.before.before.before.before in
-    handed reading.before.before.IsPlace-in.ensures reading.read-from-key.ensures later.before.place_of.ensures later.words_of.ensures
-    c.before.count_of.ensures c.number-of.ensures
-
-pub fox_file_read_spec : {M : Type 1} → statement M
-fox_file_read_spec =
-    tie.close
-    (tie.spec (λ c κs. search rules) (λ c κs. search rules) (λ c κs. search rules) (λ c κs. search rules) (λ c κs. search rules) (λ c κs. search rules)
-    (λ c. search rules) returns)
+    handed c.IsPlace-in.ensures c.read_from_key-x.ensures c.place_of.ensures c.words_of.ensures
+    c.count_of-n.ensures c.number_of.ensures
