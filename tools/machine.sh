@@ -78,7 +78,7 @@ out_folders() {
 usual() { # LINE
     case $1 in
         'statements '* | 'library '* | 'crate '* | 'logic '* | logic=proved* | 'axioms '* | 'linked '* | 'checked '*) ;;
-        'empty contracts: 0 '* | '== '* | 'rt: chose '* | *': proved' | *': proved, may '*) ;;
+        'empty contracts: 0 '* | '== '* | 'rt: chose '* | 'rt: '*': begins with what a check kept in '* | *': proved' | *': proved, may '*) ;;
         *) return 1 ;;
     esac
 }

@@ -1,8 +1,7 @@
 -- Where round keys stand, computed: one step block before the first, the first, the second, the last, and one beyond it; for step blocks of 6 and of 11 steps.
 -- Assumes nothing.
 use mathlib.Core.Path.{◌≡◌, refl}
-use mathlib.Core.List.{List, [], ◌∷◌}
-use Prim.Native.Nat.{ℕ}
+use mathlib.Core.List.{[], ◌∷◌}
 use Rattle.fox_layers.specs.Words.{joined}
 use Rattle.fox_key_register.specs.Register.{seed, clocked, clocked_back, iterate, LFSR, step, stepped}
 use Rattle.fox_key_schedule.specs.Step.{stands}

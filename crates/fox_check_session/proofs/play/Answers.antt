@@ -1,9 +1,8 @@
 -- `play` is safe and ends: each turn of the loop takes at least one byte of the text. The measure is what is left of it.
 -- Assumes nothing.
 use mathlib.Core.Path.{ap}
-use Prim.Native.Nat.{◌-◌, ◌≤◌}
+use Prim.Native.Nat.{◌-◌}
 use native.Mathlib.Omega.{arith}
-use borrow.Author.Rules.{rules}
 use lib.ListN.{length, length-drop}
 use Rattle.fox_check_session.proofs.play.Goals as goal
 

@@ -1,7 +1,7 @@
 -- Where round keys stand: from one to the next and to the one before, the two ends beyond included; and the register from round to round, in sealing and in
 -- opening.
 -- Assumes nothing.
-use mathlib.Core.Path.{◌≡◌, refl, sym, ap, ◌∙◌, subst}
+use mathlib.Core.Path.{◌≡◌, sym, ap, ◌∙◌, subst}
 use mathlib.Core.Bool.{Bool, true, false}
 use Prim.Native.Nat.{ℕ, zero, suc, ◌+◌, ◌-◌, ◌*◌, ◌^◌, ◌<◌, ◌≤◌}
 use native.Mathlib.Nat.{zero-mul, add-mul, one-mul, mul-le-mul_left, not-suc-le-zero}

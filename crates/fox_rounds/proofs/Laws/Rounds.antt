@@ -1,7 +1,7 @@
 -- "or" and "io" undo each other on words of 32 bits. A round without them undoes itself, whatever its round function is, since the round does not change the
 -- XOR that is the round function's input. No step leaves 32 bits.
 -- Assumes nothing.
-use mathlib.Core.Path.{◌≡◌, sym, ap, ap₂, ◌∙◌, subst}
+use mathlib.Core.Path.{◌≡◌, sym, ap, ap₂, ◌∙◌}
 use Prim.Native.Nat.{ℕ, ◌+◌, ◌*◌, ◌^◌, ◌<◌}
 use lib.Arith.{digits_lt}
 use Rattle.fox_layers.specs.Words.{◌⊕◌}

@@ -1,7 +1,6 @@
 -- `fox_station_file::fox_file_next_length` meets its contract: the length is that of what comes next at the place which the words hold.
 -- Assumes nothing.
 use mathlib.Core.Path.{ap, ◌∙◌}
-use borrow.Author.Rules.{rules}
 use Rattle.fox_run_file.specs.Promise.{next_at}
 use Rattle.fox_station_file.specs.Files.{length_of}
 

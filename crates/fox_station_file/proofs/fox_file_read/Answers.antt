@@ -3,7 +3,6 @@
 use mathlib.Core.Path.{◌≡◌, ap, ◌∙◌}
 use mathlib.Core.List.{List}
 use Prim.Native.Nat.{ℕ}
-use borrow.Author.Rules.{rules}
 use lib.ListN.{length}
 use Rattle.fox_key_schedule.specs.Schedule.{round_keys}
 use Rattle.fox_run_file.specs.declared.place.Place.{Place}

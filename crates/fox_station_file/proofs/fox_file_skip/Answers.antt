@@ -1,7 +1,6 @@
 -- `fox_station_file::fox_file_skip` meets its contract: the words hold the place after the one that they held.
 -- Assumes nothing.
 use mathlib.Core.Path.{ap, ◌∙◌}
-use borrow.Author.Rules.{rules}
 use Rattle.fox_run_file.specs.Places.{passed_over}
 
 use Rattle.fox_station_file.proofs.fox_file_skip.Goals as goal

@@ -1,6 +1,5 @@
 -- `fox_station_session::move_in` meets its contract: the step is one on the session that the words hold, and it is kept unless it was refused.
 -- Assumes nothing.
-use borrow.Author.Rules.{rules}
 use Rattle.fox_station_session.proofs.Laws.Calls.{step_kept}
 use Rattle.fox_station_session.proofs.move_in.Goals as goal
 

@@ -6,7 +6,6 @@ use Rattle.fox_session.specs.Machine.{Machine}
 use Rattle.fox_server_session_step.specs.Step.{machine_at}
 use Rattle.fox_server_session.specs.declared.session.Session.{Session}
 use Rattle.fox_station_session.specs.Sessions.{direction_word}
-use borrow.Author.Rules.{rules}
 use Rattle.fox_station_session.proofs.Laws.Calls.{start-stored, start-refused}
 use Rattle.fox_station_session.proofs.start_in.Goals as goal
 

@@ -6,7 +6,6 @@ use Prim.Native.Nat.{ℕ}
 use lib.ListN.{take, drop}
 use Rattle.fox_layers.specs.Words.{split}
 use Rattle.fox_bytes.proofs.Laws.WordsInBytes.{put-end}
-use borrow.Author.Rules.{rules}
 use Rattle.fox_bytes.proofs.bytes.store16.Goals as goal
 
 pub returns : goal.returns

@@ -7,7 +7,6 @@ use native.Mathlib.Omega.{arith}
 use lib.ListN.{length, take}
 use Rattle.fox_layers.specs.Words.{split}
 use Rattle.fox_bytes.proofs.Laws.WordsInBytes.{put-end, end-spent}
-use borrow.Author.Rules.{rules}
 use Rattle.fox_bytes.proofs.bytes.store8.Goals as goal
 
 pub returns : goal.returns

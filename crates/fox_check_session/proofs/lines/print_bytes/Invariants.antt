@@ -1,7 +1,6 @@
 -- `lines::print_bytes` is safe and ends: the loop counts up to the number of bytes.
 -- Assumes nothing.
 use Prim.Native.Nat.{◌-◌, ◌≤◌}
-use borrow.Author.Rules.{rules}
 use lib.ListN.{length}
 use Rattle.fox_check_session.proofs.lines.print_bytes.Given as goal
 

@@ -1,6 +1,5 @@
 -- `blocks::write` meets its contract: for either cipher it writes the bytes of that cipher's state.
 -- Assumes nothing.
-use borrow.Author.Rules.{rules}
 use mathlib.Core.Path.{sym, ap, ◌∙◌}
 use Rattle.fox_rounds.specs.Skeleton.{size}
 use Rattle.fox_block.specs.Block.{bytes}

@@ -1,6 +1,6 @@
 -- `states::counted` meets its contract: for either cipher it counts as that cipher's function does.
 -- Assumes nothing.
-use Rattle.std.proofs.Common.{sym, ap, ◌∙◌, rules}
+use Rattle.std.proofs.Common.{sym, ap, ◌∙◌}
 use Rattle.fox_rounds.specs.declared.state.State.{State}
 use Rattle.fox_rounds.specs.declared.state.State.TheVariants.{Of64, Of128}
 use Rattle.fox_run.specs.States.{counted}

@@ -1,6 +1,5 @@
 -- `key_stream::xor_part` meets its contract: for either cipher it is that cipher's function.
 -- Assumes nothing.
-use borrow.Author.Rules.{rules}
 use mathlib.Core.Path.{sym, ap, subst}
 use native.Mathlib.Omega.{arith}
 use lib.ListN.{drop}

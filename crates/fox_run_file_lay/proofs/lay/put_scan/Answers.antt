@@ -4,7 +4,6 @@ use native.Mathlib.Omega.{arith}
 use Rattle.fox_text.specs.Ascii.{codes, ascii}
 use Rattle.fox_run_file.specs.Format.{scan_name, bytes_name}
 use Rattle.fox_run_file_lay.proofs.Laws.Scans.{head-end, scan-laid}
-use borrow.Author.Rules.{rules}
 use Rattle.fox_run_file_lay.proofs.lay.put_scan.Goals as goal
 
 pub move_down-requires : goal.move_down-requires

@@ -1,11 +1,10 @@
 -- `place::put_scans` meets its contract: whenever the loop's test is reached, the text of the scans so far is at the front, and the bytes that are left give
 -- the rest of it.
 -- Assumes nothing.
-use mathlib.Core.Path.{◌≡◌, refl}
-use Prim.Native.Nat.{◌-◌, ◌≤◌}
+use mathlib.Core.Path.{refl}
+use Prim.Native.Nat.{◌-◌}
 use native.Mathlib.Omega.{arith}
-use lib.ListN.{length}
-use Rattle.fox_run_file_lay.proofs.Laws.Scans.{Onward, onward-first, onward-room, onward-next, onward-last}
+use Rattle.fox_run_file_lay.proofs.Laws.Scans.{onward-first, onward-room, onward-next, onward-last}
 use borrow.Author.Rules.{rules}
 use Rattle.fox_run_file_lay.proofs.lay.put_scans.Goals as goal
 

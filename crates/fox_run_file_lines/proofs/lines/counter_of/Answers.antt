@@ -1,13 +1,11 @@
 -- `lines::counter_of` meets its contract: the counter's line begins where the lines that the key settles end.
 -- Assumes nothing.
-use mathlib.Core.Path.{◌≡◌, ◌∙◌}
-use Prim.Native.Nat.{◌+◌}
+use mathlib.Core.Path.{◌≡◌}
 use native.Mathlib.Omega.{arith}
 use lib.ListN.{length}
 use Rattle.fox_text.specs.Ascii.{codes, ascii}
 use Rattle.fox_run_file.specs.Format.{counter_name, key_lines}
 use Rattle.fox_run_file.specs.Says.{block_in, counter_in}
-use borrow.Author.Rules.{rules}
 use Rattle.fox_run_file_lines.proofs.lines.counter_of.Goals as goal
 
 pub returns : goal.returns

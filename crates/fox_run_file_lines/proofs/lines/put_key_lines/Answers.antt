@@ -5,7 +5,6 @@ use Rattle.fox_text.specs.Ascii.{codes, ascii}
 use Rattle.fox_text.specs.Names.{cipher_name, rounds_name}
 use Rattle.fox_text.proofs.Laws.Stores.{then, at-most}
 use Rattle.fox_run_file.specs.Format.{format_text, key_lines}
-use borrow.Author.Rules.{rules}
 use Rattle.fox_run_file_lines.proofs.lines.put_key_lines.Goals as goal
 
 pub returns : goal.returns

@@ -6,7 +6,6 @@ use native.Mathlib.Omega.{arith}
 use Rattle.fox_run_file.proofs.Laws.Lines.{block-small}
 use Rattle.fox_run_file_read.proofs.Laws.Found.{absent, present, moved, movable}
 use Rattle.fox_run_file_read.proofs.Laws.Opened.{bytes-there, ended, run-refused, run-opened}
-use borrow.Author.Rules.{rules}
 use Rattle.fox_run_file_read.proofs.read.read_at.Goals as goal
 
 pub returns-then-not-s : goal.returns-then-not-s

@@ -9,7 +9,6 @@ use Rattle.fox_server_key.proofs.Laws.Prepares.{from-prepared}
 use Rattle.fox_run_file.specs.Promise.{ReadsWith}
 use Rattle.fox_run_file_read.proofs.Laws.Found.{absent, present}
 use Rattle.fox_run_file_read.proofs.Laws.Opened.{ended, key-refused}
-use borrow.Author.Rules.{rules}
 use Rattle.fox_run_file_read.proofs.read.read_from_key.Goals as goal
 
 pub returns-then-not-s : goal.returns-then-not-s

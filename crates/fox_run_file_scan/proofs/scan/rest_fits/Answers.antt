@@ -1,9 +1,8 @@
 -- `scan::rest_fits` meets its contract: the file's length settles the limit, and the end is looked for where the last whole scan ends.
 -- Assumes nothing.
-use mathlib.Core.Path.{◌≡◌, sym, ◌∙◌}
+use mathlib.Core.Path.{sym, ◌∙◌}
 use native.Mathlib.Omega.{arith}
 use Rattle.fox_run_file.proofs.Laws.Rest.{close-small, past-limit, within-limit}
-use borrow.Author.Rules.{rules}
 use Rattle.fox_run_file_scan.proofs.scan.rest_fits.Goals as goal
 
 pub overflow_add-close : goal.overflow_add-close

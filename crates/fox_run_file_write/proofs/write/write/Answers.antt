@@ -4,7 +4,6 @@
 use mathlib.Core.Path.{sym, ◌∙◌}
 use Rattle.fox_run_file.proofs.Laws.Writes.{refused-writes, served-writes}
 use Rattle.fox_run_file_write.proofs.Laws.File.{to_write}
-use borrow.Author.Rules.{rules}
 use Rattle.fox_run_file_write.proofs.write.write.Goals as goal
 
 pub returns-then-may-ne0 : goal.returns-then-may-ne0

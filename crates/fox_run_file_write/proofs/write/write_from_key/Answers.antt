@@ -5,7 +5,6 @@ use mathlib.Core.Path.{sym, ◌∙◌}
 use Rattle.fox_run_file.proofs.Laws.Refusals.{writable}
 use Rattle.fox_run_file.proofs.Laws.Writes.{refused-writes}
 use Rattle.fox_run_file_write.proofs.ByPrepared.{write-prepared}
-use borrow.Author.Rules.{rules}
 use Rattle.fox_run_file_write.proofs.write.write_from_key.Goals as goal
 
 pub returns-then-may-ne0 : goal.returns-then-may-ne0

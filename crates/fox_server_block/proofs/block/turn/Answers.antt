@@ -1,7 +1,6 @@
 -- `block::turn` meets its contract: a refused call returns the first refusal that applies and writes nothing; past the refusals rounds and lengths are as the
 -- step for the cipher needs them, and the round keys are those that the prepared key holds.
 -- Assumes nothing.
-use borrow.Author.Rules.{rules}
 use mathlib.Core.Path.{sym, ◌∙◌}
 use Rattle.fox_refusals.proofs.Laws.Refusals.{blocked}
 use Rattle.fox_refusals.proofs.Laws.Reply.{served-reply, refused-reply}

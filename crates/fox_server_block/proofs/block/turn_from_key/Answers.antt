@@ -1,7 +1,6 @@
 -- `block::turn_from_key` meets its contract: the refusals are those of the key bytes; past them the prepared key is that of the key, and holds the round keys
 -- of the definition.
 -- Assumes nothing.
-use borrow.Author.Rules.{rules}
 use mathlib.Core.Path.{sym, ◌∙◌}
 use Rattle.fox_refusals.proofs.Laws.Refusals.{blocked}
 use Rattle.fox_refusals.proofs.Laws.Reply.{refused-reply}

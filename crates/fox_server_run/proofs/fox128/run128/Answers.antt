@@ -6,7 +6,6 @@ use Rattle.fox_rounds.specs.declared.state.State.TheVariants.{Of128}
 use Rattle.fox_rounds.specs.RoundKeys.{round_keys_in128}
 use Rattle.fox_run.specs.Run.{xor_from}
 use Rattle.fox_run.specs.States.{stream}
-use borrow.Author.Rules.{rules}
 use Rattle.fox_server_run.proofs.fox128.run128.Goals as goal
 
 pub returns : goal.returns

@@ -3,15 +3,11 @@
 -- Assumes nothing.
 use mathlib.Core.Path.{◌≡◌}
 use Prim.Native.Nat.{◌-◌, ◌≤◌}
-use native.Mathlib.Omega.{arith}
 use lib.ListN.{length}
-use borrow.Author.Rules.{rules}
 use Rattle.fox_rounds.specs.declared.state.State.TheVariants.{Of128}
 use Rattle.fox_rounds.specs.RoundKeys.{round_keys_in128}
 use Rattle.fox_run.specs.States.{stream}
 use Rattle.fox_run.specs.Parts.{XoredTo}
-use Rattle.fox_run.proofs.Laws.Loop.{xored_to-first, xored_to-last}
-use Rattle.fox_run.proofs.Laws.Parts.{part-within, part-some, part-xored_to}
 use Rattle.fox_server_run.proofs.fox128.stretch128.Given as goal
 
 abbrev pub invariant-loop-at : goal.invariant-loop-at

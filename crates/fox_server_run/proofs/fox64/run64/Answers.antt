@@ -6,7 +6,6 @@ use Rattle.fox_rounds.specs.declared.state.State.TheVariants.{Of64}
 use Rattle.fox_rounds.specs.RoundKeys.{round_keys_in64}
 use Rattle.fox_run.specs.Run.{xor_from}
 use Rattle.fox_run.specs.States.{stream}
-use borrow.Author.Rules.{rules}
 use Rattle.fox_server_run.proofs.fox64.run64.Goals as goal
 
 pub returns : goal.returns

@@ -1,15 +1,9 @@
 -- `fox64::stretch64` meets its contract: whenever the loop's test is reached, the output is XORed up to `at`, and the rest of it is as it was. Each part does
 -- at least one byte of what is left.
 -- Assumes nothing.
-use mathlib.Core.Path.{◌≡◌}
-use Prim.Native.Nat.{◌-◌, ◌≤◌}
+use Prim.Native.Nat.{◌-◌}
 use native.Mathlib.Omega.{arith}
-use lib.ListN.{length}
 use borrow.Author.Rules.{rules}
-use Rattle.fox_rounds.specs.declared.state.State.TheVariants.{Of64}
-use Rattle.fox_rounds.specs.RoundKeys.{round_keys_in64}
-use Rattle.fox_run.specs.States.{stream}
-use Rattle.fox_run.specs.Parts.{XoredTo}
 use Rattle.fox_run.proofs.Laws.Loop.{xored_to-first, xored_to-last}
 use Rattle.fox_run.proofs.Laws.Parts.{part-within, part-some, part-xored_to}
 use Rattle.fox_server_run.proofs.fox64.stretch64.Goals as goal

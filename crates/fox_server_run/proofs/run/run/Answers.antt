@@ -6,7 +6,6 @@ use Rattle.fox_refusals.proofs.Laws.Refusals.{stretched}
 use Rattle.fox_refusals.proofs.Laws.Reply.{served-reply, refused-reply}
 use Rattle.fox_server_key.specs.Prepared.{round_keys_in}
 use Rattle.fox_server_run.proofs.Laws.Stretch.{ready}
-use borrow.Author.Rules.{rules}
 use Rattle.fox_server_run.proofs.run.run.Goals as goal
 
 pub returns-then-refusal-ne0 : goal.returns-then-refusal-ne0

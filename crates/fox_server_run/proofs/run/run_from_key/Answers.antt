@@ -5,7 +5,6 @@ use mathlib.Core.Path.{sym, ◌∙◌}
 use Rattle.fox_refusals.proofs.Laws.Refusals.{stretched}
 use Rattle.fox_refusals.proofs.Laws.Reply.{refused-reply}
 use Rattle.fox_server_run.proofs.ByPrepared.{run-prepared}
-use borrow.Author.Rules.{rules}
 use Rattle.fox_server_run.proofs.run.run_from_key.Goals as goal
 
 pub returns-then-refusal-ne0 : goal.returns-then-refusal-ne0

@@ -3,7 +3,6 @@
 use mathlib.Core.Path.{◌∙◌}
 use Rattle.fox_block.proofs.Laws.Block.{size_64, size-128}
 use Rattle.fox_server_run.proofs.Laws.Stretch.{sized, run-in-64, run-in-128}
-use borrow.Author.Rules.{rules}
 use Rattle.fox_server_run.proofs.run.stretch.Goals as goal
 
 pub run64-requires : goal.run64-requires

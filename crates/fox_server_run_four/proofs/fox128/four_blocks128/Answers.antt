@@ -12,7 +12,6 @@ use Rattle.fox_block.specs.Block.{bytes128, bytes}
 use Rattle.fox_run.specs.States.{counted128, counted, sealed, stream}
 use Rattle.fox_run.proofs.Laws.Streams.{length-sealed, size-pos}
 use Rattle.fox_run.proofs.Laws.FourBlocks.{four-xored_to}
-use borrow.Author.Rules.{rules}
 use Rattle.fox_server_run_four.proofs.fox128.four_blocks128.Goals as goal
 
 -- a counter block, counted and sealed as code does it, is the stream's

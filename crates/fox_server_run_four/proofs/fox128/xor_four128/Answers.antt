@@ -8,7 +8,6 @@ use mathlib.Core.List.{◌++◌}
 use Rattle.fox_block.specs.Block.{bytes128}
 use Rattle.fox_layers.specs.Words.{split, xor_each}
 use Rattle.fox_run.proofs.Laws.FourBlocks.{xored_to-two}
-use borrow.Author.Rules.{rules}
 use Rattle.fox_server_run_four.proofs.fox128.xor_four128.Goals as goal
 
 pub returns : goal.returns

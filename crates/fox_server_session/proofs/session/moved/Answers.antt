@@ -4,7 +4,6 @@ use native.Mathlib.Omega.{arith}
 use lib.Seq.{take_all}
 use Rattle.fox_session.specs.Machine.{Move}
 use Rattle.fox_server_session.proofs.Laws.Sessions.{in-session}
-use borrow.Author.Rules.{rules}
 use Rattle.fox_server_session.proofs.session.moved.Goals as goal
 
 pub returns : goal.returns

@@ -1,16 +1,13 @@
 -- `block::block_at` meets its contract: the first counter block is read as a state, counted on to the position's block, and sealed. At the run's end there is
 -- nothing to show.
 -- Assumes nothing.
-use mathlib.Core.Path.{sym, ◌∙◌}
-use Prim.Native.Nat.{◌≤◌}
+use mathlib.Core.Path.{sym}
 use native.Mathlib.Nat.{div-le_self}
 use native.Mathlib.Omega.{arith}
-use lib.ListN.{length}
 use lib.Seq.{length-take-le}
 use Rattle.fox_server_key.specs.Prepared.{held_keys}
 use Rattle.fox_server_key.proofs.Laws.Prepares.{size-le}
 use Rattle.fox_server_session_block.proofs.Laws.Blocks.{size-some, front_length, block-sealed}
-use borrow.Author.Rules.{rules}
 use Rattle.fox_server_session_block.proofs.block.block_at.Goals as goal
 
 pub returns-then-position-eq1073741824 : goal.returns-then-position-eq1073741824

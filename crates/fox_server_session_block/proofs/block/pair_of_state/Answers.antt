@@ -2,7 +2,7 @@
 -- Assumes nothing.
 use mathlib.Core.Path.{◌≡◌, sym, ap, ◌∙◌}
 use mathlib.Core.List.{List, ◌++◌}
-use Prim.Native.Nat.{ℕ, ◌≤◌}
+use Prim.Native.Nat.{ℕ}
 use native.Mathlib.Omega.{arith}
 use lib.ListN.{length, take, drop, replicate, length-append, length-drop}
 use lib.Seq.{length-take-le, take_at}
@@ -10,7 +10,6 @@ use Rattle.fox_rounds.specs.Skeleton.{size}
 use Rattle.fox_rounds.specs.declared.state.State.{State}
 use Rattle.fox_block.specs.Block.{bytes}
 use Rattle.fox_block.proofs.Laws.Block.{length-bytes}
-use borrow.Author.Rules.{rules}
 use Rattle.fox_server_session_block.proofs.Laws.Blocks.{state-small}
 use Rattle.fox_server_session_block.proofs.block.pair_of_state.Goals as goal
 

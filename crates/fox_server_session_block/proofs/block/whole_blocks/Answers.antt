@@ -1,15 +1,12 @@
 -- `block::whole_blocks` meets its contract: a stretch of no bytes is empty, as its output is; any other is that of the counter block in two words.
 -- Assumes nothing.
 use mathlib.Core.Path.{sym}
-use Prim.Native.Nat.{◌≤◌}
 use native.Mathlib.Omega.{arith}
-use lib.ListN.{length}
 use lib.Seq.{length-take-le}
 use Rattle.fox_run.specs.Run.{run_with}
 use Rattle.fox_run.proofs.Laws.Loop.{xored_to-first, xored_to-last}
 use Rattle.fox_server_key.proofs.Laws.Prepares.{size-le}
 use Rattle.fox_server_session_block.proofs.Laws.Blocks.{front-block, front_length}
-use borrow.Author.Rules.{rules}
 use Rattle.fox_server_session_block.proofs.block.whole_blocks.Goals as goal
 
 pub returns-then-input-eq0 : goal.returns-then-input-eq0

@@ -7,7 +7,6 @@ use native.Mathlib.Omega.{arith}
 use Rattle.fox_run.specs.Parts.{Xored}
 use Rattle.fox_server_key.proofs.Laws.Prepares.{size-le}
 use Rattle.fox_server_session_block.proofs.Laws.Blocks.{rest-block}
-use borrow.Author.Rules.{rules}
 use Rattle.fox_server_session_block.proofs.block.xor_block.Goals as goal
 
 pub slice_bounds-xor_bytes-end : goal.slice_bounds-xor_bytes-end

@@ -9,7 +9,6 @@ use Rattle.fox_session.specs.Machine.{Advance}
 use Rattle.fox_server_session_step.specs.Step.{machine_at, TrueAt}
 use Rattle.fox_session.proofs.Laws.Calls.{refused-call, served-advance}
 use Rattle.fox_server_session_step.proofs.Laws.Steps.{refusal-with}
-use borrow.Author.Rules.{rules}
 use Rattle.fox_server_session_step.proofs.step.advance.Goals as goal
 
 pub returns-then-refusal-ne0 : goal.returns-then-refusal-ne0

@@ -9,7 +9,6 @@ use Rattle.fox_server_key.specs.Prepared.{held_keys}
 use Rattle.fox_session.specs.InUse.{held_block}
 use Rattle.fox_server_session_block.proofs.Laws.Blocks.{size-some}
 use Rattle.fox_server_session_step.proofs.Laws.Steps.{run-further}
-use borrow.Author.Rules.{rules}
 use Rattle.fox_server_session_step.proofs.step.further.Goals as goal
 
 pub nonzero_rem-whole : goal.nonzero_rem-whole

@@ -6,7 +6,6 @@ use native.Mathlib.Omega.{arith}
 use lib.ListN.{length-take, length-drop}
 use Rattle.fox_server_session_block.proofs.Laws.Blocks.{size-some}
 use Rattle.fox_server_session_step.proofs.Laws.Steps.{xored-within, xored-end, passes-within, passes_on}
-use borrow.Author.Rules.{rules}
 use Rattle.fox_server_session_step.proofs.step.pass.Goals as goal
 
 pub nonzero_rem-skip : goal.nonzero_rem-skip

@@ -2,7 +2,6 @@
 -- Assumes nothing.
 use Rattle.fox_server_session_block.proofs.Laws.Blocks.{size-some}
 use Rattle.fox_server_session_step.proofs.Laws.Steps.{renews-same, renews-new}
-use borrow.Author.Rules.{rules}
 use Rattle.fox_server_session_step.proofs.step.renew.Goals as goal
 
 pub nonzero_div-to : goal.nonzero_div-to

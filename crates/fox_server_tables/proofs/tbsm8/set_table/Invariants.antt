@@ -1,14 +1,10 @@
 -- `tbsm8::set_table` meets its contract: whenever the loop's test is reached, the tables before number j and the first x entries of table j are in the array.
 -- Assumes nothing.
-use mathlib.Core.Path.{◌≡◌, ◌∙◌}
+use mathlib.Core.Path.{◌≡◌}
 use Prim.Native.Nat.{◌+◌, ◌-◌, ◌*◌, ◌≤◌}
-use native.Mathlib.Nat.{add-zero}
-use native.Mathlib.Omega.{arith}
-use lib.ListN.{length, take, length-set}
-use borrow.Author.Rules.{rules}
+use lib.ListN.{length, take}
 use Rattle.fox_layers.specs.Diffusion.{mu8_rows}
 use Rattle.fox_layers.specs.Tables.{TBSM}
-use Rattle.fox_server_tables.proofs.Laws.Filled.{tbsm_entry-entered, filled_to-next}
 use Rattle.fox_server_tables.proofs.tbsm8.set_table.Given as goal
 
 abbrev pub invariant-loop-x : goal.invariant-loop-x

@@ -4,7 +4,6 @@ use native.Mathlib.Omega.{arith}
 use Rattle.fox_text.specs.Ascii.{codes, ascii}
 use Rattle.fox_text.proofs.Laws.Stores.{then, at-most}
 use Rattle.fox_sheet.specs.Answer.{refusal_name, line_name, broken_text}
-use borrow.Author.Rules.{rules}
 use Rattle.fox_sheet_answer.proofs.answer.put_broken.Goals as goal
 
 pub returns : goal.returns

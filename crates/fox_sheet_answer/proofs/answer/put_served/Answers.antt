@@ -6,7 +6,6 @@ use Rattle.fox_text.proofs.Laws.Stores.{then, at-most}
 use Rattle.fox_text.specs.Names.{cipher_name, rounds_name}
 use Rattle.fox_sheet.specs.Sheet.{block_name}
 use Rattle.fox_sheet.specs.Answer.{refusal_name, keybits_name, served_text}
-use borrow.Author.Rules.{rules}
 use Rattle.fox_sheet_answer.proofs.answer.put_served.Goals as goal
 
 pub returns : goal.returns

@@ -6,7 +6,6 @@ use Rattle.fox_text.specs.Lines.{after_line, lines}
 use Rattle.fox_text.specs.Rules.{broken_in}
 use Rattle.fox_text.specs.Names.{cipher_name, rounds_name}
 use Rattle.fox_sheet.specs.Sheet.{key_name, setting_tests, said, values_of}
-use borrow.Author.Rules.{rules}
 use Rattle.fox_sheet_read.proofs.sheet.read_settings.Goals as goal
 
 pub returns : goal.returns

@@ -5,7 +5,6 @@ use Rattle.fox_text.specs.Ascii.{codes, ascii}
 use Rattle.fox_text.specs.Lines.{after_line, after_lines}
 use Rattle.fox_text.specs.Rules.{broken_from}
 use Rattle.fox_sheet.specs.Sheet.{block_name, task_tests}
-use borrow.Author.Rules.{rules}
 use Rattle.fox_sheet_read.proofs.sheet.read_task.Goals as goal
 
 pub returns : goal.returns

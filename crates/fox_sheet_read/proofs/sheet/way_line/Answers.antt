@@ -4,7 +4,6 @@ use mathlib.Core.Path.{◌∙◌}
 use Rattle.fox_text.specs.Ascii.{codes, ascii}
 use Rattle.fox_text.specs.Rules.{is_line}
 use Rattle.fox_sheet.specs.Sheet.{seal_way, open_way, is_way_line}
-use borrow.Author.Rules.{rules}
 use Rattle.fox_sheet_read.proofs.sheet.way_line.Goals as goal
 
 pub returns : goal.returns

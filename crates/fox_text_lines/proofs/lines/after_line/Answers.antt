@@ -5,7 +5,6 @@ use Prim.Native.Nat.{suc, ◌+◌}
 use native.Mathlib.Omega.{arith}
 use lib.ListN.{length-drop}
 use Rattle.fox_text.specs.Lines.{line_end, after_line}
-use borrow.Author.Rules.{rules}
 use Rattle.fox_text_lines.proofs.lines.after_line.Goals as goal
 
 pub returns : goal.returns

@@ -1,6 +1,5 @@
 -- `lines::first_line` meets its contract: it is the text up to where the line ends.
 -- Assumes nothing.
-use borrow.Author.Rules.{rules}
 use Rattle.fox_text_lines.proofs.lines.first_line.Goals as goal
 
 pub returns : goal.returns

@@ -2,12 +2,11 @@
 -- have the value of all.
 -- Assumes nothing.
 use mathlib.Core.Path.{◌≡◌, refl, sym, ◌∙◌}
-use Prim.Native.Nat.{◌+◌, ◌-◌, ◌*◌, ◌≤◌}
+use Prim.Native.Nat.{◌+◌, ◌-◌, ◌*◌}
 use native.Mathlib.Omega.{arith}
-use borrow.Author.Tests.{not-true, not-false}
-use lib.ListN.{length, drop, get_or}
-use Rattle.fox_text.specs.Decimal.{all_digits, onward, decimal_of}
-use Rattle.fox_text.proofs.Laws.Decimals.{not_found, is_found, digits-here, onward-here, digits-done, grows, no-digits, too_large, in-range, Digit, digit-known}
+use lib.ListN.{drop, get_or}
+use Rattle.fox_text.specs.Decimal.{decimal_of}
+use Rattle.fox_text.proofs.Laws.Decimals.{not_found, is_found, digits-here, onward-here, digits-done, grows, no-digits, too_large, in-range, digit-known}
 use borrow.Author.Rules.{rules}
 use Rattle.fox_text_read.proofs.decimal.digits.Goals as goal
 

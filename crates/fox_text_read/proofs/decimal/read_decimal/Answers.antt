@@ -2,7 +2,6 @@
 -- Assumes nothing.
 use mathlib.Core.Path.{sym, ◌∙◌}
 use Rattle.fox_text.proofs.Laws.Decimals.{begun, not-begun, not_found}
-use borrow.Author.Rules.{rules}
 use Rattle.fox_text_read.proofs.decimal.read_decimal.Goals as goal
 
 pub returns-then-begins : goal.returns-then-begins

@@ -1,7 +1,6 @@
 -- `fields::decimal_line` meets its contract, since each of its parts meets its own.
 -- Assumes nothing.
 use Rattle.fox_text.proofs.Laws.Fields.{read-decimal-line}
-use borrow.Author.Rules.{rules}
 use Rattle.fox_text_read.proofs.fields.decimal_line.Goals as goal
 
 pub returns : goal.returns

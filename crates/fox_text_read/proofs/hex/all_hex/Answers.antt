@@ -1,10 +1,7 @@
 -- `hex::all_hex` meets its contract: whenever the loop's test is reached, all digits are hex digits exactly where those from i on are.
 -- Assumes nothing.
-use mathlib.Core.Path.{◌≡◌, refl, sym, ◌∙◌}
-use Prim.Native.Nat.{◌-◌, ◌≤◌}
-use borrow.Author.Tests.{not-true, not-false}
-use lib.ListN.{length, drop}
-use Rattle.fox_text.specs.Hex.{all_hex}
+use mathlib.Core.Path.{refl, sym, ◌∙◌}
+use Prim.Native.Nat.{◌-◌}
 use Rattle.fox_text.proofs.Laws.Pairs.{hex-here, hex-done}
 use borrow.Author.Rules.{rules}
 use Rattle.fox_text_read.proofs.hex.all_hex.Goals as goal

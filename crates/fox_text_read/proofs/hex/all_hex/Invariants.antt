@@ -1,12 +1,9 @@
 -- `hex::all_hex` meets its contract: whenever the loop's test is reached, all digits are hex digits exactly where those from i on are.
 -- Assumes nothing.
-use mathlib.Core.Path.{◌≡◌, refl, sym, ◌∙◌}
+use mathlib.Core.Path.{◌≡◌}
 use Prim.Native.Nat.{◌-◌, ◌≤◌}
-use borrow.Author.Tests.{not-true, not-false}
 use lib.ListN.{length, drop}
 use Rattle.fox_text.specs.Hex.{all_hex}
-use Rattle.fox_text.proofs.Laws.Pairs.{hex-here, hex-done}
-use borrow.Author.Rules.{rules}
 use Rattle.fox_text_read.proofs.hex.all_hex.Given as goal
 
 abbrev pub invariant-loop-i : goal.invariant-loop-i

@@ -1,6 +1,5 @@
 -- `hex::is_pairs` meets its contract: the tests are the definition's, in its order.
 -- Assumes nothing.
-use borrow.Author.Rules.{rules}
 use Rattle.fox_text_read.proofs.hex.is_pairs.Goals as goal
 
 pub returns : goal.returns

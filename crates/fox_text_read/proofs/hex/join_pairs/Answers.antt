@@ -1,13 +1,11 @@
 -- `hex::join_pairs` meets its contract: whenever the loop's test is reached, storing the pairs from number i on gives what storing all of them into the first
 -- output gives.
 -- Assumes nothing.
-use mathlib.Core.Path.{◌≡◌, refl, sym, ◌∙◌}
-use mathlib.Core.Bool.{true}
-use Prim.Native.Nat.{◌+◌, ◌-◌, ◌*◌, ◌≤◌, ◌<◌}
+use mathlib.Core.Path.{refl, sym, ◌∙◌}
+use Prim.Native.Nat.{◌+◌, ◌-◌, ◌*◌}
 use native.Mathlib.Omega.{arith}
-use lib.ListN.{length, drop, get_or, length-set}
-use lib.Seq.{sets}
-use Rattle.fox_text.specs.Hex.{is_hex, nibble, pairs_of}
+use lib.ListN.{get_or, length-set}
+use Rattle.fox_text.specs.Hex.{nibble}
 use Rattle.fox_text.proofs.Laws.Pairs.{hex-at, nibble-small, pairs-stored, pairs-done}
 use borrow.Author.Rules.{rules}
 use Rattle.fox_text_read.proofs.hex.join_pairs.Goals as goal

@@ -1,15 +1,11 @@
 -- `hex::join_pairs` meets its contract: whenever the loop's test is reached, storing the pairs from number i on gives what storing all of them into the first
 -- output gives.
 -- Assumes nothing.
-use mathlib.Core.Path.{◌≡◌, refl, sym, ◌∙◌}
-use mathlib.Core.Bool.{true}
+use mathlib.Core.Path.{◌≡◌}
 use Prim.Native.Nat.{◌+◌, ◌-◌, ◌*◌, ◌≤◌, ◌<◌}
-use native.Mathlib.Omega.{arith}
-use lib.ListN.{length, drop, get_or, length-set}
+use lib.ListN.{length, drop}
 use lib.Seq.{sets}
-use Rattle.fox_text.specs.Hex.{is_hex, nibble, pairs_of}
-use Rattle.fox_text.proofs.Laws.Pairs.{hex-at, nibble-small, pairs-stored, pairs-done}
-use borrow.Author.Rules.{rules}
+use Rattle.fox_text.specs.Hex.{pairs_of}
 use Rattle.fox_text_read.proofs.hex.join_pairs.Given as goal
 
 abbrev pub invariant-loop-i : goal.invariant-loop-i

@@ -1,10 +1,9 @@
 -- `writing::put_digits` meets its contract: a number below ten is its digit, and any other is the digits of its tenth and then its last digit.
 -- Assumes nothing.
 use mathlib.Core.Path.{◌≡◌, ◌∙◌}
-use mathlib.Core.List.{[], ◌∷◌, ◌++◌}
-use Prim.Native.Nat.{ℕ, ◌+◌, ◌-◌, ◌/◌, ◌%◌, ◌<◌}
+use mathlib.Core.List.{◌∷◌, ◌++◌}
+use Prim.Native.Nat.{◌+◌, ◌-◌, ◌/◌, ◌%◌}
 use native.Mathlib.Omega.{arith}
-use borrow.Author.Rules.{rules}
 use borrow.Author.Tests.{lt-ltb, le-ltb}
 use Rattle.fox_text.specs.Decimal.{digits_text}
 use Rattle.fox_text.proofs.Laws.Decimals.{digits_more}

@@ -3,7 +3,6 @@
 use native.Mathlib.Omega.{arith}
 use Rattle.fox_text.specs.Fields.{pairs_line_text}
 use Rattle.fox_text.proofs.Laws.Stores.{then, at-most}
-use borrow.Author.Rules.{rules}
 use Rattle.fox_text_write.proofs.writing.put_pairs_line.Goals as goal
 
 pub returns : goal.returns

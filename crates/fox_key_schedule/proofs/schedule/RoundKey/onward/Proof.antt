@@ -1,6 +1,5 @@
 -- `schedule::RoundKey::onward` meets its contract: it is `next` in sealing and `before` in opening.
 -- Assumes nothing.
-use borrow.Author.Rules.{rules}
 use mathlib.Core.Path.{sym, ap}
 use mathlib.Core.Bool.{Bool}
 use Rattle.fox_key_schedule.specs.Step.{onward}

@@ -1,6 +1,5 @@
 -- `schedule::Schedule::key_at` meets its contract: in each case that schedule's non-linear part is applied to the diversified key.
 -- Assumes nothing.
-use borrow.Author.Rules.{rules}
 use mathlib.Core.Path.{refl, sym, ap, ◌∙◌}
 use mathlib.Core.Bool.{true≢false}
 use native.Mathlib.Nat.{zero-add}

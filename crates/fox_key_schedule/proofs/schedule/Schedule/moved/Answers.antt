@@ -1,6 +1,5 @@
 -- `schedule::Schedule::moved` meets its contract: it takes the steps of so many step blocks.
 -- Assumes nothing.
-use borrow.Author.Rules.{rules}
 use mathlib.Core.Path.{ap, ◌∙◌}
 use Prim.Native.Nat.{ℕ, ◌*◌}
 use native.Mathlib.Omega.{arith}

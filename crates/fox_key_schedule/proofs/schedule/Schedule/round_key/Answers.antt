@@ -1,6 +1,5 @@
 -- `schedule::Schedule::round_key` meets its contract: beside the key the register is one step block on, and one back.
 -- Assumes nothing.
-use borrow.Author.Rules.{rules}
 use mathlib.Core.Path.{ap, ◌∙◌}
 use mathlib.Core.Bool.{true, false}
 use Prim.Native.Nat.{ℕ}

@@ -1,6 +1,5 @@
 -- `schedule::Schedule::steps` meets its contract: it is each schedule's number of groups.
 -- Assumes nothing.
-use borrow.Author.Rules.{rules}
 use mathlib.Core.Path.{sym, ap}
 use Rattle.fox_key_schedule.specs.Step.{steps}
 use Rattle.fox_key_schedule.proofs.schedule.Schedule.steps.Goals as goal

@@ -1,9 +1,7 @@
 -- `state::State::between` meets its contract: for either cipher it is that cipher's step between rounds.
 -- Assumes nothing.
 use mathlib.Core.Path.{ap, sym, ◌∙◌}
-use borrow.Author.Rules.{rules}
 use Rattle.fox_rounds.specs.Skeleton.{between}
-use Rattle.fox_rounds.specs.declared.state.State.{State}
 use Rattle.fox_rounds.proofs.state.State.between.Goals as goal
 
 pub returns-in-Of64 : goal.returns-in-Of64

@@ -2,9 +2,7 @@
 -- Assumes nothing.
 use mathlib.Core.Path.{ap, sym, ◌∙◌}
 use Prim.Native.Nat.{◌+◌, ◌*◌, ◌^◌}
-use borrow.Author.Rules.{rules}
 use Rattle.fox_rounds.specs.Skeleton.{round}
-use Rattle.fox_rounds.specs.declared.state.State.{State}
 use Rattle.fox_rounds.specs.declared.state.State.TheVariants.{Of64, Of128}
 use Rattle.fox_rounds.proofs.Laws.Rounds.{lmid64-low}
 use Rattle.fox_rounds.proofs.state.State.round.Goals as goal

@@ -1,6 +1,5 @@
 -- `state::State::size` meets its contract: it is the block size of either cipher.
 -- Assumes nothing.
-use borrow.Author.Rules.{rules}
 use mathlib.Core.Path.{sym, ap}
 use Rattle.fox_rounds.specs.Skeleton.{size}
 use Rattle.fox_rounds.proofs.state.State.size.Goals as goal
