@@ -7,4 +7,4 @@ use Rattle.fox_station_file.specs.Files.{length_of}
 use Rattle.fox_station_file.proofs.fox_file_next_length.Goals as goal
 
 pub returns : goal.returns
-returns c = c.length_of.ensures ∙ ap length_of (c.next_at.ensures ∙ ap (next_at _) c.IsPlace-in.ensures)
+returns c = c.length_of.ensures ∙ ap length_of (c.next_at.ensures ∙ ap (next_at _) c.place_in.ensures)

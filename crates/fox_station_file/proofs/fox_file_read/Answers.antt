@@ -26,5 +26,5 @@ handed at reading on stored count number =
 
 pub returns : goal.returns
 returns c =
-    handed c.IsPlace-in.ensures c.read_from_key-x.ensures c.place_of.ensures c.words_of.ensures
+    handed c.place_in-at.ensures c.read_from_key-x.ensures c.place_of.ensures c.words_of.ensures
     c.count_of-n.ensures c.number_of.ensures
