@@ -4,7 +4,8 @@
 usage: python3 tools/respell.py        at the top of the repository, once, right after the kit's port.py
 
 A word in mixed case, such as blockSize, becomes block_size, also as a part of a longer name, such as length-xorEach. A field or definition of specs/ that
-was written with dashes gets underscores. Rust code, texts in quotes, and names that the library or the check makes stay as they are.
+was written with dashes gets underscores. Rust code, texts in quotes, and names that the library or the check makes stay as they are, and so does
+docs/LANDINGS.md, which has the names of its days.
 """
 
 import os
@@ -39,15 +40,13 @@ def ghost(text):
 
 
 def outside_quotes(text):
-    # a Rust text or byte text stays as it is
+    # a text stays as it is
     pieces = re.split(r'("(?:[^"\\]|\\.)*")', text)
     return "".join(piece if i % 2 else ghost(piece) for i, piece in enumerate(pieces))
 
 
 def turned(path, text):
-    if path.endswith(".antt"):
-        return ghost(text)
-    if path.endswith(".rt"):
+    if path.endswith((".antt", ".rt")):
         return "".join(outside_quotes(line) for line in text.splitlines(keepends=True))
     if path.endswith(".edit"):
         return "".join(
@@ -64,7 +63,7 @@ def paths():
                 yield os.path.join(folder, name)
     for folder, names in ((".", ["README.md"]), ("docs", sorted(os.listdir("docs")))):
         for name in names:
-            if name.endswith(".md") and not name.startswith("PORT"):
+            if name.endswith(".md") and not name.startswith(("PORT", "LANDINGS")):
                 yield os.path.join(folder, name)
 
 

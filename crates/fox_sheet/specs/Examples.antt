@@ -28,7 +28,7 @@ broken =
     ∷ (ascii "cipher=64\n", "refusal=8\nline=2\n")
     ∷ (ascii "cipher=64\nrounds=00\nkey=\nway=seal\nblock=0123456789ABCDEF\n", "refusal=8\nline=2\n")
     ∷ (ascii "cipher=64\n\nrounds=16\nkey=\nway=seal\nblock=0123456789ABCDEF\n", "refusal=8\nline=2\n")
-    ∷ (ascii "cipher=64\nrounds=16\nkey=a_b\nway=seal\nblock=0123456789ABCDEF\n", "refusal=8\nline=3\n")
+    ∷ (ascii "cipher=64\nrounds=16\nkey=aB\nway=seal\nblock=0123456789ABCDEF\n", "refusal=8\nline=3\n")
     ∷ (ascii "cipher=64\nrounds=16\nkey=001\nway=seal\nblock=0123456789ABCDEF\n", "refusal=8\nline=3\n")
     ∷ (ascii "cipher=64\nrounds=16\nkey=" ++ zeros 65 ++ ascii "\nway=seal\nblock=0123456789ABCDEF\n", "refusal=8\nline=3\n")
     ∷ (ascii "cipher=64\nrounds=16\nkey=\nway=sealed\nblock=0123456789ABCDEF\n", "refusal=8\nline=4\n")
