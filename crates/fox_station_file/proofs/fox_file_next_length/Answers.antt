@@ -3,7 +3,6 @@
 use mathlib.Core.Path.{ap, ◌∙◌}
 use Rattle.fox_run_file.specs.Promise.{next_at}
 use Rattle.fox_station_file.specs.Files.{length_of}
-
 use Rattle.fox_station_file.proofs.fox_file_next_length.Goals as goal
 
 pub returns : goal.returns

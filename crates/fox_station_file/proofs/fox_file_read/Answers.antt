@@ -9,7 +9,6 @@ use Rattle.fox_run_file.specs.declared.place.Place.{Place}
 use Rattle.fox_run_file.specs.declared.reading.Read.{Read}
 use Rattle.fox_run_file.specs.Promise.{ReadsWith, number_of, count_of, place_of}
 use Rattle.fox_station_file.specs.Files.{place_in, ReadHanded}
-
 use Rattle.fox_station_file.proofs.fox_file_read.Goals as goal
 
 handed : {c r : ℕ} {key file words words-after before after : List ℕ} {place next : Place} {x : Read} {n m : ℕ} → place ≡ place_in words

@@ -2,7 +2,6 @@
 -- Assumes nothing.
 use mathlib.Core.Path.{ap, ◌∙◌}
 use Rattle.fox_run_file.specs.Places.{passed_over}
-
 use Rattle.fox_station_file.proofs.fox_file_skip.Goals as goal
 
 pub returns : goal.returns
