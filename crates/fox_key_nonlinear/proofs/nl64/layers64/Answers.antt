@@ -1,7 +1,7 @@
 -- `nl64::layers64` meets its contract: the key's words are those that the definition reads, and each goes through the layers as the definition has it.
 -- Assumes nothing.
 use mathlib.Core.Path.{sym, ap, ◌∙◌}
-use mathlib.Core.List.{◌∷◌}
+use mathlib.Core.List.{◌∷◌, []}
 use Rattle.fox_layers.specs.Words.{xor_each}
 use Rattle.fox_layers.specs.Diffusion.{mu4}
 use Rattle.fox_key_nonlinear.specs.Nonlinear.{mix64, layers}
