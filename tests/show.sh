@@ -26,7 +26,7 @@ typed() { # COMMAND: shown, and done
 
 prove() {
     sh tools/needs.sh || stop "something is missing that it cannot do without"
-    echo "Proving and building the bench program and the library: three to five minutes the first time, on two cores, and seconds after."
+    echo "Proving and building the bench program and the library: ten to fifteen minutes the first time, on two cores, and seconds after."
     sh tools/prove.sh fox_bench $(sed -n 's/^fox_station_[a-z]* staticlib: *//p' crates.txt) || stop "not all was proved"
     make --no-print-directory -s all || stop "the library was not built"
 }

@@ -83,6 +83,8 @@ fn stretch64(
     }
 }
 
+// A function of its own in the compiled code, so that its tables and those of FOX128 never lie in the stack together.
+#[inline(never)]
 pub(crate) fn run64(
     keys: &[u64; 510],
     rounds: usize,

@@ -83,6 +83,19 @@ fn further(
     block
 }
 
+// The same over a copy of the round keys. What a function keeps is set to zero as it begins, so the copy is kept here, where a block is sealed.
+fn beyond(b: Basis, keys: &[u64], n: usize, input: &[u8], out: &mut [u8]) -> Pair
+    requires ready { Ready b keys.now (n + length input.now) }
+    requires out_len { length out.old ≡ length input.now }
+    requires first { n % block_size b.cipher ≡ 0 }
+    ensures { (out.new ≡ run_with b.cipher (held_keys b.cipher (take 510 keys.now) b.rounds) (held_block b.cipher b.counter) n input.now)
+        × BlockAt b.cipher (held_keys b.cipher (take 510 keys.now) b.rounds) (held_block b.cipher b.counter) (n + length input.now) result }
+{
+    let held = round_keys(keys);
+    let rounds = b.rounds as usize;
+    further(b.cipher, &held, rounds, b.counter, n, input, out)
+}
+
 // The next bytes, where no refusal applies: those of the block in use, and those further on. Returns the block that the next position is in.
 fn pass(b: Basis, keys: &[u64], here: Here, input: &[u8], out: &mut [u8]) -> Pair
     requires ready { Ready b keys.now (here.position + length input.now) }
@@ -96,17 +109,7 @@ fn pass(b: Basis, keys: &[u64], here: Here, input: &[u8], out: &mut [u8]) -> Pai
     if skip + input.len() < size {
         return here.block;
     }
-    let held = round_keys(keys);
-    let rounds = b.rounds as usize;
-    further(
-        b.cipher,
-        &held,
-        rounds,
-        b.counter,
-        first + done,
-        &input[done..],
-        &mut out[done..],
-    )
+    beyond(b, keys, first + done, &input[done..], &mut out[done..])
 }
 
 // The block that a position is in; the one in use stays where it is the same.

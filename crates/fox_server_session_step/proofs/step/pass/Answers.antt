@@ -1,9 +1,9 @@
 -- `step::pass` meets its contract: the bytes up to the block's end are XORed with the block in use. Where the input ends before the block does, the block
 -- stays; or else the rest goes on at a block's first byte.
 -- Assumes nothing.
+use mathlib.Core.Path.{refl}
 use native.Mathlib.Nat.{mod-le, mod-lt}
 use native.Mathlib.Omega.{arith}
-use lib.ListN.{length-take, length-drop}
 use Rattle.fox_server_session_block.proofs.Laws.Blocks.{size-some}
 use Rattle.fox_server_session_step.proofs.Laws.Steps.{xored-within, xored-end, passes-within, passes_on}
 use Rattle.fox_server_session_step.proofs.step.pass.Goals as goal
@@ -30,35 +30,25 @@ pub overflow_add-first : goal.overflow_add-first
 overflow_add-first c =
     omega (arith, xored-within c.xor_block-done.ensures, c.requires.ready.within)
 
-pub slice_bounds-further-count : goal.slice_bounds-further-count
-slice_bounds-further-count c = xored-within c.xor_block-done.ensures
+pub slice_bounds-beyond-count : goal.slice_bounds-beyond-count
+slice_bounds-beyond-count c = xored-within c.xor_block-done.ensures
 
-pub slice_bounds-further-start : goal.slice_bounds-further-start
-slice_bounds-further-start c = omega (arith, xored-within c.xor_block-done.ensures)
+pub slice_bounds-beyond-start : goal.slice_bounds-beyond-start
+slice_bounds-beyond-start c = omega (arith, xored-within c.xor_block-done.ensures)
 
-pub slice_bounds-further-count-2 : goal.slice_bounds-further-count-2
-slice_bounds-further-count-2 c = omega (arith, xored-within c.xor_block-done.ensures)
+pub slice_bounds-beyond-count-2 : goal.slice_bounds-beyond-count-2
+slice_bounds-beyond-count-2 c = omega (arith, xored-within c.xor_block-done.ensures)
 
-pub slice_bounds-further-start-2 : goal.slice_bounds-further-start-2
-slice_bounds-further-start-2 c = omega (arith, xored-within c.xor_block-done.ensures)
+pub slice_bounds-beyond-start-2 : goal.slice_bounds-beyond-start-2
+slice_bounds-beyond-start-2 c = omega (arith, xored-within c.xor_block-done.ensures)
 
-pub further-requires : goal.further-requires
-further-requires c =
+pub beyond-requires-clause-first : goal.beyond-requires-clause-first
+beyond-requires-clause-first c =
     let a = c.args in
-    let done = xored-within c.xor_block-done.ensures in
-    record {
-      le_rounds = (
-        omega (arith, c.requires.ready.keyed.low),
-        c.requires.ready.keyed.high,
-        simp (length-take, length-drop) (omega (arith, c.requires.ready.within)),
-        simp (length-take, length-drop) (omega arith),
-      );
-      cipher_value = xored-end a.b.cipher a.here.position a.here.block a.input.now a.out.now c.block_size-size.ensures c.xor_block-done.ensures
-          c.if-skip-input.false;
-    }
+    xored-end a.b.cipher a.here.position a.here.block a.input.now a.out.now c.block_size-size.ensures c.xor_block-done.ensures c.if-skip-input.false
 
 pub returns : goal.returns
 returns c =
     let a = c.args in
     passes_on a.b _ a.here a.input.now a.out.now c.requires.ready.keyed c.requires.ready.within c.requires.out_len c.block_size-size.ensures
-    c.xor_block-done.ensures c.further.result c.round_keys-held.ensures c.further.ensures
+    c.xor_block-done.ensures c.beyond.result refl c.beyond.ensures
