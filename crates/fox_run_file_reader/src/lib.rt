@@ -15,7 +15,7 @@ use fox_run_file_take_up::take;
 use fox_server_key::prepared::Prepared;
 
 // A run file that was taken up: the file, its refusal, and the place of the next scan.
-#[derive(Drop)]
+#[derive(Clone, Copy)]
 pub struct Reader<'a> {
     pub file: &'a [u8],
     pub refusal: u32,

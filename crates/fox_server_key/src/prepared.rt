@@ -17,7 +17,7 @@ pub struct Prepared {
 }
 
 // What preparing a key returns; the count is the bytes of round keys in use.
-#[derive(Drop)]
+#[derive(Clone, Copy)]
 pub struct Preparation {
     pub answer: Answer,
     pub key: Prepared,

@@ -23,7 +23,7 @@ pub struct Session {
 }
 
 // What a start returns; the count is 0.
-#[derive(Drop)]
+#[derive(Clone, Copy)]
 pub struct Started {
     pub answer: Answer,
     pub session: Session,

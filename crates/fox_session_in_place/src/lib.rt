@@ -28,7 +28,7 @@ pub fn move_to(s: &mut Session, to: u64) -> Answer
 }
 
 // What a call on a copy of a session returns: its answer, and the session as it then is.
-#[derive(Drop)]
+#[derive(Clone, Copy)]
 pub struct After {
     pub answer: Answer,
     pub session: Session,
