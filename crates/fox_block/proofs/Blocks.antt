@@ -14,7 +14,7 @@ use Rattle.fox_rounds.proofs.Laws.Undoing.{turned-fits, turned-back}
 use Rattle.fox_key_schedule.specs.Schedule.{round_keys}
 use Rattle.fox_refusals.specs.Refusals.{block_size, for_block, Keyed, LongFor}
 use Rattle.fox_refusals.specs.Reply.{Served, Refused, Same}
-use Rattle.fox_refusals.specs.declared.answer.Answer.{Answer}
+use Rattle.fox_refusals.specs.Answer.{Answer}
 use Rattle.fox_refusals.proofs.Laws.Refusals.{blocked-served, to-open}
 use Rattle.fox_refusals.proofs.Laws.Reply.{served, short-key-refused, same}
 use Rattle.fox_block.specs.Block.{state, bytes, turn_with, seal_block, open_block, BlockOf}

@@ -4,7 +4,7 @@
 use Rattle.std.specs.Prelude.{◌≡◌, ℕ, Bool, List, length}
 use Rattle.fox_refusals.specs.Refusals.{block_size, for_block}
 use Rattle.fox_refusals.specs.Reply.{Reply}
-use Rattle.fox_refusals.specs.declared.answer.Answer.{Answer}
+use Rattle.fox_refusals.specs.Answer.{Answer}
 use Rattle.fox_key_schedule.specs.Schedule.{round_keys}
 use Rattle.fox_block.specs.Block.{turn_with}
 

@@ -1,56 +1,33 @@
 // Words read from and written to a byte slice, the most significant byte first.
-ghost use Rattle.std.specs.Prelude.{◌≡◌, ◌++◌, ◌+◌, ◌≤◌, length, take, drop};
+ghost use Rattle.std.specs.Prelude.{◌≡◌, ◌++◌, ◌+◌, ◌*◌, ◌≤◌, length, take, drop};
 ghost use Rattle.fox_layers.specs.Words.{joined, split};
+ghost use Rattle.fox_bytes.specs.WordBytes.{word_bytes};
 
-use fox_layers::words::{join4, join8, split4};
+use fox_layers::words::Word;
 
-pub fn load4(s: &[u8], at: usize) -> u32
-    requires { at + 4 ≤ length s.now }
-    ensures { result ≡ joined (take 4 (drop at s.now)) }
+// The word of the N bytes from `at` on. They are read in their place: a copy of them takes a test of whether it lies over them.
+pub fn load<W: Word<N>, const N: usize>(s: &[u8], at: usize) -> W
+    requires { at + N ≤ length s.now }
+    ensures number { W.number result ≡ joined (take N (drop at s.now)) }
+    ensures bytes { split N (W.number result) ≡ take N (drop at s.now) }
 {
-    join4(s[at], s[at + 1], s[at + 2], s[at + 3])
+    W::join(*s[at..].first_chunk().unwrap())
 }
 
-pub fn load8(s: &[u8], at: usize) -> u64
-    requires { at + 8 ≤ length s.now }
-    ensures { split 8 result ≡ take 8 (drop at s.now) }
+// Only the first N bytes of the output are written.
+pub fn store<W: Word<N>, const N: usize>(out: &mut [u8], w: W)
+    requires { N ≤ length out.old }
+    ensures { out.new ≡ split N (W.number w) ++ drop N out.old }
 {
-    join8(
-        s[at],
-        s[at + 1],
-        s[at + 2],
-        s[at + 3],
-        s[at + 4],
-        s[at + 5],
-        s[at + 6],
-        s[at + 7],
-    )
+    out[..N].copy_from_slice(&w.split());
 }
 
-// Only the first four bytes of the output are written.
-pub fn store4(out: &mut [u8], w: u32)
-    requires { 4 ≤ length out.old }
-    ensures { out.new ≡ split 4 w ++ drop 4 out.old }
+// Words of four bytes fill the output, one after the other.
+pub fn store_all<const N: usize>(out: &mut [u8], words: [u32; N])
+    requires { length out.old ≡ N * 4 }
+    ensures { out.new ≡ word_bytes 4 words.entry }
 {
-    let x = split4(w);
-    out[0] = x.x0;
-    out[1] = x.x1;
-    out[2] = x.x2;
-    out[3] = x.x3;
-}
-
-pub fn store8(out: &mut [u8], a: u32, b: u32)
-    requires { length out.old ≡ 8 }
-    ensures { out.new ≡ split 4 a ++ split 4 b }
-{
-    store4(out, a);
-    store4(&mut out[4..], b);
-}
-
-pub fn store16(out: &mut [u8], a: u32, b: u32, c: u32, d: u32)
-    requires { length out.old ≡ 16 }
-    ensures { out.new ≡ split 4 a ++ split 4 b ++ split 4 c ++ split 4 d }
-{
-    store8(&mut out[0..8], a, b);
-    store8(&mut out[8..], c, d);
+    for (i, w) in words.iter().enumerate() {
+        store(&mut out[i * 4..], *w);
+    }
 }

@@ -19,9 +19,8 @@ use Rattle.fox_refusals.proofs.Laws.Reply.{served, refused, refused-reply, reply
 use Rattle.fox_block.specs.Block.{state, bytes, turn_with, turn_block, BlockOf}
 use Rattle.fox_block.specs.Promise.{Turns}
 use Rattle.fox_block.proofs.Laws.Block.{length-bytes}
-use Rattle.fox_card_block.specs.Part.{least, parted, TurnsPart, for_two, TurnsInTwo}
+use Rattle.fox_card_block.specs.Part.{PartAnswer, least, parted, TurnsPart, for_two, TurnsInTwo}
 use Rattle.fox_card_block.specs.declared.rounds.Hold.{Hold}
-use Rattle.fox_card_block.specs.declared.part.PartAnswer.{PartAnswer}
 use Rattle.fox_card_block.proofs.Laws.Part.{least-most, least_above, parted-size, parted-joined, parted-stopped, parted-all}
 
 -- a call on all rounds is a call on the block

@@ -1,15 +1,15 @@
 -- Part of a block's rounds, from the bytes of the block, or of its state between two rounds, and the register in hand; and what calls promise, whole.
 -- Assumes nothing.
-use Rattle.std.specs.Prelude.{◌≡◌, ℕ, zero, suc, ◌-◌, ◌%◌, ◌^◌, Bool, cond, List, ltb, eqb, length}
+use Rattle.std.specs.Prelude.{◌≡◌, ℕ, zero, suc, ◌-◌, ◌%◌, ◌^◌, Bool, cond, List, ltb, eqb, length, Result, Ok, Err}
 use Rattle.fox_key_schedule.specs.Schedule.{key_at, step_block}
 use Rattle.fox_key_schedule.specs.Step.{stands, number}
 use Rattle.fox_refusals.specs.Refusals.{Refusal, refusal_of, for_block}
 use Rattle.fox_refusals.specs.Reply.{Reply}
-use Rattle.fox_refusals.specs.declared.answer.Answer.{Answer}
+use Rattle.fox_refusals.specs.Answer.{Answer, number_of}
+use Rattle.fox_refusals.specs.declared.refusal.Refusal as code
 use Rattle.fox_block.specs.Block.{state, bytes, turn_block}
 use Rattle.fox_card_block.specs.Hold.{rounds_on}
 use Rattle.fox_card_block.specs.declared.rounds.Hold.{Hold}
-use Rattle.fox_card_block.specs.declared.part.PartAnswer.{PartAnswer}
 
 -- the smaller of two numbers
 unfoldable pub least : ℕ → ℕ → ℕ
@@ -27,6 +27,16 @@ parted sealing cipher r key i j reg block =
     let g = step_block cipher key in
     let h : Hold = record { state = state cipher block; reg = in_hand sealing g r i reg } in
     rounds_on sealing (key_at cipher key) g (least i r) (least j r - least i r) h
+
+-- what a call on part of a block's rounds returns: the answer, and the register's value for the next round, 0 where the call is refused
+pub record PartAnswer : Type 0 where
+  pub answer : Answer
+  pub reg : ℕ
+
+-- the same from what code answers, the register or a refusal, with the length of the output, which is the count of a call that is served
+abbrev pub part_answer : ℕ → Result ℕ code.Refusal → PartAnswer
+part_answer n (Ok reg) = record { answer = record { refusal = 0; count = n }; reg = reg }
+part_answer n (Err e) = record { answer = record { refusal = number_of e; count = 0 }; reg = 0 }
 
 -- the whole answer of a call that hands back a block in hand: refusal number, count and output, which has the bytes of the state; and the register's value for
 -- the next round, 0 where the call is refused

@@ -1,8 +1,10 @@
 // One block by the card engine, from cipher, rounds, key bytes and block: every input is answered.
+// Cipher, rounds and key come one by one, as C programs hand them over and as promises name them (`Turns`): a struct of the three would only be taken apart.
+ghost use Rattle.fox_refusals.specs.Answer.{answer_of};
 ghost use Rattle.fox_block.specs.Promise.{Turns};
 
 use crate::part::turn_part;
-use fox_refusals::answer::Answer;
+use fox_refusals::refusal::Refusal;
 
 pub fn turn(
     sealing: bool,
@@ -11,9 +13,9 @@ pub fn turn(
     key: &[u8],
     block: &[u8],
     out: &mut [u8],
-) -> Answer
-    ensures { Turns sealing cipher rounds key.now block.now out.old out.new result }
+) -> Result<usize, Refusal>
+    ensures { Turns sealing cipher rounds key.now block.now out.old out.new (answer_of result) }
 {
-    let whole = turn_part(sealing, cipher, rounds, key, 0, rounds, 0, block, out);
-    whole.answer
+    turn_part(sealing, cipher, rounds, key, 0, rounds, 0, block, out)?;
+    Ok(out.len())
 }

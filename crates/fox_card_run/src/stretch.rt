@@ -6,33 +6,31 @@ ghost use Rattle.fox_run.specs.States.{stream};
 ghost use Rattle.fox_run.specs.Parts.{Part};
 
 use fox_card_block::rounds::turned;
-use fox_engine_counter::states::counted;
+use fox_engine_counter::states::Counter;
 use fox_engine_run::key_stream::xor_part;
 use fox_key_schedule::schedule::Schedule;
+use fox_rounds::block::Block;
 use fox_rounds::state::State;
 
-// Seals the block that the run's byte n is in, from that byte on; returns the bytes done.
+// Seals the block that the run's byte n is in, from that byte on; returns the bytes done. It keeps a frame of its own on the stack, which is not there while
+// the key is mixed.
+#[inline(never)]
 fn one_block(s: Schedule, rounds: u8, x: State, n: usize, input: &[u8], out: &mut [u8]) -> usize
     requires { (1 ≤ rounds) × (n < 1073741824) × (length out.old ≡ length input.now) }
     ensures { Part (stream (round_keys_of s rounds) x) n input.now out.old out.new result }
 {
     let size = x.size();
-    let sealed = turned(true, s, rounds, counted(x, (n / size) as u32));
+    let sealed = turned(true, s, rounds, x.counted((n / size) as u32));
     xor_part(sealed, n % size, input, out)
 }
 
-// The first block stands before the loop: as it is called from two places, `one_block` has a frame of its own on the stack, which is not there while the key
-// is mixed.
+// Blocks are no chunks of the input, since the first may be the end of a block: each answers how far it went.
 pub(crate) fn stretch(s: Schedule, rounds: u8, x: State, n: usize, input: &[u8], out: &mut [u8])
     requires { (1 ≤ rounds) × (n + length input.now ≤ 1073741824) × (length out.old ≡ length input.now) }
     ensures { out.new ≡ xor_from (stream (round_keys_of s rounds) x) n input.now }
 {
-    if input.len() == 0 {
-        return;
-    }
-    let mut at = one_block(s, rounds, x, n, input, out);
+    let mut at = 0;
     while at < input.len() {
-        let done = one_block(s, rounds, x, n + at, &input[at..], &mut out[at..]);
-        at = at + done;
+        at += one_block(s, rounds, x, n + at, &input[at..], &mut out[at..]);
     }
 }

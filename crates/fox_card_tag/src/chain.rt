@@ -9,11 +9,12 @@ ghost use Rattle.fox_tag.specs.Cmac.{blocks_before, block_at, last_at, keyed_blo
 ghost use Rattle.fox_tag.specs.Tag.{chain_of, tag_with};
 
 use fox_card_block::rounds::turned;
-use fox_engine_block::blocks::{read, write};
+use fox_engine_block::blocks::{Bytes, read};
 use fox_engine_subkeys::last::last_block;
 use fox_engine_subkeys::parts::{block_part, blocks_before, last_part};
-use fox_engine_tag::states::{xored, zero};
+use fox_engine_tag::states::zero;
 use fox_key_schedule::schedule::Schedule;
+use fox_rounds::block::Block;
 use fox_rounds::state::State;
 
 // Block number i of a message: one of the n before the last, or `last`.
@@ -22,9 +23,10 @@ fn block_at(cipher: u32, message: &[u8], n: usize, last: &[u8], i: usize) -> Sta
     ensures { result ≡ state cipher (cond (ltb i n) (block_at (block_size cipher) message.now i) last.now) }
 {
     if i < n {
-        return read(cipher, block_part(message, last.len(), i));
+        read(cipher, block_part(message, last.len(), i))
+    } else {
+        read(cipher, last)
     }
-    read(cipher, last)
 }
 
 // Leaves the last block with its subkey in the buffer.
@@ -35,12 +37,13 @@ fn last_into(cipher: u32, rounds: u8, key: &[u8], message: &[u8], out: &mut [u8]
         (last_at (block_size cipher) message.now) }
 {
     let s = Schedule::of(cipher, key);
-    write(out, turned(true, s, rounds, zero(cipher)));
+    turned(true, s, rounds, zero(cipher)).write(out);
     let part = last_part(message, out.len());
     last_block(out, part);
 }
 
-// Chains all blocks; the buffer holds the last one, and then the outcome.
+// Chains all blocks; the buffer holds the last one, and then the outcome. Blocks go by number, and are no chunks of the message: the last is elsewhere, and a
+// second place that seals would take more of the stack.
 fn chain(cipher: u32, rounds: u8, key: &[u8], message: &[u8], out: &mut [u8])
     requires { (1 ≤ rounds) × (length key.now ≤ 32) × (length out.old ≡ block_size cipher) }
     ensures { out.new ≡ seal_with cipher (round_keys cipher rounds key.now)
@@ -51,14 +54,9 @@ fn chain(cipher: u32, rounds: u8, key: &[u8], message: &[u8], out: &mut [u8])
     let n = blocks_before(message, out.len());
     let mut y = zero(cipher);
     for i in 0..n + 1 {
-        y = turned(
-            true,
-            s,
-            rounds,
-            xored(y, block_at(cipher, message, n, out, i)),
-        );
+        y = turned(true, s, rounds, y.xor(block_at(cipher, message, n, out, i)));
     }
-    write(out, y);
+    y.write(out);
 }
 
 pub(crate) fn tag(cipher: u32, rounds: u8, key: &[u8], message: &[u8], out: &mut [u8])

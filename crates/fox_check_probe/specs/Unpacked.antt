@@ -2,7 +2,7 @@
 -- Assumes nothing.
 use Rattle.std.specs.Prelude.{ℕ, ◌/◌, ◌%◌, ◌^◌, Bool, not, eqb}
 use Rattle.fox_refusals.specs.Handed.{answer}
-use Rattle.fox_card_block.specs.declared.part.PartAnswer.{PartAnswer}
+use Rattle.fox_card_block.specs.Part.{PartAnswer}
 
 -- any number but 0 asks to seal
 unfoldable pub asks_to_seal : ℕ → Bool

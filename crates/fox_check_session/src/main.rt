@@ -5,67 +5,77 @@
 
 ghost use Rattle.std.specs.Prelude.{◌-◌, ◌≤◌, length};
 
+use crate::out::Out;
+use crate::told::Told;
+use fox_refusals::refusal::Refusal;
 use fox_server_key::prepared::prepare;
-use fox_server_session::session::{Session, Started, moved, start, start_from_key};
-use fox_server_session_step::step::Step;
-use fox_session_in_place::advance_copy;
-use fox_text_lines::lines::{after_line, rest, starts_with};
-use fox_text_read::fields::{decimal_line, pairs_line};
+use fox_server_session::session::Session;
+use fox_text_lines::lines::{after_line, starts_with};
+use fox_text_read::fields::{decimal_in, decimal_line, pairs_in, pairs_line};
+use std::fmt;
+use std::fmt::Write;
 
-mod lines;
+mod out;
+mod told;
 
+// Where nothing more can be printed, nothing more is played.
 fn main() {
     let mut text = io::large_buffer();
     let n = io::read_full(0, &mut text);
-    let none = start_from_key(false, 0, 0, b"", b"");
-    play(none.session, &text[..n]);
+    let _ = play(&mut Out, &text[..n]);
 }
 
-// Plays from the text's first line to its last.
-fn play(s: Session, text: &[u8]) {
-    let mut now = s;
-    let mut left = text.len();
-    while left > 0 {
-        let t = rest(text, text.len() - left);
-        now = play_line(now, t);
-        left = left_after(t);
+// Plays from the text's first line to its last. A loop by hand: how many lines a call has shows only where it is read. `successors` would take this step and this
+// test in two closures, and is no plainer.
+fn play(out: &mut Out, text: &[u8]) -> fmt::Result {
+    let mut session = Session::none();
+    let mut left = text;
+    while !left.is_empty() {
+        play_call(out, &mut session, left)?;
+        left = after_call(left);
     }
+    Ok(())
 }
 
-// How many bytes follow the text's first call.
-fn left_after(t: &[u8]) -> usize
-    ensures { result ≤ length t.now - 1 }
+// What follows the text's first call.
+fn after_call(t: &[u8]) -> &[u8]
+    ensures { length result.now ≤ length t.now - 1 }
 {
     let second = after_line(t);
     if starts_with(b"way=", t) {
         let fourth = after_line(after_line(second));
-        return after_line(after_line(fourth)).len();
+        return after_line(after_line(fourth));
     }
-    second.len()
+    second
 }
 
-// The session after the text's first call.
-fn play_line(s: Session, t: &[u8]) -> Session {
+// Plays the text's first call.
+fn play_call(out: &mut Out, session: &mut Session, t: &[u8]) -> fmt::Result {
     if starts_with(b"way=", t) {
-        return play_start(t);
+        *session = play_start(out, t)?;
+        return Ok(());
     }
     if starts_with(b"move=", t) {
-        return play_move(s, t);
+        return play_move(out, session, t);
     }
-    play_advance(s, t)
+    play_advance(out, session, t)
 }
 
 // From a prepared key, or where that is refused, from key bytes.
-fn begin(sealing: bool, cipher: u32, rounds: u32, key: &[u8], counter: &[u8]) -> Started {
-    let made = prepare(cipher, rounds, key);
-    let answer = made.answer;
-    if answer.refusal != 0 {
-        return start_from_key(sealing, cipher, rounds, key, counter);
+fn begin(
+    sealing: bool,
+    cipher: u32,
+    rounds: u32,
+    key: &[u8],
+    counter: &[u8],
+) -> Result<Session, Refusal> {
+    match prepare(cipher, rounds, key) {
+        Ok(prepared) => Session::start(sealing, prepared, counter),
+        Err(_) => Session::start_from_key(sealing, cipher, rounds, key, counter),
     }
-    start(sealing, made.key, counter)
 }
 
-fn play_start(t: &[u8]) -> Session {
+fn play_start(out: &mut Out, t: &[u8]) -> Result<Session, fmt::Error> {
     let second = after_line(t);
     let third = after_line(second);
     let fourth = after_line(third);
@@ -73,67 +83,53 @@ fn play_start(t: &[u8]) -> Session {
     let sealing = starts_with(b"way=seal\n", t);
     let mut key = [0; 64];
     let mut counter = [0; 64];
-    let c = decimal_line(second, b"cipher=", 65535);
-    let r = decimal_line(third, b"rounds=", 65535);
-    let k = pairs_line(fourth, b"key=", 64, &mut key);
-    let b = pairs_line(fifth, b"counter=", 64, &mut counter);
     let known = sealing | starts_with(b"way=open\n", t);
-    if !(known & c.right & r.right & k.right & b.right) {
-        lines::print_malformed();
+    let settings = decimal_line(second, b"cipher=", 65535).is_some()
+        & decimal_line(third, b"rounds=", 65535).is_some();
+    let bytes = pairs_line(fourth, b"key=", 64, &mut key).is_some()
+        & pairs_line(fifth, b"counter=", 64, &mut counter).is_some();
+    if !(known & settings & bytes) {
+        writeln!(out, "malformed")?;
     }
-    let size = k.count;
-    let width = b.count;
-    let started = begin(sealing, c.value, r.value, &key[..size], &counter[..width]);
-    let session = started.session;
-    lines::print_start(sealing, c.value, r.value, size);
-    lines::print_told(started.answer, session.here);
-    io::write_all(1, b"\n");
-    session
+    let cipher = decimal_in(second, b"cipher=", 65535).unwrap_or(0);
+    let rounds = decimal_in(third, b"rounds=", 65535).unwrap_or(0);
+    let key = bytes_in(fourth, b"key=", &mut key);
+    let counter = bytes_in(fifth, b"counter=", &mut counter);
+    let started = begin(sealing, cipher, rounds, key, counter);
+    let session = started.unwrap_or(Session::none());
+    let told = Told::of(started.map(|_| 0), &session);
+    let way = if sealing { "seal" } else { "open" };
+    let size = key.len();
+    writeln!(out, "start {way} {cipher} {rounds} {size}:{told}")?;
+    Ok(session)
 }
 
-fn play_move(s: Session, t: &[u8]) -> Session {
-    let to = decimal_line(t, b"move=", 4294967295);
-    if !to.right {
-        lines::print_malformed();
-        return s;
-    }
-    io::write_all(1, b"  move");
-    let step = moved(s, to.value as u64);
-    lines::print_told(step.answer, step.here);
-    io::write_all(1, b"\n");
-    after(s, step)
+// The bytes that a line tells in pairs of digits; none where it tells none.
+fn bytes_in<'a>(t: &[u8], name: &[u8], room: &'a mut [u8; 64]) -> &'a [u8] {
+    let n = pairs_in(t, name, 64, &mut room[..]).unwrap_or(0);
+    &room[..n]
 }
 
-fn play_advance(s: Session, t: &[u8]) -> Session {
+fn play_move(out: &mut Out, session: &mut Session, t: &[u8]) -> fmt::Result {
+    let Some(to) = decimal_line(t, b"move=", 4294967295) else {
+        return writeln!(out, "malformed");
+    };
+    let answer = session.move_to(u64::from(to));
+    let told = Told::of(answer, session);
+    writeln!(out, "  move{told}")
+}
+
+fn play_advance(out: &mut Out, session: &mut Session, t: &[u8]) -> fmt::Result {
     let mut input = [0; 128];
-    let a = pairs_line(t, b"advance=", 128, &mut input);
-    if !a.right {
-        lines::print_malformed();
-        return s;
+    let Some(n) = pairs_line(t, b"advance=", 128, &mut input) else {
+        return writeln!(out, "malformed");
+    };
+    let mut shown = [0; 128];
+    let answer = session.advance(&input[..n], &mut shown[..n]);
+    let told = Told::of(answer, session);
+    write!(out, "  advance{told} output=")?;
+    for b in &shown[..n] {
+        write!(out, "{b:02x}")?;
     }
-    let mut out = [0; 128];
-    let n = a.count;
-    advance_into(s, &input[..n], &mut out[..n])
-}
-
-fn advance_into(s: Session, input: &[u8], out: &mut [u8]) -> Session {
-    io::write_all(1, b"  advance");
-    let done = advance_copy(s, input, out);
-    let answer = done.answer;
-    let session = done.session;
-    lines::print_told(answer, session.here);
-    lines::print_bytes(out);
-    session
-}
-
-fn after(s: Session, step: Step) -> Session {
-    let key = s.key;
-    let counter = s.counter;
-    let here = step.here;
-    Session {
-        key,
-        counter,
-        here,
-        sealing: s.sealing,
-    }
+    writeln!(out)
 }

@@ -3,14 +3,15 @@ ghost use Rattle.std.specs.Prelude.{◌≡◌, ◌++◌, ◌*◌, ◌≤◌, ◌
 ghost use Rattle.fox_layers.specs.Words.{xor_each};
 ghost use Rattle.fox_tag.specs.Cmac.{reduction, doubled, subkey_of, keyed_block};
 
-// XORs bytes into the front of a block.
+// XORs bytes into the front of a block. The block goes by its index for the reason that stands at `xor_bytes` of fox_engine_run: a loop by `zip` over
+// `iter_mut` has no name for the block, of which the proof speaks.
 fn xor_into(block: &mut [u8], part: &[u8])
     requires { length part.now ≤ length block.old }
     ensures { block.new
         ≡ xor_each block.old part.now ++ drop (length part.now) block.old }
 {
-    for i in 0..part.len() {
-        block[i] = block[i] ^ part[i];
+    for (i, p) in part.iter().enumerate() {
+        block[i] ^= *p;
     }
 }
 
@@ -22,7 +23,8 @@ fn reduced(size: usize, top: u8) -> u8
     if size == 8 { top * 0x1B } else { top * 0x87 }
 }
 
-// Doubles a block: every byte moves left by one bit and takes the top bit of the next.
+// Doubles a block: every byte moves left by one bit and takes the top bit of the next. The loop counts an index, since the proof of one over
+// `iter_mut().rev()`, which carries the bit, did not close.
 fn double(block: &mut [u8])
     requires { 1 ≤ length block.old }
     ensures { block.new ≡ doubled (length block.old) block.old }
@@ -41,10 +43,9 @@ fn subkey(block: &mut [u8], whole: bool)
     ensures { block.new ≡ subkey_of (length block.old) block.old whole }
 {
     double(block);
-    if whole {
-        return;
+    if !whole {
+        double(block);
     }
-    double(block);
 }
 
 // Turns the sealed zero block into the message's last block, filled up and XORed with its subkey. `part` is what that block has of the message.
@@ -54,9 +55,7 @@ pub fn last_block(block: &mut [u8], part: &[u8])
 {
     subkey(block, part.len() == block.len());
     xor_into(block, part);
-    let end = part.len();
-    if end == block.len() {
-        return;
+    if part.len() < block.len() {
+        block[part.len()] ^= 0x80;
     }
-    block[end] = block[end] ^ 0x80;
 }

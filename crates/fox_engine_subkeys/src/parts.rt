@@ -7,10 +7,7 @@ pub fn blocks_before(message: &[u8], size: usize) -> usize
     requires { 1 ≤ size }
     ensures { result ≡ blocks_before size message.now }
 {
-    if message.len() == 0 {
-        return 0;
-    }
-    (message.len() - 1) / size
+    message.len().saturating_sub(1) / size
 }
 
 // Block number i, which lies within the message.
@@ -19,8 +16,7 @@ pub fn block_part(message: &[u8], size: usize, i: usize) -> &[u8]
     ensures { (result.now ≡ block_at size message.now i) × (length result.now ≡ size) }
 {
     let at = i * size;
-    let end = at + size;
-    &message[at..end]
+    &message[at..at + size]
 }
 
 // The last block, as much of it as the message has.

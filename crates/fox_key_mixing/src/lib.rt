@@ -2,5 +2,5 @@
 #![tactic(auto)]
 
 pub mod diversification;
-pub mod key_bytes;
+pub mod key;
 pub mod mixing;

@@ -1,6 +1,6 @@
 -- The non-linear parts of the key schedules (001 §2.3.10 to §2.3.15): from the diversified key's bytes to a round key.
 -- Assumes nothing.
-use Rattle.std.specs.Prelude.{ℕ, zero, suc, ◌+◌, ◌-◌, ◌*◌, ◌^◌, List, [], ◌∷◌, map, Bool, cond, get_or, take, drop}
+use Rattle.std.specs.Prelude.{ℕ, zero, suc, ◌+◌, ◌-◌, ◌*◌, ◌/◌, ◌%◌, ◌^◌, List, [], ◌∷◌, map, Bool, cond, get_or, take, drop}
 use Rattle.fox_layers.specs.Words.{◌⊕◌, joined, xor_each}
 use Rattle.fox_layers.specs.Substitution.{sigma}
 use Rattle.fox_layers.specs.Diffusion.{mu4, mu8}
@@ -58,6 +58,15 @@ layers n k mu mix flip t =
     let with_pad = xor_each (mix (map mu (map (sigma n) t))) (words n k pad) in
     let all_flipped = map (flipped n) with_pad in
     map (sigma n) (cond flip all_flipped with_pad)
+
+-- what follows the XOR with pad, on a word of n bytes
+unfoldable pub after_pad : ℕ → Bool → ℕ → ℕ
+after_pad n flip w = sigma n (cond flip (flipped n w) w)
+
+-- words of 64 bits as twice as many of 32
+unfoldable pub in_two : List ℕ → List ℕ
+in_two [] = []
+in_two (w ∷ ws) = w / 2 ^ 32 ∷ w % 2 ^ 32 ∷ in_two ws
 
 unfoldable pub number64 : Fox64 → ℕ
 number64 x = x.l * 2 ^ 32 + x.r

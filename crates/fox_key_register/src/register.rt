@@ -1,59 +1,89 @@
 // The register of 24 bits (001 §2.3.9): its first value, and its steps forward and back.
-ghost use Rattle.std.specs.Prelude.{◌≡◌, ◌<◌, ◌^◌};
-ghost use Rattle.fox_key_register.specs.Register.{seed, clocked, clocked_back, step, stepped};
+ghost use Rattle.std.specs.Prelude.{◌≡◌, ◌%◌, ◌<◌, ◌^◌};
+ghost use Rattle.fox_key_register.specs.Register.{seed, clocked, clocked_back, stepped};
 
-use fox_layers::words::join4;
+use std::marker::Model;
 
-// The register's first value.
-pub fn seed(rounds: u8) -> u32
-    ensures { (result ≡ seed rounds) × (result < 2 ^ 24) }
-{
-    join4(0, 0x6A, rounds, rounds ^ 0xFF)
+// The register, which contracts see as the number that its bits are.
+#[derive(Clone, Copy)]
+pub struct Register {
+    bits: u32,
 }
 
-// One step: doubling modulo 100001B.
-pub fn clocked(reg: u32) -> u32
-    requires { reg < 2 ^ 24 }
-    ensures { (result ≡ clocked reg) × (result < 2 ^ 24) }
-{
-    if reg < 0x80_0000 {
-        reg * 2
-    } else {
-        (reg * 2 - 0x100_0000) ^ 0x1B
+impl Model for Register {
+    ghost use Rattle.std.specs.Prelude.{ℕ, ◌^◌, ◌<◌};
+
+    ghost Value = { ℕ };
+
+    ghost view = { λ r. r.bits };
+
+    ghost inverse = { λ n. record { bits = n } };
+
+    ghost invariant = { λ r. r.bits < 2 ^ 24 };
+}
+
+impl From<Register> for u32 {
+    fn from(register: Register) -> u32
+        ensures { (result ≡ register) × (result < 2 ^ 24) }
+    {
+        register.bits
     }
 }
 
-// One step back: halving modulo 100001B.
-fn clocked_back(reg: u32) -> u32
-    requires { reg < 2 ^ 24 }
-    ensures { (result ≡ clocked_back reg) × (result < 2 ^ 24) }
-{
-    if reg % 2 == 0 {
-        reg / 2
-    } else {
-        reg / 2 ^ 0x80_000D
+impl Register {
+    // The register's first value.
+    pub fn seed(rounds: u8) -> Register
+        ensures { result ≡ seed rounds }
+    {
+        let bits = u32::from_be_bytes([0, 0x6A, rounds, rounds ^ 0xFF]);
+        Register { bits }
     }
-}
 
-// One step on, or back.
-fn step(on: bool, reg: u32) -> u32
-    requires { reg < 2 ^ 24 }
-    ensures { (result ≡ step on reg) × (result < 2 ^ 24) }
-{
-    if on {
-        return clocked(reg);
+    // The 24 lowest bits of a number. No `From`, since bits are lost.
+    pub fn of(number: u32) -> Register
+        ensures { result ≡ number % 2 ^ 24 }
+    {
+        Register {
+            bits: number % 0x100_0000,
+        }
     }
-    clocked_back(reg)
-}
 
-// So many steps on, or back.
-pub fn stepped(on: bool, reg: u32, steps: u32) -> u32
-    requires { reg < 2 ^ 24 }
-    ensures { (result ≡ stepped on steps reg) × (result < 2 ^ 24) }
-{
-    let mut now = reg;
-    for done in 0..steps {
-        now = step(on, now);
+    // One step: doubling modulo 100001B.
+    pub fn clocked(self) -> Register
+        ensures { result ≡ clocked self }
+    {
+        let Register { bits } = self;
+        if bits < 0x80_0000 {
+            Register { bits: bits * 2 }
+        } else {
+            let over = bits * 2 - 0x100_0000;
+            Register { bits: over ^ 0x1B }
+        }
     }
-    now
+
+    // One step back: halving modulo 100001B.
+    fn clocked_back(self) -> Register
+        ensures { result ≡ clocked_back self }
+    {
+        let Register { bits } = self;
+        if bits % 2 == 0 {
+            Register { bits: bits / 2 }
+        } else {
+            let under = bits / 2;
+            Register {
+                bits: under ^ 0x80_000D,
+            }
+        }
+    }
+
+    // So many steps on, or back.
+    pub fn stepped(self, on: bool, steps: u32) -> Register
+        ensures { result ≡ stepped on steps self }
+    {
+        if on {
+            (0..steps).fold(self, |now, _| now.clocked())
+        } else {
+            (0..steps).fold(self, |now, _| now.clocked_back())
+        }
+    }
 }

@@ -5,7 +5,7 @@ use Rattle.fox_layers.specs.Lists.{numbered}
 use Rattle.fox_key_mixing.specs.Padding.{mkey}
 use Rattle.fox_key_register.specs.Register.{seed, LFSR, stepped}
 use Rattle.fox_key_mixing.specs.Diversification.{dkey}
-use Rattle.fox_key_mixing.specs.KeyBytes.{bytes16, bytes32}
+use Rattle.fox_key_mixing.specs.KeyBytes.{word_bytes}
 use Rattle.fox_key_nonlinear.specs.Nonlinear.{NL64, NL64h, NL128}
 use Rattle.fox_key_nonlinear.specs.declared.nl128.Key128.{Key128}
 use Rattle.fox_key_schedule.specs.declared.schedule.RoundKey.{RoundKey}
@@ -13,9 +13,9 @@ use Rattle.fox_key_schedule.specs.declared.schedule.Schedule.{Schedule}
 use Rattle.fox_key_schedule.specs.declared.schedule.Schedule.TheVariants.{Ks64, Ks64h, Ks128}
 
 unfoldable pub round_key_at : Schedule → ℕ → ℕ
-round_key_at (Ks64 m flip) reg = NL64 flip (dkey (bytes16 m) reg)
-round_key_at (Ks64h m flip) reg = NL64h flip (dkey (bytes32 m) reg)
-round_key_at (Ks128 m flip) reg = NL128 flip (dkey (bytes32 m) reg)
+round_key_at (Ks64 m flip) reg = NL64 flip (dkey (word_bytes 8 m.words) reg)
+round_key_at (Ks64h m flip) reg = NL64h flip (dkey (word_bytes 8 m.words) reg)
+round_key_at (Ks128 m flip) reg = NL128 flip (dkey (word_bytes 8 m.words) reg)
 
 -- whether the round keys have 64 bits, which is FOX64
 unfoldable pub narrow : Schedule → Bool
@@ -47,9 +47,9 @@ onward false k = k.before
 
 -- the schedule of a key: which of the three it is, its mixed key, and whether the key has ek bytes
 unfoldable pub Scheduled : ℕ → List ℕ → Schedule → Type 0
-Scheduled cipher key (Ks64 m flip) = (cipher ≡ 64) × (length key ≤ 16) × (bytes16 m ≡ mkey 16 key) × (flip ≡ eqb (length key) 16)
-Scheduled cipher key (Ks64h m flip) = (cipher ≡ 64) × (16 < length key) × (bytes32 m ≡ mkey 32 key) × (flip ≡ eqb (length key) 32)
-Scheduled cipher key (Ks128 m flip) = (cipher ≡ 64 → ⊥) × (bytes32 m ≡ mkey 32 key) × (flip ≡ eqb (length key) 32)
+Scheduled cipher key (Ks64 m flip) = (cipher ≡ 64) × (length key ≤ 16) × (word_bytes 8 m.words ≡ mkey 16 key) × (flip ≡ eqb (length key) 16)
+Scheduled cipher key (Ks64h m flip) = (cipher ≡ 64) × (16 < length key) × (word_bytes 8 m.words ≡ mkey 32 key) × (flip ≡ eqb (length key) 32)
+Scheduled cipher key (Ks128 m flip) = (cipher ≡ 64 → ⊥) × (word_bytes 8 m.words ≡ mkey 32 key) × (flip ≡ eqb (length key) 32)
 
 -- round key number i of a schedule for r rounds, counted from 0: the register has gone i times its steps
 unfoldable pub round_key_of : Schedule → ℕ → ℕ → ℕ

@@ -1,16 +1,14 @@
 // The key schedule of either cipher (001 §2.3.1 to §2.3.4): the mixed key, with whether the key has ek bytes. The card engine and the prepared key both take
 // round keys from here, and with each of them the register's value for the next and for the one before.
-ghost use Rattle.std.specs.Prelude.{◌≡◌, ◌*◌, ◌^◌, ◌<◌, ◌≤◌, length};
+ghost use Rattle.std.specs.Prelude.{◌≡◌, ◌*◌, ◌≤◌, length};
 ghost use Rattle.fox_key_register.specs.Register.{stepped};
 ghost use Rattle.fox_key_schedule.specs.Step.{KeyAt, RoundKeyAt, onward, steps, Scheduled, RegisterAt};
 
-use fox_key_mixing::diversification::{dkey16, dkey32};
-use fox_key_mixing::key_bytes::{Key16, Key32};
-use fox_key_mixing::mixing::{mkey16, mkey32};
+use fox_key_mixing::key::Key;
 use fox_key_nonlinear::nl64::nl64;
 use fox_key_nonlinear::nl64h::nl64h;
 use fox_key_nonlinear::nl128::{Key128, nl128};
-use fox_key_register::register::{seed, stepped};
+use fox_key_register::register::Register;
 use fox_rounds::fox64::Fox64;
 use fox_rounds::fox128::Fox128;
 
@@ -19,42 +17,39 @@ use fox_rounds::fox128::Fox128;
 #[derive(Clone, Copy)]
 pub struct RoundKey {
     pub key: Key128,
-    pub next: u32,
-    pub before: u32,
+    pub next: Register,
+    pub before: Register,
 }
 
 impl RoundKey {
-    // The register's value for the next round: `next` in sealing, `before` in opening.
-    pub fn onward(self, sealing: bool) -> u32
+    // The register's value for the next round: `next` in sealing, `before` in opening. The direction is a parameter of the definition.
+    pub fn onward(self, sealing: bool) -> Register
         ensures { result ≡ onward sealing self }
     {
-        if sealing {
-            return self.next;
-        }
-        self.before
+        if sealing { self.next } else { self.before }
     }
 }
 
 // KS64, KS64h or KS128, and whether the key has ek bytes.
 #[derive(Clone, Copy)]
 pub enum Schedule {
-    Ks64(Key16, bool),
-    Ks64h(Key32, bool),
-    Ks128(Key32, bool),
+    Ks64(Key<2>, bool),
+    Ks64h(Key<4>, bool),
+    Ks128(Key<4>, bool),
 }
 
 impl Schedule {
+    // The cipher stays a number: `Scheduled` answers for every one, and any but 64 is taken as 128.
     pub fn of(cipher: u32, key: &[u8]) -> Schedule
         requires { length key.now ≤ 32 }
         ensures { Scheduled cipher key.now result }
     {
         if cipher != 64 {
-            return Schedule::Ks128(mkey32(key), key.len() == Fox128::EK);
-        }
-        if key.len() <= Fox64::EK {
-            Schedule::Ks64(mkey16(key), key.len() == Fox64::EK)
+            Schedule::Ks128(Key::mkey(key), key.len() == Fox128::EK)
+        } else if key.len() <= Fox64::EK {
+            Schedule::Ks64(Key::mkey(key), key.len() == Fox64::EK)
         } else {
-            Schedule::Ks64h(mkey32(key), key.len() == Fox64::EK_LONG)
+            Schedule::Ks64h(Key::mkey(key), key.len() == Fox64::EK_LONG)
         }
     }
 
@@ -70,34 +65,31 @@ impl Schedule {
     }
 
     // The register so many step blocks on, or back. Nothing else moves it from one round key to another.
-    fn moved(self, on: bool, blocks: u8, reg: u32) -> u32
-        requires { reg < 2 ^ 24 }
-        ensures { (result ≡ stepped on (blocks * steps self) reg) × (result < 2 ^ 24) }
+    fn moved(self, on: bool, blocks: u8, reg: Register) -> Register
+        ensures { result ≡ stepped on (blocks * steps self) reg }
     {
-        stepped(on, reg, (blocks as u32) * self.steps())
+        reg.stepped(on, (blocks as u32) * self.steps())
     }
 
     // The round key's words at the register value reg.
-    fn key_at(self, reg: u32) -> Key128
-        requires { reg < 2 ^ 24 }
+    fn key_at(self, reg: Register) -> Key128
         ensures { KeyAt self reg result }
     {
         match self {
             Schedule::Ks64(m, flip) => Key128 {
                 left: 0,
-                right: nl64(dkey16(m, reg), flip),
+                right: nl64(m.dkey(reg), flip),
             },
             Schedule::Ks64h(m, flip) => Key128 {
                 left: 0,
-                right: nl64h(dkey32(m, reg), flip),
+                right: nl64h(m.dkey(reg), flip),
             },
-            Schedule::Ks128(m, flip) => nl128(dkey32(m, reg), flip),
+            Schedule::Ks128(m, flip) => nl128(m.dkey(reg), flip),
         }
     }
 
     // The round key at the register value reg, which is any, also one before the first round key or beyond the last.
-    pub fn round_key(self, reg: u32) -> RoundKey
-        requires { reg < 2 ^ 24 }
+    pub fn round_key(self, reg: Register) -> RoundKey
         ensures { RoundKeyAt self reg result }
     {
         let key = self.key_at(reg);
@@ -107,14 +99,16 @@ impl Schedule {
     }
 
     // The register's value for the first round: in sealing the seed, in opening the value for the last round key.
-    pub fn first(self, sealing: bool, rounds: u8) -> u32
+    // `rounds` stays a byte with a clause: of a NonZeroU8 each contract would read the number through a function, and each caller would unwrap it.
+    pub fn first(self, sealing: bool, rounds: u8) -> Register
         requires { 1 ≤ rounds }
         ensures { RegisterAt (steps self) sealing rounds 0 result }
     {
-        let start = seed(rounds);
+        let start = Register::seed(rounds);
         if sealing {
-            return start;
+            start
+        } else {
+            self.moved(true, rounds - 1, start)
         }
-        self.moved(true, rounds - 1, start)
     }
 }

@@ -2,6 +2,7 @@
 pub mod Lists
 pub mod Xor
 pub mod Words
+pub mod StdBytes
 pub mod Bytewise
 pub mod Field
 pub mod Matrix

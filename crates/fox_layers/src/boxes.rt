@@ -1,5 +1,6 @@
 // The three small S-boxes S1 to S3 (001 §3.1, Fig. 13) by their bits, as circuits of "and", "or" and XOR, each on eight numbers at once. The promises hold
 // them to the figure's entries.
+// Three circuits of their own, and not one at three sizes.
 ghost use Rattle.std.specs.Prelude.{ℕ, get_or};
 ghost use Rattle.fox_layers.specs.Substitution.{S₁, S₂, S₃};
 ghost use Rattle.fox_layers.specs.Structs.{Each};

@@ -5,6 +5,8 @@ ghost use Rattle.fox_layers.specs.Words.{split};
 ghost use Rattle.fox_layers.specs.Substitution.{or4};
 ghost use Rattle.fox_layers.specs.Structs.{Held, Each, EachXor};
 
+use std::ops::BitXor;
+
 // The lowest bit of each byte.
 pub(crate) const ONES: u64 = 0x0101_0101_0101_0101;
 
@@ -17,7 +19,7 @@ pub struct Nibbles {
     pub b0: u64,
 }
 
-// The right halves of a word's bytes.
+// The right halves of a word's bytes. No `From`, since a word has left halves too.
 pub(crate) fn right_halves(w: u64) -> Nibbles
     ensures { Held (map (λ (x : ℕ). x % 16) (split 8 w)) result }
 {
@@ -29,14 +31,20 @@ pub(crate) fn right_halves(w: u64) -> Nibbles
     }
 }
 
-pub(crate) fn xored(x: Nibbles, y: Nibbles) -> Nibbles
-    ensures { EachXor x y result }
-{
-    Nibbles {
-        b3: x.b3 ^ y.b3,
-        b2: x.b2 ^ y.b2,
-        b1: x.b1 ^ y.b1,
-        b0: x.b0 ^ y.b0,
+impl BitXor for Nibbles {
+    type Output = Nibbles;
+
+    ghost bitxor_gives = { EachXor };
+
+    fn bitxor(self, y: Nibbles) -> Nibbles
+        ensures { EachXor self y result }
+    {
+        Nibbles {
+            b3: self.b3 ^ y.b3,
+            b2: self.b2 ^ y.b2,
+            b1: self.b1 ^ y.b1,
+            b0: self.b0 ^ y.b0,
+        }
     }
 }
 
@@ -52,7 +60,7 @@ pub(crate) fn or4(x: Nibbles) -> Nibbles
     }
 }
 
-// The word that has the numbers as its bytes.
+// The word that has the numbers as its bytes. No `From`, since that has no `requires`.
 pub(crate) fn word_of(x: Nibbles) -> u64
     requires { (x.b3 ≤ 0x0101010101010101) × (x.b2 ≤ 0x0101010101010101) × (x.b1 ≤ 0x0101010101010101) × (x.b0 ≤ 0x0101010101010101) }
     ensures { result ≡ x.b3 * 8 + x.b2 * 4 + x.b1 * 2 + x.b0 }

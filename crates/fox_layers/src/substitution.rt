@@ -3,7 +3,7 @@ ghost use Rattle.std.specs.Prelude.{◌≡◌};
 ghost use Rattle.fox_layers.specs.Substitution.{sbox, sigma};
 
 use crate::boxes::{s1, s2, s3};
-use crate::nibbles::{or4, right_halves, word_of, xored};
+use crate::nibbles::{or4, right_halves, word_of};
 
 pub fn sigma8(w: u64) -> u64
     ensures { result ≡ sigma 8 w }
@@ -11,18 +11,19 @@ pub fn sigma8(w: u64) -> u64
     // The left halves are the right halves of the word moved by four bits.
     let l = right_halves(w / 16);
     let r = right_halves(w);
-    let t = s1(xored(l, r));
-    let l = or4(xored(l, t));
-    let r = xored(r, t);
-    let t = s2(xored(l, r));
-    let l = or4(xored(l, t));
-    let r = xored(r, t);
-    let t = s3(xored(l, r));
-    let l = xored(l, t);
-    let r = xored(r, t);
+    let t = s1(l ^ r);
+    let l = or4(l ^ t);
+    let r = r ^ t;
+    let t = s2(l ^ r);
+    let l = or4(l ^ t);
+    let r = r ^ t;
+    let t = s3(l ^ r);
+    let l = l ^ t;
+    let r = r ^ t;
     word_of(l) * 16 + word_of(r)
 }
 
+// On four bytes, by the same function.
 pub fn sigma4(w: u32) -> u32
     ensures { result ≡ sigma 4 w }
 {

@@ -2,7 +2,7 @@
 -- Assumes nothing.
 use Rattle.std.specs.Prelude.{◌≡◌, ℕ, cond, List, ◌==◌}
 use Rattle.fox_refusals.specs.Refusals.{Refusal, refusal_of}
-use Rattle.fox_refusals.specs.declared.answer.Answer.{Answer}
+use Rattle.fox_refusals.specs.Answer.{Answer}
 
 pub record Handed (refusals : List Refusal) (value before after : List ℕ) (r : ℕ) : Type 0 where
   pub refusal : r ≡ refusal_of refusals

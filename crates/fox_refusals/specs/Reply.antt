@@ -2,7 +2,7 @@
 -- Assumes nothing.
 use Rattle.std.specs.Prelude.{◌≡◌, ℕ, cond, List, length, ◌==◌}
 use Rattle.fox_refusals.specs.Refusals.{Refusal, refusal_of}
-use Rattle.fox_refusals.specs.declared.answer.Answer.{Answer}
+use Rattle.fox_refusals.specs.Answer.{Answer}
 
 -- success is 0 with the output length as count and the value written; a refusal has count 0 and leaves the output as it was
 pub record Reply (refusals : List Refusal) (value before after : List ℕ) (r : Answer) : Type 0 where

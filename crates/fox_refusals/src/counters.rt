@@ -1,13 +1,15 @@
-// The refusals of a call that makes a run's first counter block: the first that applies, and 0 where none does.
+// The refusals of a call that makes a run's first counter block: the first that applies.
 ghost use Rattle.std.specs.Prelude.{◌≡◌};
 ghost use Rattle.fox_refusals.specs.Refusals.{refusal_of, for_counter};
+ghost use Rattle.fox_refusals.specs.Answer.{number_in};
 
-use crate::refusals::{block_size, or_else, wrong_cipher};
+use crate::refusal::{Refusal, refuse};
+use crate::refusals::{block_size, wrong_cipher};
 
-pub fn for_counter(cipher: u32, counter_len: usize) -> u32
-    ensures { result ≡ refusal_of (for_counter cipher counter_len) }
+#[tactic(auto, using(crate::proofs::Laws::Tests::counter_tests), unfolding(crate::specs::Refusals::or_else))]
+pub fn for_counter(cipher: u32, counter_len: usize) -> Result<(), Refusal>
+    ensures { number_in result ≡ refusal_of (for_counter cipher counter_len) }
 {
-    let of_cipher = or_else(0, wrong_cipher(cipher), 1);
-    let size = block_size(cipher);
-    or_else(of_cipher, counter_len != size, 4)
+    refuse(wrong_cipher(cipher), Refusal::WrongCipher)?;
+    refuse(counter_len != block_size(cipher), Refusal::WrongBlockLength)
 }

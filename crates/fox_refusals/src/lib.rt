@@ -1,8 +1,8 @@
-// What all calls have in common: the refusals in their order, and the answer.
+// What all calls have in common: the refusals in their order, and the number that a C program gets of an answer.
 #![tactic(auto)]
 
-pub mod answer;
 pub mod counters;
+pub mod refusal;
 pub mod refusals;
 pub mod stretch;
 pub mod tags;

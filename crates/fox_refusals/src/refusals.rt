@@ -1,23 +1,15 @@
-// The refusals of a key, prepared, or to seal or open with, and of a block: the first that applies, and 0 where none does.
+// The refusals of a key, prepared, or to seal or open with, and of a block: the first that applies.
+// Cipher, rounds and key come one by one, as C programs hand them over and the promises name them.
 ghost use Rattle.std.specs.Prelude.{◌≡◌};
-ghost use Rattle.fox_refusals.specs.Refusals.{refusal_of, or_else, block_size, wrong_cipher, wrong_rounds, short_key, for_key, for_turn, for_block};
+ghost use Rattle.fox_refusals.specs.Refusals.{refusal_of, block_size, wrong_cipher, wrong_rounds, short_key, for_key, for_turn, for_block};
+ghost use Rattle.fox_refusals.specs.Answer.{number_in};
 
+use crate::refusal::{Refusal, refuse};
 use fox_rounds::fox64::Fox64;
 use fox_rounds::fox128::Fox128;
 
-// One more test in a chain of refusals: the tests are taken in order, so that a call with several faults is answered by the first.
-pub fn or_else(refusal: u32, applies: bool, number: u32) -> u32
-    ensures { result ≡ or_else refusal applies number }
-{
-    if refusal != 0 {
-        return refusal;
-    }
-    if applies {
-        return number;
-    }
-    0
-}
-
+// The cipher stays a number in every call, since a call answers for every number: any but 64 and 128 is refused.
+#[tactic(auto, unfolding(crate::specs::Refusals::block_size))]
 pub fn block_size(cipher: u32) -> usize
     ensures { result ≡ block_size cipher }
 {
@@ -28,48 +20,45 @@ pub fn block_size(cipher: u32) -> usize
     }
 }
 
+#[tactic(auto, unfolding(crate::specs::Refusals::wrong_cipher))]
 pub(crate) fn wrong_cipher(cipher: u32) -> bool
     ensures { result ≡ (wrong_cipher cipher).applies }
 {
-    if cipher == 64 {
-        return false;
-    }
-    cipher != 128
+    cipher != 64 && cipher != 128
 }
 
+#[tactic(auto, unfolding(crate::specs::Refusals::wrong_rounds))]
 fn wrong_rounds(rounds: u32) -> bool
     ensures { result ≡ (wrong_rounds rounds).applies }
 {
-    if rounds < 12 {
-        return true;
-    }
-    rounds > 255
+    rounds < 12 || rounds > 255
 }
 
+#[tactic(auto, unfolding(crate::specs::Refusals::short_key))]
 fn short_key(sealing: bool, key_len: usize) -> bool
     ensures { result ≡ (short_key sealing key_len).applies }
 {
-    if sealing {
-        return key_len < 16;
-    }
-    false
+    sealing && key_len < 16
 }
 
-pub fn for_key(cipher: u32, rounds: u32, key_len: usize) -> u32
-    ensures { result ≡ refusal_of (for_key cipher rounds key_len) }
+#[tactic(auto, using(crate::proofs::Laws::Tests::key_tests), unfolding(crate::specs::Refusals::or_else))]
+pub fn for_key(cipher: u32, rounds: u32, key_len: usize) -> Result<(), Refusal>
+    ensures { number_in result ≡ refusal_of (for_key cipher rounds key_len) }
 {
-    let first = or_else(0, wrong_cipher(cipher), 1);
-    let second = or_else(first, wrong_rounds(rounds), 2);
-    or_else(second, key_len > 32, 3)
+    refuse(wrong_cipher(cipher), Refusal::WrongCipher)?;
+    refuse(wrong_rounds(rounds), Refusal::WrongRounds)?;
+    refuse(key_len > 32, Refusal::LongKey)
 }
 
-pub fn for_turn(sealing: bool, cipher: u32, rounds: u32, key_len: usize) -> u32
-    ensures { result ≡ refusal_of (for_turn sealing cipher rounds key_len) }
+#[tactic(auto, using(crate::proofs::Laws::Tests::turn_tests), unfolding(crate::specs::Refusals::or_else))]
+pub fn for_turn(sealing: bool, cipher: u32, rounds: u32, key_len: usize) -> Result<(), Refusal>
+    ensures { number_in result ≡ refusal_of (for_turn sealing cipher rounds key_len) }
 {
-    let of_key = for_key(cipher, rounds, key_len);
-    or_else(of_key, short_key(sealing, key_len), 13)
+    for_key(cipher, rounds, key_len)?;
+    refuse(short_key(sealing, key_len), Refusal::ShortKey)
 }
 
+#[tactic(auto, using(crate::proofs::Laws::Tests::block_tests), unfolding(crate::specs::Refusals::or_else))]
 pub fn for_block(
     sealing: bool,
     cipher: u32,
@@ -77,11 +66,10 @@ pub fn for_block(
     key_len: usize,
     block_len: usize,
     out_len: usize,
-) -> u32
-    ensures { result ≡ refusal_of (for_block sealing cipher rounds key_len block_len out_len) }
+) -> Result<(), Refusal>
+    ensures { number_in result ≡ refusal_of (for_block sealing cipher rounds key_len block_len out_len) }
 {
-    let of_key = for_turn(sealing, cipher, rounds, key_len);
-    let size = block_size(cipher);
-    let of_block = or_else(of_key, block_len != size, 4);
-    or_else(of_block, out_len != block_len, 6)
+    for_turn(sealing, cipher, rounds, key_len)?;
+    refuse(block_len != block_size(cipher), Refusal::WrongBlockLength)?;
+    refuse(out_len != block_len, Refusal::WrongOutputLength)
 }

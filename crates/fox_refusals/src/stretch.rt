@@ -1,21 +1,21 @@
-// The refusals of a stretch of a run: the first that applies, and 0 where none does.
+// The refusals of a stretch of a run: the first that applies.
 ghost use Rattle.std.specs.Prelude.{◌≡◌};
 ghost use Rattle.fox_refusals.specs.Refusals.{refusal_of, past_end, for_run};
+ghost use Rattle.fox_refusals.specs.Answer.{number_in};
 
-use crate::refusals::{block_size, for_turn, or_else};
-use std::num::wrapping_add_u64;
+use crate::refusal::{Refusal, refuse};
+use crate::refusals::{block_size, for_turn};
 
-// Tests the true sum of offset and length: a sum that wraps is below the offset.
+// Tests the true sum of offset and length, also where it is above a u64.
+#[tactic(auto, unfolding(crate::specs::Refusals::past_end))]
 fn past_end(offset: u64, input_len: u64) -> bool
     ensures { result ≡ (past_end offset input_len).applies }
 {
-    let end = wrapping_add_u64(offset, input_len);
-    if end < offset {
-        return true;
-    }
-    end > 1_073_741_824
+    let end = offset.checked_add(input_len);
+    end.is_none_or(|end| end > 1_073_741_824)
 }
 
+#[tactic(auto, using(crate::proofs::Laws::Tests::run_tests), unfolding(crate::specs::Refusals::or_else))]
 pub fn for_run(
     sealing: bool,
     cipher: u32,
@@ -25,13 +25,12 @@ pub fn for_run(
     offset: u64,
     input_len: usize,
     out_len: usize,
-) -> u32
-    ensures { result ≡ refusal_of (for_run sealing cipher rounds key_len counter_len offset input_len out_len) }
+) -> Result<(), Refusal>
+    ensures { number_in result ≡ refusal_of (for_run sealing cipher rounds key_len counter_len offset input_len out_len) }
 {
-    let of_key = for_turn(sealing, cipher, rounds, key_len);
-    let size = block_size(cipher);
-    let of_counter = or_else(of_key, counter_len != size, 4);
-    let of_input = or_else(of_counter, input_len > 65_536, 5);
-    let of_output = or_else(of_input, out_len != input_len, 6);
-    or_else(of_output, past_end(offset, input_len as u64), 7)
+    for_turn(sealing, cipher, rounds, key_len)?;
+    refuse(counter_len != block_size(cipher), Refusal::WrongBlockLength)?;
+    refuse(input_len > 65_536, Refusal::LongData)?;
+    refuse(out_len != input_len, Refusal::WrongOutputLength)?;
+    refuse(past_end(offset, input_len as u64), Refusal::PastEnd)
 }

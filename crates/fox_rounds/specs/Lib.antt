@@ -1,4 +1,5 @@
--- What the promises and laws of fox_rounds cite: 001's definitions, in its order, and round keys in an array.
+-- What the promises and laws of fox_rounds cite: 001's definitions, in its order, blocks XORed, and round keys in an array.
 pub mod Rounds
 pub mod Skeleton
 pub mod RoundKeys
+pub mod Xor

@@ -2,9 +2,9 @@
 ghost use Rattle.std.specs.Prelude.{◌≡◌, ◌+◌, ◌*◌, ◌^◌};
 ghost use Rattle.fox_layers.specs.Words.{◌⊕◌};
 ghost use Rattle.fox_rounds.specs.Rounds.{f64, xor128, elmid128, or128, io128};
-ghost use Rattle.fox_rounds.specs.Skeleton.{between};
 ghost use Rattle.fox_rounds.specs.declared.state.State.TheVariants.{Of128};
 
+use crate::block::Block;
 use crate::fox64::{io, or};
 use fox_layers::diffusion::mu8;
 use fox_layers::substitution::sigma8;
@@ -17,17 +17,18 @@ pub struct Fox128 {
     pub rr: u32,
 }
 
+// `f32` on words of 64 bits. Each is one line; one function for both takes a trait of words with sigma, mu and XOR, and is no plainer.
 pub fn f64(x: u64, k: u64, l: u64) -> u64
     ensures { result ≡ f64 x (k * 2 ^ 64 + l) }
 {
     sigma8(mu8(sigma8(x ^ k)) ^ l) ^ k
 }
 
-// Two words of 32 bits side by side.
+// Two words of 32 bits side by side. A `From` of a tuple is no plainer.
 pub fn pair(a: u32, b: u32) -> u64
     ensures { result ≡ a * 2 ^ 32 + b }
 {
-    (a as u64) * 0x1_0000_0000 + (b as u64)
+    u64::from(a) * 0x1_0000_0000 + u64::from(b)
 }
 
 impl Fox128 {
@@ -40,6 +41,7 @@ impl Fox128 {
     // Register steps from one round key to the next.
     pub const STEPS: u32 = 11;
 
+    // The words have names here: a `From` of a tuple or an array is no plainer.
     pub fn new(ll: u32, lr: u32, rl: u32, rr: u32) -> Fox128
         ensures { (result.ll ≡ ll) × (result.lr ≡ lr) × (result.rl ≡ rl) × (result.rr ≡ rr) }
     {
@@ -72,8 +74,22 @@ impl Fox128 {
     {
         self.xored(f64(self.round_input(), k, l))
     }
+}
 
-    pub fn or(self) -> Fox128
+impl Block for Fox128 {
+    ghost state = { Of128 };
+
+    fn size(self) -> usize {
+        Fox128::BLOCK
+    }
+
+    fn round(self, left: u64, right: u64) -> Fox128
+        ensures { result ≡ elmid128 (left * 2 ^ 64 + right) self }
+    {
+        self.elmid(left, right)
+    }
+
+    fn or(self) -> Fox128
         ensures { result ≡ or128 self }
     {
         Fox128 {
@@ -84,7 +100,7 @@ impl Fox128 {
         }
     }
 
-    pub fn io(self) -> Fox128
+    fn io(self) -> Fox128
         ensures { result ≡ io128 self }
     {
         Fox128 {
@@ -95,10 +111,17 @@ impl Fox128 {
         }
     }
 
-    // What follows every round but the last: "or" in sealing, "io" in opening.
-    pub fn between(self, sealing: bool) -> Fox128
-        ensures { Of128 result ≡ between sealing (Of128 self) }
+    // With the definition of two blocks XORed, which has the name of the definition of a round's XOR.
+    ghost use Rattle.fox_rounds.specs.Xor.{xor128 as xor_blocks128};
+
+    fn xor(self, other: Fox128) -> Fox128
+        ensures { result ≡ xor_blocks128 self other }
     {
-        if sealing { self.or() } else { self.io() }
+        Fox128 {
+            ll: self.ll ^ other.ll,
+            lr: self.lr ^ other.lr,
+            rl: self.rl ^ other.rl,
+            rr: self.rr ^ other.rr,
+        }
     }
 }

@@ -1,9 +1,10 @@
 // FOX64: its constants, its state of two words, and its round, computed without large tables (001 §2.2.1, §2.2.3, §2.2.4).
 ghost use Rattle.std.specs.Prelude.{◌≡◌};
 ghost use Rattle.fox_rounds.specs.Rounds.{or, io, f32, lmid64, or64, io64};
-ghost use Rattle.fox_rounds.specs.Skeleton.{between};
+ghost use Rattle.fox_rounds.specs.Xor.{xor64};
 ghost use Rattle.fox_rounds.specs.declared.state.State.TheVariants.{Of64};
 
+use crate::block::Block;
 use fox_layers::diffusion::mu4;
 use fox_layers::substitution::sigma4;
 
@@ -31,6 +32,7 @@ pub fn io(w: u32) -> u32
     (p ^ q) * 0x1_0000 + p
 }
 
+// The round function. FOX128's, `f64`, says why it stands beside this one.
 pub fn f32(x: u32, rk: u64) -> u32
     ensures { result ≡ f32 x rk }
 {
@@ -53,6 +55,7 @@ impl Fox64 {
 
     pub const STEPS_LONG: u32 = 11;
 
+    // The words have names here: a `From` of a tuple or an array is no plainer.
     pub fn new(l: u32, r: u32) -> Fox64
         ensures { (result.l ≡ l) × (result.r ≡ r) }
     {
@@ -68,8 +71,22 @@ impl Fox64 {
             r: self.r ^ t,
         }
     }
+}
 
-    pub fn or(self) -> Fox64
+impl Block for Fox64 {
+    ghost state = { Of64 };
+
+    fn size(self) -> usize {
+        Fox64::BLOCK
+    }
+
+    fn round(self, _left: u64, right: u64) -> Fox64
+        ensures { result ≡ lmid64 right self }
+    {
+        self.lmid(right)
+    }
+
+    fn or(self) -> Fox64
         ensures { result ≡ or64 self }
     {
         Fox64 {
@@ -78,7 +95,7 @@ impl Fox64 {
         }
     }
 
-    pub fn io(self) -> Fox64
+    fn io(self) -> Fox64
         ensures { result ≡ io64 self }
     {
         Fox64 {
@@ -87,10 +104,12 @@ impl Fox64 {
         }
     }
 
-    // What follows every round but the last: "or" in sealing, "io" in opening.
-    pub fn between(self, sealing: bool) -> Fox64
-        ensures { Of64 result ≡ between sealing (Of64 self) }
+    fn xor(self, other: Fox64) -> Fox64
+        ensures { result ≡ xor64 self other }
     {
-        if sealing { self.or() } else { self.io() }
+        Fox64 {
+            l: self.l ^ other.l,
+            r: self.r ^ other.r,
+        }
     }
 }

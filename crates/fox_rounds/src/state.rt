@@ -2,6 +2,7 @@
 ghost use Rattle.std.specs.Prelude.{◌≡◌, ◌+◌, ◌*◌, ◌^◌};
 ghost use Rattle.fox_rounds.specs.Skeleton.{size, round, between};
 
+use crate::block::Block;
 use crate::fox64::Fox64;
 use crate::fox128::Fox128;
 
@@ -11,34 +12,43 @@ pub enum State {
     Of128(Fox128),
 }
 
-impl State {
-    // Bytes in a block.
-    pub fn size(self) -> usize
-        ensures { result ≡ size self }
-    {
+impl Block for State {
+    ghost state = { λ x. x };
+
+    fn size(self) -> usize {
         match self {
-            State::Of64(_) => Fox64::BLOCK,
-            State::Of128(_) => Fox128::BLOCK,
+            State::Of64(x) => x.size(),
+            State::Of128(x) => x.size(),
         }
     }
 
-    // A round without "or" or "io". The round key is two words of 64 bits; FOX64 takes the right one.
-    pub fn round(self, left: u64, right: u64) -> State
-        ensures { result ≡ round (left * 2 ^ 64 + right) self }
-    {
+    fn round(self, left: u64, right: u64) -> State {
         match self {
-            State::Of64(x) => State::Of64(x.lmid(right)),
-            State::Of128(x) => State::Of128(x.elmid(left, right)),
+            State::Of64(x) => State::Of64(x.round(left, right)),
+            State::Of128(x) => State::Of128(x.round(left, right)),
         }
     }
 
-    // What follows every round but the last: "or" in sealing, "io" in opening.
-    pub fn between(self, sealing: bool) -> State
-        ensures { result ≡ between sealing self }
-    {
+    fn or(self) -> State {
         match self {
-            State::Of64(x) => State::Of64(x.between(sealing)),
-            State::Of128(x) => State::Of128(x.between(sealing)),
+            State::Of64(x) => State::Of64(x.or()),
+            State::Of128(x) => State::Of128(x.or()),
+        }
+    }
+
+    fn io(self) -> State {
+        match self {
+            State::Of64(x) => State::Of64(x.io()),
+            State::Of128(x) => State::Of128(x.io()),
+        }
+    }
+
+    // States of two ciphers are not XORed: `xor_states` keeps the first.
+    fn xor(self, other: State) -> State {
+        match (self, other) {
+            (State::Of64(x), State::Of64(y)) => State::Of64(x.xor(y)),
+            (State::Of128(x), State::Of128(y)) => State::Of128(x.xor(y)),
+            _ => self,
         }
     }
 }

@@ -8,7 +8,7 @@ use Prim.Native.Nat.{ℕ, ◌+◌, ◌/◌, ◌%◌, ◌<◌}
 use lib.ListN.{length, get_or}
 use Rattle.fox_layers.specs.Words.{◌⊕◌}
 use Rattle.fox_refusals.specs.Refusals.{block_size}
-use Rattle.fox_refusals.specs.declared.answer.Answer.{Answer}
+use Rattle.fox_refusals.specs.Answer.{Answer}
 use Rattle.fox_block.specs.Block.{seal_with}
 use Rattle.fox_run.specs.Counter.{counter_block}
 use Rattle.fox_run.specs.Run.{streamed, key_stream, run_with}

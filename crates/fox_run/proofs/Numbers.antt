@@ -14,7 +14,7 @@ use Rattle.fox_layers.specs.Words.{joined, split}
 use Rattle.fox_layers.proofs.Laws.Words.{length-split, joined-split}
 use Rattle.fox_refusals.specs.Refusals.{block_size}
 use Rattle.fox_refusals.specs.Reply.{Served}
-use Rattle.fox_refusals.specs.declared.answer.Answer.{Answer}
+use Rattle.fox_refusals.specs.Answer.{Answer}
 use Rattle.fox_refusals.proofs.Laws.Refusals.{counter-served, counter-known}
 use Rattle.fox_refusals.proofs.Laws.Reply.{served}
 use Rattle.fox_block.proofs.Laws.Block.{by-cipher, size_64, size-128}

@@ -11,7 +11,7 @@ use native.Mathlib.Omega.{arith}
 use lib.ListN.{length}
 use Rattle.fox_refusals.specs.Refusals.{for_run, Keyed, LongFor, Stretched}
 use Rattle.fox_refusals.specs.Reply.{Served, Refused, Same}
-use Rattle.fox_refusals.specs.declared.answer.Answer.{Answer}
+use Rattle.fox_refusals.specs.Answer.{Answer}
 use Rattle.fox_refusals.proofs.Laws.Reply.{short-key-refused, same}
 use Rattle.fox_run.specs.Run.{run_with}
 use Rattle.fox_run.specs.Promise.{RunsWith}

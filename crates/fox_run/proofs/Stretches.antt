@@ -12,7 +12,7 @@ use lib.ListN.{length, take, drop, length-append, length-drop}
 use lib.Seq.{length-take-le}
 use Rattle.fox_refusals.specs.Refusals.{block_size, Keyed, LongFor}
 use Rattle.fox_refusals.specs.Reply.{Served}
-use Rattle.fox_refusals.specs.declared.answer.Answer.{Answer}
+use Rattle.fox_refusals.specs.Answer.{Answer}
 use Rattle.fox_run.specs.Run.{xor_from, run_with}
 use Rattle.fox_run.specs.Promise.{RunsWith}
 use Rattle.fox_run.specs.Cuts.{Call, CallsOf, CutOf, none, next, each_alone}

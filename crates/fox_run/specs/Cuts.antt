@@ -1,7 +1,7 @@
 -- A run cut into stretches, each of them the input of some call.
 -- Assumes nothing.
 use Rattle.std.specs.Prelude.{◌≡◌, List, [], ◌∷◌, ◌++◌, ℕ, ◌+◌, ◌≤◌, length}
-use Rattle.fox_refusals.specs.declared.answer.Answer.{Answer}
+use Rattle.fox_refusals.specs.Answer.{Answer}
 
 -- a call on a stretch: offset, input, the output before and after, and the answer
 abbrev pub Call : Type 1

@@ -5,7 +5,7 @@ use Rattle.std.specs.Prelude.{ℕ, Bool, List, length}
 use Rattle.fox_refusals.specs.Refusals.{for_run, for_counter}
 use Rattle.fox_refusals.specs.Reply.{Reply}
 use Rattle.fox_refusals.specs.Handed.{Handed}
-use Rattle.fox_refusals.specs.declared.answer.Answer.{Answer}
+use Rattle.fox_refusals.specs.Answer.{Answer}
 use Rattle.fox_key_schedule.specs.Schedule.{round_keys}
 use Rattle.fox_run.specs.Counter.{first_counter}
 use Rattle.fox_run.specs.Run.{run_with, run}

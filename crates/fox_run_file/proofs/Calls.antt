@@ -17,10 +17,9 @@ use Rattle.fox_tag.specs.Tag.{tag_with}
 use Rattle.fox_text.specs.Ascii.{codes, ascii, starts_with}
 use Rattle.fox_text.specs.Fields.{decimal_line_text}
 use Rattle.fox_run_file.specs.declared.place.Place.{Place}
-use Rattle.fox_run_file.specs.declared.place.Taken.{Taken}
-use Rattle.fox_run_file.specs.declared.reading.Next.TheVariants as next
-use Rattle.fox_run_file.specs.declared.reading.Read.{Read}
-use Rattle.fox_run_file.specs.declared.reading.Read.TheVariants as read
+use Rattle.fox_run_file.specs.Outcomes.{Taken}
+use Rattle.std.specs.Prelude.{Some, None}
+use Rattle.fox_run_file.specs.Outcomes.{Read, Opened, Refused, End}
 use Rattle.fox_run_file.specs.Format.{scan_name, closed_by, turned_scans}
 use Rattle.fox_run_file.specs.Sizes.{total}
 use Rattle.fox_run_file.specs.Says.{counter_in, is_scan, scans_in, scans_of, before_close, close_in}
@@ -41,27 +40,27 @@ opened-size c rks counter k ss = ap length (turned-at c rks counter k ss) ∙ le
 
 -- what a place tells
 
-next-there : (file : List ℕ) (place : Place) → at_scan file place ≡ true → next_at file place ≡ next.Scan (size_at file place)
+next-there : (file : List ℕ) (place : Place) → at_scan file place ≡ true → next_at file place ≡ Some (size_at file place)
 unfolding next_at
 next-there file place e = rw e
 
-next-none : (file : List ℕ) (place : Place) → at_scan file place ≡ false → next_at file place ≡ next.End
+next-none : (file : List ℕ) (place : Place) → at_scan file place ≡ false → next_at file place ≡ None
 unfolding next_at
 next-none file place e = rw e
 
 -- at the end nothing is read
 module _ (c r k : ℕ) (rks file : List ℕ) (place : Place) {before after : List ℕ} {x : Read} (call : ReadsWith c r k rks file place before after x) where
-  read_none : at_scan file place ≡ false → (x ≡ read.End) × (after ≡ before)
+  read_none : at_scan file place ≡ false → (x ≡ End) × (after ≡ before)
   unfolding read_at
   read_none e = (call.answer ∙ rw e, call.output ∙ rw e)
 
   read-served : at_scan file place ≡ true → read_refusal c r k file place (length before) ≡ 0
-      → (x ≡ read.Opened (size_at file place) (place_after file place))
+      → (x ≡ Opened (size_at file place) (place_after file place))
       × (after ≡ run_with c rks (counter_in c r file) place.offset (bytes_at file place))
   unfolding read_at
   read-served e z = (call.answer ∙ rw (e, z), call.output ∙ rw (e, z))
 
-  read-refused : at_scan file place ≡ true → read_refusal c r k file place (length before) ≡ 6 → (x ≡ read.Refused 6) × (after ≡ before)
+  read-refused : at_scan file place ≡ true → read_refusal c r k file place (length before) ≡ 6 → (x ≡ Refused 6) × (after ≡ before)
   unfolding read_at
   read-refused e z = (call.answer ∙ rw (e, z), call.output ∙ rw (e, z))
 
@@ -104,8 +103,8 @@ module _ (c r key_len : ℕ) (rks file : List ℕ) {t : Taken} (taken : TakesUpW
   at-end = rw starts (finished file 65535 (first_place c r) scans from_first (omega (arith, first-number)) (omega (arith, first-offset, small)))
 
   -- scan k is told, with its length, and stands where its bytes are in the run
-  pub length-told : (k : ℕ) → k < length scans → next_at file (stand k) ≡ next.Scan (length (get_or scans k []))
-  length-told k h = let s = before-scan k h in next-there file (stand k) s.there ∙ ap next.Scan s.size
+  pub length-told : (k : ℕ) → k < length scans → next_at file (stand k) ≡ Some (length (get_or scans k []))
+  length-told k h = let s = before-scan k h in next-there file (stand k) s.there ∙ ap Some s.size
 
   pub offset-there : (k : ℕ) → k < length scans → (stand k).offset ≡ offset_of k scans
   offset-there k h = let s = before-scan k h in omega (arith, s.offset, first-offset)
@@ -142,12 +141,12 @@ module _ (c r key_len : ℕ) (rks file : List ℕ) {t : Taken} (taken : TakesUpW
 
     -- read into a buffer of its length, it is opened, and leads to the next place
     pub opened : length before ≡ length (get_or scans k [])
-        → (x ≡ read.Opened (length (get_or scans k [])) (stand (suc k))) × (after ≡ get_or (turned_scans c rks (counter_in c r file) scans) k [])
+        → (x ≡ Opened (length (get_or scans k [])) (stand (suc k))) × (after ≡ get_or (turned_scans c rks (counter_in c r file) scans) k [])
     opened room =
         let s = before-scan k h in
         let z = may_read room in
         let y = read-served c r key_len rks file (stand k) call s.there z in (
-          y.0 ∙ ap₂ (λ (n : ℕ) (p : Place). read.Opened n p) s.size (sym (step-over k s.there) ∙ passed k),
+          y.0 ∙ ap₂ (λ (n : ℕ) (p : Place). Opened n p) s.size (sym (step-over k s.there) ∙ passed k),
           y.1
               ∙ ap₂ (λ (n : ℕ) (l : List ℕ). run_with c rks (counter_in c r file) n l) (offset-there k h) s.bytes
               ∙ sym (turned-at c rks (counter_in c r file) k scans),
@@ -159,13 +158,13 @@ module _ (c r key_len : ℕ) (rks file : List ℕ) {t : Taken} (taken : TakesUpW
     opened-stretch room = (opened room).1 ∙ scan-of-run c rks (counter_in c r file) k scans
 
     -- a buffer of another length is refused with 6, and stays as it was
-    pub other_length : (length before ≡ length (get_or scans k []) → ⊥) → (x ≡ read.Refused 6) × (after ≡ before)
+    pub other_length : (length before ≡ length (get_or scans k []) → ⊥) → (x ≡ Refused 6) × (after ≡ before)
     other_length other =
         let s = before-scan k h in
         read-refused c r key_len rks file (stand k) call s.there (may-not other)
 
   -- after the last scan there is the end, however often it is asked for, and nothing is read
-  pub ended : next_at file (stand (length scans)) ≡ next.End
+  pub ended : next_at file (stand (length scans)) ≡ None
   ended = next-none file (stand (length scans)) at-end
 
   pub ended-again : (j : ℕ) → stand (length scans + j) ≡ stand (length scans)
@@ -175,7 +174,7 @@ module _ (c r key_len : ℕ) (rks file : List ℕ) {t : Taken} (taken : TakesUpW
       ap stand one_more ∙ sym (passed (length scans + j)) ∙ ap (passed_over file) (ended-again j) ∙ stays file (stand (length scans)) at-end
 
   pub read-at-end : {before after : List ℕ} {x : Read} → ReadsWith c r key_len rks file (stand (length scans)) before after x
-      → (x ≡ read.End) × (after ≡ before)
+      → (x ≡ End) × (after ≡ before)
   read-at-end call = read_none c r key_len rks file (stand (length scans)) call at-end
 
 -- a refused file has the end alone
@@ -193,13 +192,13 @@ module _ (c r key_len : ℕ) (rks file : List ℕ) {t : Taken} (taken : TakesUpW
   unfolding no_place at_scan
   none-there = rw (nowhere, drop_of_length-le file {i = 2 ^ 64 - 1} (omega arith)) (nothing-scanned 1)
 
-  pub refused-ended : next_at file t.place ≡ next.End
+  pub refused-ended : next_at file t.place ≡ None
   refused-ended = next-none file t.place none-there
 
   pub refused-stays : passed_over file t.place ≡ t.place
   refused-stays = stays file t.place none-there
 
-  pub refused-reads : {before after : List ℕ} {x : Read} → ReadsWith c r key_len rks file t.place before after x → (x ≡ read.End) × (after ≡ before)
+  pub refused-reads : {before after : List ℕ} {x : Read} → ReadsWith c r key_len rks file t.place before after x → (x ≡ End) × (after ≡ before)
   refused-reads call = read_none c r key_len rks file t.place call none-there
 
 -- a file that was taken up, and another text before its line `close`: it is taken up only where its tag is the same, and refused where it is not

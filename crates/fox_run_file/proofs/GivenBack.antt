@@ -9,12 +9,11 @@ use native.Mathlib.Omega.{arith}
 use lib.ListN.{length, take, get_or}
 use Rattle.fox_layers.specs.Words.{Bytes}
 use Rattle.fox_refusals.specs.Refusals.{refusal_of, Keyed}
-use Rattle.fox_refusals.specs.declared.answer.Answer.{Answer}
+use Rattle.fox_refusals.specs.Answer.{Answer}
 use Rattle.fox_text.proofs.Laws.Stores.{take-stored}
-use Rattle.fox_run_file.specs.declared.place.Taken.{Taken}
-use Rattle.fox_run_file.specs.declared.reading.Next.TheVariants as next
-use Rattle.fox_run_file.specs.declared.reading.Read.{Read}
-use Rattle.fox_run_file.specs.declared.reading.Read.TheVariants as read
+use Rattle.fox_run_file.specs.Outcomes.{Taken}
+use Rattle.std.specs.Prelude.{Some, None}
+use Rattle.fox_run_file.specs.Outcomes.{Read, Opened}
 use Rattle.fox_run_file.specs.Format.{turned_scans, cut_by, run_file}
 use Rattle.fox_run_file.specs.Sizes.{file_size}
 use Rattle.fox_run_file.specs.Says.{counter_in, scans_of}
@@ -49,21 +48,21 @@ module _ (c r k : ℕ) (rks counter : List ℕ) (plain : List (List ℕ)) (keyed
   plain-again = rw is (written-opened c r rks counter plain range)
 
   -- scan i, counted from 0, is told with its length
-  pub old-file-told : (i : ℕ) → i < length plain → next_at file (after_steps file i t.place) ≡ next.Scan (length (get_or plain i []))
-  old-file-told i h = length-told c r k rks file take-up old-file-taken-up i (omega (arith, many)) ∙ ap next.Scan (size_of i)
+  pub old-file-told : (i : ℕ) → i < length plain → next_at file (after_steps file i t.place) ≡ Some (length (get_or plain i []))
+  old-file-told i h = length-told c r k rks file take-up old-file-taken-up i (omega (arith, many)) ∙ ap Some (size_of i)
 
   -- read into a buffer of its length, it is the plain scan, and the next one follows
   pub old-file-read : (i : ℕ) {buffer out : List ℕ} {x : Read} → i < length plain → length buffer ≡ length (get_or plain i [])
       → ReadsWith c r k rks file (after_steps file i t.place) buffer out x
-      → (x ≡ read.Opened (length (get_or plain i [])) (after_steps file (suc i) t.place)) × (out ≡ get_or plain i [])
+      → (x ≡ Opened (length (get_or plain i [])) (after_steps file (suc i) t.place)) × (out ≡ get_or plain i [])
   old-file-read i h room call =
       let y = opened c r k rks file take-up old-file-taken-up i (omega (arith, many)) call (room ∙ sym (size_of i)) in (
-        y.0 ∙ ap (λ (n : ℕ). read.Opened n (after_steps file (suc i) t.place)) (size_of i),
+        y.0 ∙ ap (λ (n : ℕ). Opened n (after_steps file (suc i) t.place)) (size_of i),
         y.1 ∙ ap (λ (ss : List (List ℕ)). get_or ss i []) plain-again,
       )
 
   -- after the last of them there is the end
-  pub old-file-ended : next_at file (after_steps file (length plain) t.place) ≡ next.End
+  pub old-file-ended : next_at file (after_steps file (length plain) t.place) ≡ None
   old-file-ended = rw (← many) (ended c r k rks file take-up old-file-taken-up)
 
 module _ (c r k : ℕ) (rks counter input sizes : List ℕ) {before after : List ℕ} {w : Answer} (bytes : Bytes counter)
@@ -107,18 +106,18 @@ module _ (c r k : ℕ) (rks counter input sizes : List ℕ) {before after : List
     taken-up = old-file-taken-up c r k rks counter plain known.keyed range file-written take-up
 
     -- scan i, counted from 0, is told with its length
-    pub told_back : (i : ℕ) → i < length sizes → next_at F (after_steps F i t.place) ≡ next.Scan (get_or sizes i 0)
+    pub told_back : (i : ℕ) → i < length sizes → next_at F (after_steps F i t.place) ≡ Some (get_or sizes i 0)
     told_back i h =
-        old-file-told c r k rks counter plain known.keyed range file-written take-up i (omega (arith, many-plain)) ∙ ap next.Scan (plain_size i)
+        old-file-told c r k rks counter plain known.keyed range file-written take-up i (omega (arith, many-plain)) ∙ ap Some (plain_size i)
 
     -- read into a buffer of its length, it is the plain scan, and the next one follows
     pub given_back : (i : ℕ) {buffer out : List ℕ} {x : Read} → i < length sizes → length buffer ≡ get_or sizes i 0
         → ReadsWith c r k rks F (after_steps F i t.place) buffer out x
-        → (x ≡ read.Opened (get_or sizes i 0) (after_steps F (suc i) t.place)) × (out ≡ get_or (cut_by sizes input) i [])
+        → (x ≡ Opened (get_or sizes i 0) (after_steps F (suc i) t.place)) × (out ≡ get_or (cut_by sizes input) i [])
     given_back i h room call =
         let y = old-file-read c r k rks counter plain known.keyed range file-written take-up i (omega (arith, many-plain)) (room ∙ sym (plain_size i)) call in
-        (y.0 ∙ ap (λ (n : ℕ). read.Opened n (after_steps F (suc i) t.place)) (plain_size i), y.1)
+        (y.0 ∙ ap (λ (n : ℕ). Opened n (after_steps F (suc i) t.place)) (plain_size i), y.1)
 
     -- after the last of them there is the end
-    pub end_back : next_at F (after_steps F (length sizes) t.place) ≡ next.End
+    pub end_back : next_at F (after_steps F (length sizes) t.place) ≡ None
     end_back = rw (← many-plain) (old-file-ended c r k rks counter plain known.keyed range file-written take-up)

@@ -10,10 +10,10 @@ use native.Mathlib.Omega.{arith}
 use lib.ListN.{length, take}
 use lib.Seq.{sets}
 use Rattle.fox_refusals.specs.Refusals.{block_size, wrong_block_length, Keyed}
-use Rattle.fox_refusals.specs.declared.answer.Answer.{Answer}
+use Rattle.fox_refusals.specs.Answer.{Answer}
 use Rattle.fox_refusals.proofs.Laws.Refusals.{short-key}
 use Rattle.fox_text.proofs.Laws.Stores.{take-stored}
-use Rattle.fox_run_file.specs.declared.place.Taken.{Taken}
+use Rattle.fox_run_file.specs.Outcomes.{Taken}
 use Rattle.fox_run_file.specs.Format.{turned_scans, run_file, cut_by}
 use Rattle.fox_run_file.specs.Sizes.{total, file_size, past_limit}
 use Rattle.fox_run_file.specs.Says.{counter_in, scans_of}

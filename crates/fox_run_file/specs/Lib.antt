@@ -5,5 +5,6 @@ pub mod Says
 pub mod Refusals
 pub mod Places
 pub mod Values
+pub mod Outcomes
 pub mod Promise
 pub mod Parts

@@ -1,17 +1,13 @@
 -- What the run file's calls promise, whole, for all inputs: refusal number, count, place and every byte of the output. `With` marks a call from cipher, rounds,
 -- key length and a list of round keys, as a prepared key holds them.
 -- Assumes nothing.
-use Rattle.std.specs.Prelude.{◌≡◌, ℕ, false, cond, ◌&&◌, List, eqb, length}
+use Rattle.std.specs.Prelude.{◌≡◌, ℕ, false, cond, ◌&&◌, List, Option, Some, None, eqb, length}
 use Rattle.std.proofs.lemmas.List.Edits.{sets}
 use Rattle.fox_refusals.specs.Refusals.{Refusal, refusal_of, for_run}
-use Rattle.fox_refusals.specs.declared.answer.Answer.{Answer}
+use Rattle.fox_refusals.specs.Answer.{Answer}
 use Rattle.fox_run.specs.Run.{run_with}
 use Rattle.fox_run_file.specs.declared.place.Place.{Place}
-use Rattle.fox_run_file.specs.declared.place.Taken.{Taken}
-use Rattle.fox_run_file.specs.declared.reading.Next.{Next}
-use Rattle.fox_run_file.specs.declared.reading.Next.TheVariants as next
-use Rattle.fox_run_file.specs.declared.reading.Read.{Read}
-use Rattle.fox_run_file.specs.declared.reading.Read.TheVariants as read
+use Rattle.fox_run_file.specs.Outcomes.{Taken, Read, Opened, Refused, End}
 use Rattle.fox_run_file.specs.Format.{cut_by, run_file}
 use Rattle.fox_run_file.specs.Sizes.{file_size}
 use Rattle.fox_run_file.specs.Says.{counter_in}
@@ -40,9 +36,9 @@ pub record TakesUpWith (cipher rounds key_len : ℕ) (rks file : List ℕ) (r : 
   pub refusal : r.refusal ≡ refusal_of (for_take_up cipher rounds key_len rks file)
   pub place : r.place ≡ cond (eqb (refusal_of (for_take_up cipher rounds key_len rks file)) 0) (first_place cipher rounds) no_place
 
--- what comes next at a place
-unfoldable pub next_at : List ℕ → Place → Next
-next_at file place = cond (at_scan file place) (next.Scan (size_at file place)) next.End
+-- the length of the scan that comes next at a place, or none at the end
+unfoldable pub next_at : List ℕ → Place → Option ℕ
+next_at file place = cond (at_scan file place) (Some (size_at file place)) None
 
 -- the refusal of reading the scan at a place into a buffer of so many bytes: that of a call that opens its stretch of the run
 unfoldable pub read_refusal : ℕ → ℕ → ℕ → List ℕ → Place → ℕ → ℕ
@@ -52,7 +48,7 @@ read_refusal cipher rounds key_len file place out_len =
 unfoldable pub read_at : ℕ → ℕ → ℕ → List ℕ → Place → ℕ → Read
 read_at cipher rounds key_len file place out_len =
     let refusal = read_refusal cipher rounds key_len file place out_len in
-    cond (at_scan file place) (cond (eqb refusal 0) (read.Opened (size_at file place) (place_after file place)) (read.Refused refusal)) read.End
+    cond (at_scan file place) (cond (eqb refusal 0) (Opened (size_at file place) (place_after file place)) (Refused refusal)) End
 
 -- the output after that: the scan's stretch of the run, opened, or as it was
 abbrev pub read_output : ℕ → ℕ → ℕ → List ℕ → List ℕ → Place → List ℕ → List ℕ
@@ -67,16 +63,16 @@ pub record ReadsWith (cipher rounds key_len : ℕ) (rks file : List ℕ) (place 
 
 -- 01's number, the count, and the place that follows, of how a reading ended at a place
 abbrev pub number_of : Read → ℕ
-number_of (read.Opened n p) = 0
-number_of (read.Refused n) = n
-number_of read.End = 0
+number_of (Opened n p) = 0
+number_of (Refused n) = n
+number_of End = 0
 
 abbrev pub count_of : Read → ℕ
-count_of (read.Opened n p) = n
-count_of (read.Refused n) = 0
-count_of read.End = 0
+count_of (Opened n p) = n
+count_of (Refused n) = 0
+count_of End = 0
 
 abbrev pub place_of : Place → Read → Place
-place_of place (read.Opened n p) = p
-place_of place (read.Refused n) = place
-place_of place read.End = place
+place_of place (Opened n p) = p
+place_of place (Refused n) = place
+place_of place End = place

@@ -5,10 +5,3 @@ pub struct Place {
     pub scans: usize,
     pub offset: usize,
 }
-
-// What taking up a run file returns: the refusal number, and the place of the first scan, or one that no file has where the file was refused.
-#[derive(Clone, Copy)]
-pub struct Taken {
-    pub refusal: u32,
-    pub place: Place,
-}

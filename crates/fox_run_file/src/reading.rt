@@ -1,17 +1,8 @@
-// What a reader tells.
+// What a reader tells of a scan that it opened: how many bytes it has, and the place of the scan after it.
 use crate::place::Place;
 
-// What comes next: a scan, of so many bytes, or the end.
 #[derive(Clone, Copy)]
-pub enum Next {
-    Scan(usize),
-    End,
-}
-
-// How reading the next scan ended: it was opened, with so many bytes, and the reader goes on at a place; it was refused, and the place stays; or there is none.
-#[derive(Clone, Copy)]
-pub enum Read {
-    Opened(usize, Place),
-    Refused(u32),
-    End,
+pub struct Opened {
+    pub size: usize,
+    pub next: Place,
 }

@@ -1,8 +1,6 @@
-// What looking for a scan at the start of a text returns: whether a whole scan stands there, how many bytes come before its own, and how many bytes it has;
-// 0 and 0 where there is none.
+// A whole scan at the start of a text: how many bytes come before its own, and how many bytes it has.
 #[derive(Clone, Copy)]
 pub struct Scan {
-    pub whole: bool,
     pub head: usize,
     pub size: usize,
 }

@@ -6,16 +6,6 @@ ghost use Rattle.fox_run_file_lay.specs.Laid.{Laid, ScanRoom, Room};
 
 use fox_text_write::writing::{put, put_decimal_line};
 
-// Moves n bytes down, from the first to the last.
-fn move_down(out: &mut [u8], at: usize, src: usize, n: usize)
-    requires { (at ≤ src) × (src + n ≤ length out.old) }
-    ensures { Laid at (src + n) (take n (drop src out.old)) out.old out.new (at + n) }
-{
-    for i in 0..n {
-        out[at + i] = out[src + i];
-    }
-}
-
 // Writes a scan whose sealed bytes stand at `src`; returns the place after it.
 fn put_scan(out: &mut [u8], at: usize, src: usize, number: u32, size: usize) -> usize
     requires { ScanRoom at src number size out.old }
@@ -23,7 +13,7 @@ fn put_scan(out: &mut [u8], at: usize, src: usize, number: u32, size: usize) -> 
 {
     let a = put_decimal_line(out, at, b"scan=", number);
     let b = put_decimal_line(out, a, b"bytes=", size as u32);
-    move_down(out, b, src, size);
+    out.copy_within(src..src + size, b);
     put(out, b + size, b"\n")
 }
 
@@ -35,10 +25,10 @@ pub fn put_scans(out: &mut [u8], at: usize, src: usize, sizes: &[u64]) -> usize
 {
     let mut to = at;
     let mut from = src;
-    for i in 0..sizes.len() {
-        let size = sizes[i] as usize;
+    for (i, size) in sizes.iter().enumerate() {
+        let size = *size as usize;
         to = put_scan(out, to, from, i as u32 + 1, size);
-        from = from + size;
+        from += size;
     }
     to
 }

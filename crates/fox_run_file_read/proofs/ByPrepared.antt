@@ -7,10 +7,10 @@ use lib.ListN.{length}
 use Rattle.fox_key_schedule.specs.Schedule.{round_keys}
 use Rattle.fox_refusals.specs.Refusals.{Keyed}
 use Rattle.fox_server_key.specs.Prepared.{Prepares, round_keys_in}
-use Rattle.fox_server_key.specs.declared.prepared.Preparation.{Preparation}
+use Rattle.fox_server_key.specs.Prepared.{Preparation}
 use Rattle.fox_server_key.proofs.Laws.Prepares.{from-prepared}
 use Rattle.fox_run_file.specs.declared.place.Place.{Place}
-use Rattle.fox_run_file.specs.declared.reading.Read.{Read}
+use Rattle.fox_run_file.specs.Outcomes.{Read}
 use Rattle.fox_run_file.specs.Promise.{ReadsWith}
 
 pub read-prepared : (c rounds : ℕ) (key file : List ℕ) (place : Place) (made : Preparation) {before after : List ℕ} {x : Read}

@@ -11,51 +11,30 @@ use fox_text_lines::lines::{line_end, rest, starts_with};
 use fox_text_read::fields::decimal_line;
 
 // Looks for the scan with this number at the start of a text.
-pub fn scan_at(t: &[u8], number: u32) -> Scan
+pub fn scan_at(t: &[u8], number: u32) -> Option<Scan>
     ensures { FindsScan number t.now result }
 {
-    let none = Scan {
-        whole: false,
-        head: 0,
-        size: 0,
-    };
-    let n = number_line(t, b"scan=", number);
-    if n == 0 {
-        return none;
-    }
+    let n = number_line(t, b"scan=", number)?;
     let second = rest(t, n);
-    let d = decimal_line(second, b"bytes=", 65_536);
-    if !d.right {
-        return none;
-    }
-    let size = d.value as usize;
+    let size = decimal_line(second, b"bytes=", 65_536)? as usize;
     let head = n + line_end(second) + 1;
     let bytes = rest(t, head);
-    if !starts_with(b"\n", rest(bytes, size)) {
-        return none;
-    }
-    Scan {
-        whole: true,
-        head,
-        size,
-    }
+    starts_with(b"\n", rest(bytes, size)).then_some(Scan { head, size })
 }
 
-// Passes over the whole scans from a place on, at most 65,535 of them.
+// Passes over the whole scans from a place on, at most 65,535 of them, by the number that the first line of each has.
 pub fn pass_scans(file: &[u8], from: usize) -> Scans
     ensures { PassesScans file.now from result }
 {
     let mut at = from;
-    let mut number: usize = 0;
-    while number < 65_535 {
-        let s = scan_at(rest(file, at), number as u32 + 1);
-        if !s.whole {
+    // By its number, which the scan's line has to say, and which is the count once a scan is missing.
+    for number in 0..65_535 {
+        let Some(s) = scan_at(rest(file, at), number as u32 + 1) else {
             return Scans { at, number };
-        }
+        };
         at = at + s.head + s.size + 1;
-        number = number + 1;
     }
-    Scans { at, number }
+    Scans { at, number: 65_535 }
 }
 
 // Whether what comes after the header, of `header` bytes, is right. A file past the limit is told by its length alone; the close line has `close` bytes.

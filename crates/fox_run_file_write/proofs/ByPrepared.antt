@@ -7,9 +7,9 @@ use Prim.Native.Nat.{ℕ}
 use lib.ListN.{length}
 use Rattle.fox_key_schedule.specs.Schedule.{round_keys}
 use Rattle.fox_refusals.specs.Refusals.{refusal_of, wrong_cipher, for_key, for_turn, Keyed}
-use Rattle.fox_refusals.specs.declared.answer.Answer.{Answer}
+use Rattle.fox_refusals.specs.Answer.{Answer}
 use Rattle.fox_server_key.specs.Prepared.{Prepares, round_keys_in}
-use Rattle.fox_server_key.specs.declared.prepared.Preparation.{Preparation}
+use Rattle.fox_server_key.specs.Prepared.{Preparation}
 use Rattle.fox_server_key.proofs.Laws.Prepares.{from-prepared}
 use Rattle.fox_server_key.proofs.Preparing.{key-refused}
 use Rattle.fox_run_file.specs.Refusals.{for_write}

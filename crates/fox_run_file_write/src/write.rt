@@ -1,7 +1,10 @@
 // The run file, written by the server engine. The data is sealed in one go, into the end of the file's room; the header is written at the front, and each
 // scan's bytes are brought to their place after the lines before them; the tag is made last.
+// Cipher, rounds and key come one by one, as C programs hand them over and the promises name them.
+// A buffer has a fixed size, and its part in use is a slice: there is no heap.
 ghost use Rattle.std.specs.Prelude.{◌≡◌, length, take, drop};
 ghost use Rattle.fox_key_schedule.specs.Schedule.{round_keys};
+ghost use Rattle.fox_refusals.specs.Answer.{answer_of};
 ghost use Rattle.fox_refusals.specs.Refusals.{block_size};
 ghost use Rattle.fox_server_key.specs.Prepared.{round_keys_in};
 ghost use Rattle.fox_tag.specs.Tag.{tag_with};
@@ -13,14 +16,14 @@ ghost use Rattle.fox_run_file.specs.Sizes.{file_size};
 ghost use Rattle.fox_run_file_lay.specs.Laid.{Laid};
 ghost use Rattle.fox_run_file_write.specs.Ready.{FileRoom, CloseRoom, ToWrite};
 
-use fox_refusals::answer::Answer;
+use fox_refusals::refusal::Refusal;
 use fox_refusals::refusals::block_size;
 use fox_run_file_lay::lay::put_scans;
 use fox_run_file_lines::lines::put_key_lines;
 use fox_run_file_sizes::sizes::for_write;
 use fox_server_key::prepared::{Prepared, prepare};
 use fox_server_run::run::stretch;
-use fox_server_tag::tag::make;
+use fox_server_tag::tag::make_by;
 use fox_text_write::writing::{put_decimal_line, put_pairs_line};
 
 // Writes all that comes before the line `close`, from sealed bytes that stand at `from`; returns the place after it.
@@ -43,45 +46,46 @@ fn put_unclosed(
     put_decimal_line(out, scans, b"scans=", sizes.len() as u32)
 }
 
-// Writes the line `close` after the text that is the output's first bytes; `tag` is the output for the tag. Returns the place after it.
-fn put_tag(p: Prepared, out: &mut [u8], at: usize, tag: &mut [u8]) -> usize
-    requires close_room { CloseRoom p at out.old }
-    requires tag_len { length tag.old ≡ block_size p.cipher }
-    ensures { PutsPairs close_name (tag_with p.cipher (round_keys_in p) (take at out.old)) out.old out.new at result }
+// Writes the line `close` after the text that is the output's first bytes; `tag` is the output for the tag, which is made, since no refusal applies. Returns
+// the place after it.
+fn put_tag(p: &Prepared, out: &mut [u8], at: usize, tag: &mut [u8]) -> usize
+    requires close_room { CloseRoom p.now at out.old }
+    requires tag_len { length tag.old ≡ block_size p.now.cipher }
+    ensures { PutsPairs close_name (tag_with p.now.cipher (round_keys_in p.now) (take at out.old)) out.old out.new at result }
 {
-    make(p, &out[..at], tag);
+    let _ = make_by(p, &out[..at], tag);
     put_pairs_line(out, at, b"close=", tag)
 }
 
 // The same, with room of its own for the tag.
-fn put_close(p: Prepared, out: &mut [u8], at: usize) -> usize
-    requires { CloseRoom p at out.old }
-    ensures { PutsPairs close_name (tag_with p.cipher (round_keys_in p) (take at out.old)) out.old out.new at result }
+fn put_close(p: &Prepared, out: &mut [u8], at: usize) -> usize
+    requires { CloseRoom p.now at out.old }
+    ensures { PutsPairs close_name (tag_with p.now.cipher (round_keys_in p.now) (take at out.old)) out.old out.new at result }
 {
     let mut tag = [0u8; 16];
     let size = block_size(p.cipher);
     put_tag(p, out, at, &mut tag[..size])
 }
 
-// Writes a file of `size` bytes at the start of the output; returns its length.
+// Writes a file of `size` bytes at the start of the output; returns its length. What it is written from comes as parameters: the calls below are public with
+// these, and a struct would be filled in for this one call.
 fn put_file(
-    p: Prepared,
+    p: &Prepared,
     counter: &[u8],
     input: &[u8],
     sizes: &[u64],
     out: &mut [u8],
     size: usize,
 ) -> usize
-    requires { ToWrite p counter.now input.now sizes.now out.old size }
-    ensures { Put size (run_file p.cipher p.rounds (round_keys_in p) counter.now (cut_by sizes.now input.now))
+    requires { ToWrite p.now counter.now input.now sizes.now out.old size }
+    ensures { Put size (run_file p.now.cipher p.now.rounds (round_keys_in p.now) counter.now (cut_by sizes.now input.now))
         out.old out.new 0 result }
 {
     let from = size - input.len();
-    let keys = p.keys;
     let rounds = p.rounds as usize;
     stretch(
         p.cipher,
-        &keys,
+        &p.keys,
         rounds,
         counter,
         0,
@@ -92,12 +96,18 @@ fn put_file(
     put_close(p, out, end)
 }
 
-// From a prepared key: the file is that of the round keys it holds, also where the caller filled it.
-pub fn write(p: Prepared, counter: &[u8], input: &[u8], sizes: &[u64], out: &mut [u8]) -> Answer
-    ensures { WritesFileWith p.cipher p.rounds p.key_len (round_keys_in p) counter.now input.now sizes.now
-        out.old out.new result }
+// From a prepared key that is lent.
+fn write_by(
+    p: &Prepared,
+    counter: &[u8],
+    input: &[u8],
+    sizes: &[u64],
+    out: &mut [u8],
+) -> Result<usize, Refusal>
+    ensures { WritesFileWith p.now.cipher p.now.rounds p.now.key_len (round_keys_in p.now) counter.now input.now sizes.now
+        out.old out.new (answer_of result) }
 {
-    let may = for_write(
+    let size = for_write(
         p.cipher,
         p.rounds,
         p.key_len,
@@ -105,15 +115,26 @@ pub fn write(p: Prepared, counter: &[u8], input: &[u8], sizes: &[u64], out: &mut
         input.len(),
         sizes,
         out.len(),
-    );
-    if may.refusal != 0 {
-        return Answer::refused(may.refusal);
-    }
-    let count = put_file(p, counter, input, sizes, out, may.count);
-    Answer::served(count)
+    )?;
+    let count = put_file(p, counter, input, sizes, out, size);
+    Ok(count)
 }
 
-// From key bytes; the key is prepared within the call.
+// From a prepared key: the file is that of the round keys it holds, also where the caller filled it.
+pub fn write(
+    p: Prepared,
+    counter: &[u8],
+    input: &[u8],
+    sizes: &[u64],
+    out: &mut [u8],
+) -> Result<usize, Refusal>
+    ensures { WritesFileWith p.cipher p.rounds p.key_len (round_keys_in p) counter.now input.now sizes.now
+        out.old out.new (answer_of result) }
+{
+    write_by(&p, counter, input, sizes, out)
+}
+
+// From key bytes; the key is prepared within the call, and lent: by `?` it lies in the stack twice, which is more than a call may take.
 pub fn write_from_key(
     cipher: u32,
     rounds: u32,
@@ -122,11 +143,11 @@ pub fn write_from_key(
     input: &[u8],
     sizes: &[u64],
     out: &mut [u8],
-) -> Answer
+) -> Result<usize, Refusal>
     ensures { WritesFileWith cipher rounds (length key.now) (round_keys cipher rounds key.now) counter.now
-        input.now sizes.now out.old out.new result }
+        input.now sizes.now out.old out.new (answer_of result) }
 {
-    let may = for_write(
+    for_write(
         cipher,
         rounds,
         key.len(),
@@ -134,11 +155,9 @@ pub fn write_from_key(
         input.len(),
         sizes,
         out.len(),
-    );
-    if may.refusal != 0 {
-        return Answer::refused(may.refusal);
+    )?;
+    match &prepare(cipher, rounds, key) {
+        Ok(p) => write_by(p, counter, input, sizes, out),
+        Err(refusal) => Err(*refusal),
     }
-    let made = prepare(cipher, rounds, key);
-    let p = made.key;
-    write(p, counter, input, sizes, out)
 }

@@ -6,10 +6,10 @@ use mathlib.Core.List.{List}
 use Prim.Native.Nat.{ℕ}
 use lib.ListN.{length}
 use Rattle.fox_refusals.specs.Refusals.{Keyed}
-use Rattle.fox_refusals.specs.declared.answer.Answer.{Answer}
+use Rattle.fox_refusals.specs.Answer.{Answer}
 use Rattle.fox_block.specs.Promise.{Turns, TurnsWith}
 use Rattle.fox_server_key.specs.Prepared.{Prepares, round_keys_in}
-use Rattle.fox_server_key.specs.declared.prepared.Preparation.{Preparation}
+use Rattle.fox_server_key.specs.Prepared.{Preparation}
 use Rattle.fox_server_key.proofs.Laws.Prepares.{from-prepared}
 
 pub turn-prepared : (d : Bool) (c rounds : ℕ) (key block : List ℕ) (made : Preparation) {before after : List ℕ} {r : Answer}

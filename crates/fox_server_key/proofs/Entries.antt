@@ -16,7 +16,7 @@ use Rattle.fox_refusals.proofs.Laws.Refusals.{keyed-served}
 use Rattle.fox_refusals.proofs.Laws.Reply.{chosen}
 use Rattle.fox_server_key.specs.Prepared.{in_halves, prepared_words, prepared_key, Prepares}
 use Rattle.fox_server_key.specs.declared.prepared.Prepared.{Prepared}
-use Rattle.fox_server_key.specs.declared.prepared.Preparation.{Preparation}
+use Rattle.fox_server_key.specs.Prepared.{Preparation}
 use Rattle.fox_server_key.proofs.Laws.Filled.{length-in_halves}
 use Rattle.fox_server_key.proofs.Laws.RoundKeys.{prepared_words-64, prepared_words-128, filled_at, filled-rest, left_at, right-at, wide}
 

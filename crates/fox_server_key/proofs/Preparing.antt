@@ -7,14 +7,14 @@ use mathlib.Core.List.{List}
 use Prim.Native.Nat.{ℕ, zero, suc, ◌*◌}
 use lib.ListN.{length, get_or, replicate}
 use Rattle.fox_refusals.specs.Refusals.{refusal_of, wrong_cipher, for_key, for_turn, for_block, Keyed}
-use Rattle.fox_refusals.specs.declared.answer.Answer.{Answer}
+use Rattle.fox_refusals.specs.Answer.{Answer}
 use Rattle.fox_refusals.proofs.Laws.Refusals.{keyed-served}
 use Rattle.fox_refusals.proofs.Laws.Reply.{chosen, passed_over}
 use Rattle.fox_block.specs.Promise.{TurnsWith}
 use Rattle.fox_block.proofs.Laws.Block.{size_64, size-128}
 use Rattle.fox_server_key.specs.Prepared.{prepared_key, no_key, Prepares, PreparedFor, Empty, round_keys_in}
 use Rattle.fox_server_key.specs.declared.prepared.Prepared.{Prepared}
-use Rattle.fox_server_key.specs.declared.prepared.Preparation.{Preparation}
+use Rattle.fox_server_key.specs.Prepared.{Preparation}
 
 zeros-at : (n i : ℕ) → get_or {A = ℕ} (replicate n 0) i 0 ≡ 0
 zeros-at zero i = refl

@@ -1,13 +1,14 @@
 -- The prepared key (01): cipher, rounds, key length, and the round keys in 510 words of 64 bits: one word for each round of FOX64, two for each of FOX128,
 -- the left first; the rest are 0.
 -- Assumes nothing.
-use Rattle.std.specs.Prelude.{◌≡◌, ℕ, ◌-◌, ◌*◌, List, [], ◌∷◌, ◌++◌, cond, eqb, length, get_or, replicate}
+use Rattle.std.specs.Prelude.{◌≡◌, ℕ, ◌-◌, ◌*◌, List, [], ◌∷◌, ◌++◌, cond, eqb, length, get_or, replicate, Result, Ok, Err}
 use Rattle.fox_rounds.specs.Rounds.{left, right}
 use Rattle.fox_rounds.specs.RoundKeys.{round_keys_in64, round_keys_in128}
 use Rattle.fox_key_schedule.specs.Schedule.{round_keys}
 use Rattle.fox_refusals.specs.Refusals.{refusal_of, block_size, for_key}
+use Rattle.fox_refusals.specs.Answer.{Answer, number_of}
+use Rattle.fox_refusals.specs.declared.refusal.Refusal.{Refusal}
 use Rattle.fox_server_key.specs.declared.prepared.Prepared.{Prepared}
-use Rattle.fox_server_key.specs.declared.prepared.Preparation.{Preparation}
 
 -- round keys of 128 bits as words of 64 bits, the left half first
 unfoldable pub in_halves : List ℕ → List ℕ
@@ -30,6 +31,16 @@ prepared_key cipher rounds key = record { cipher = cipher; rounds = rounds; key_
 -- the prepared key of a refused call: all zeros
 unfoldable pub no_key : Prepared
 no_key = record { cipher = 0; rounds = 0; key_len = 0; keys = replicate 510 0 }
+
+-- what preparing a key returns: the answer, of which the count is the bytes of round keys in use, and the prepared key
+pub record Preparation : Type 0 where
+  pub answer : Answer
+  pub key : Prepared
+
+-- the same from what code answers: a refused call has the count 0, and no key
+abbrev pub preparation_of : Result Prepared Refusal → Preparation
+preparation_of (Ok p) = record { answer = record { refusal = 0; count = block_size p.cipher * p.rounds }; key = p }
+preparation_of (Err e) = record { answer = record { refusal = number_of e; count = 0 }; key = no_key }
 
 -- what preparing a key returns, whole: refusals 1 to 3, the count of bytes in use, and the prepared key
 pub record Prepares (c n : ℕ) (bytes : List ℕ) (r : Preparation) : Type 0 where

@@ -6,8 +6,10 @@
 // A word's byte is taken by a remainder or by a mask. The mask is 255, and comes in as a number that the compiler cannot know. The compiler joins a remainder
 // with the scaling of the index, which on Arm takes two instructions for a byte; by the mask it takes one. Which bytes go by the mask is settled by counting
 // instructions on both processors and by timing (docs/SPEED.md, "What was tried").
-ghost use Rattle.std.specs.Prelude.{◌≡◌, ◌+◌, ◌*◌, ◌/◌, ◌%◌, ◌^◌, ◌<◌, get_or};
+ghost use Rattle.std.specs.Prelude.{◌≡◌, ◌/◌, ◌%◌, ◌^◌, ◌<◌, [], ◌∷◌};
+ghost use Rattle.fox_layers.specs.Words.{xor_over};
 ghost use Rattle.fox_layers.specs.Tables.{TBS, picked};
+ghost use Rattle.fox_server_lookups.specs.Entry.{entry};
 
 // The mask of a byte. The last table of the shifted S-box, at entry 300 (hex), is the S-box itself, which has FF at F9.
 pub fn byte_mask(s: &[u32; 1024]) -> u32
@@ -31,62 +33,66 @@ fn under(mask: u32, w: u64) -> usize
     (w & (mask as u64)) as usize
 }
 
-// The entry of table number j at a byte, of four tables and of eight.
-fn of4(t: &[u32; 1024], j: usize, byte: usize) -> u32
-    requires { (j < 4) × (byte < 256) }
-    ensures { result ≡ get_or t.now (j * 256 + byte) 0 }
+// The entries of four tables, each at a byte of its own, XORed.
+fn four(t: &[u32; 1024], a: usize, b: usize, c: usize, d: usize) -> u32
+    requires { (a < 256) × (b < 256) × (c < 256) × (d < 256) }
+    ensures { result ≡ xor_over (entry t.now) (0 ∷ 1 ∷ 2 ∷ 3 ∷ []) (a ∷ b ∷ c ∷ d ∷ []) }
 {
-    t[j * 256 + byte]
-}
-
-fn of8(t: &[u64; 2048], j: usize, byte: usize) -> u64
-    requires { (j < 8) × (byte < 256) }
-    ensures { result ≡ get_or t.now (j * 256 + byte) 0 }
-{
-    t[j * 256 + byte]
+    t[a] ^ t[0x100 + b] ^ t[0x200 + c] ^ t[0x300 + d]
 }
 
 pub fn pick4(t: &[u32; 1024], mask: u32, w: u32) -> u32
     requires { mask ≡ 255 }
     ensures { result ≡ picked 4 t.now w }
 {
-    of4(t, 0, last((w / 0x0100_0000) as u64))
-        ^ of4(t, 1, under(mask, (w / 0x0001_0000) as u64))
-        ^ of4(t, 2, last((w / 0x0000_0100) as u64))
-        ^ of4(t, 3, under(mask, w as u64))
+    four(
+        t,
+        last((w / 0x0100_0000) as u64),
+        under(mask, (w / 0x0001_0000) as u64),
+        last((w / 0x0000_0100) as u64),
+        under(mask, w as u64),
+    )
 }
 
+// A function over entries of either width would have to speak of them as numbers, and say more than these eight.
 pub fn pick8(t: &[u64; 2048], mask: u32, w: u64) -> u64
     requires { mask ≡ 255 }
     ensures { result ≡ picked 8 t.now w }
 {
-    of8(t, 0, last(w / 0x0100_0000_0000_0000))
-        ^ of8(t, 1, under(mask, w / 0x0001_0000_0000_0000))
-        ^ of8(t, 2, under(mask, w / 0x0000_0100_0000_0000))
-        ^ of8(t, 3, under(mask, w / 0x0000_0001_0000_0000))
-        ^ of8(t, 4, under(mask, w / 0x0000_0000_0100_0000))
-        ^ of8(t, 5, last(w / 0x0000_0000_0001_0000))
-        ^ of8(t, 6, last(w / 0x0000_0000_0000_0100))
-        ^ of8(t, 7, last(w))
+    t[last(w / 0x0100_0000_0000_0000)]
+        ^ t[0x100 + under(mask, w / 0x0001_0000_0000_0000)]
+        ^ t[0x200 + under(mask, w / 0x0000_0100_0000_0000)]
+        ^ t[0x300 + under(mask, w / 0x0000_0001_0000_0000)]
+        ^ t[0x400 + under(mask, w / 0x0000_0000_0100_0000)]
+        ^ t[0x500 + last(w / 0x0000_0000_0001_0000)]
+        ^ t[0x600 + last(w / 0x0000_0000_0000_0100)]
+        ^ t[0x700 + last(w)]
 }
 
-// The left half, and the right half, of a word of eight bytes, looked up in four tables. The bytes are taken from the whole word.
+// The left half, and the right half, of a word of eight bytes, looked up in four tables. The bytes are taken from the whole word, and other bytes go by the mask
+// than in `pick4` and in one another: docs/SPEED.md says what each way costs.
 pub fn pick_left(t: &[u32; 1024], mask: u32, w: u64) -> u32
     requires { mask ≡ 255 }
     ensures { result ≡ picked 4 t.now (w / 2 ^ 32) }
 {
-    of4(t, 0, last(w / 0x0100_0000_0000_0000))
-        ^ of4(t, 1, under(mask, w / 0x0001_0000_0000_0000))
-        ^ of4(t, 2, under(mask, w / 0x0000_0100_0000_0000))
-        ^ of4(t, 3, under(mask, w / 0x0000_0001_0000_0000))
+    four(
+        t,
+        last(w / 0x0100_0000_0000_0000),
+        under(mask, w / 0x0001_0000_0000_0000),
+        under(mask, w / 0x0000_0100_0000_0000),
+        under(mask, w / 0x0000_0001_0000_0000),
+    )
 }
 
 pub fn pick_right(t: &[u32; 1024], mask: u32, w: u64) -> u32
     requires { mask ≡ 255 }
     ensures { result ≡ picked 4 t.now (w % 2 ^ 32) }
 {
-    of4(t, 0, last(w / 0x0000_0000_0100_0000))
-        ^ of4(t, 1, under(mask, w / 0x0000_0000_0001_0000))
-        ^ of4(t, 2, last(w / 0x0000_0000_0000_0100))
-        ^ of4(t, 3, last(w))
+    four(
+        t,
+        last(w / 0x0000_0000_0100_0000),
+        under(mask, w / 0x0000_0000_0001_0000),
+        last(w / 0x0000_0000_0000_0100),
+        last(w),
+    )
 }

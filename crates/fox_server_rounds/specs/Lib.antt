@@ -1,2 +1,3 @@
--- The tables that are passed by reference to the server engine's rounds.
+-- The tables, and the round keys, that are passed by reference to the server engine's rounds.
 pub mod Tables
+pub mod Keys

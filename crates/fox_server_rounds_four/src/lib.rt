@@ -1,6 +1,7 @@
-// Four blocks of FOX64 or of FOX128 sealed side by side by the server engine (001 §4.2.2): four chains of lookups that do not wait for each other.
+// Four blocks sealed side by side by the server engine (001 §4.2.2): four chains of lookups that do not wait for each other.
 #![tactic(auto)]
 
-pub mod fox128;
+pub mod beside;
+pub mod four;
 pub mod fox64;
 pub mod wide;

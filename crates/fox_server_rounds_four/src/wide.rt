@@ -1,13 +1,13 @@
 // A block of FOX128 in two words of 64 bits, and its round: a round's XORs and "or" act on both halves of a block at once, and four blocks take eight
 // registers, where they would take sixteen in words of 32 bits.
 ghost use Rattle.std.specs.Prelude.{◌≡◌, ◌+◌, ◌*◌, ◌/◌, ◌%◌, ◌^◌};
-ghost use Rattle.fox_layers.specs.Diffusion.{mu8_rows};
 ghost use Rattle.fox_rounds.specs.Rounds.{or, elmid128, or128};
-ghost use Rattle.fox_server_rounds.specs.Tables.{TablesOf};
 ghost use Rattle.fox_server_rounds_four.specs.Wide.{narrow};
 
+use crate::beside::Beside;
 use fox_rounds::fox128::{Fox128, pair};
 use fox_server_lookups::lookups::{byte_mask, pick_left, pick_right, pick8};
+use fox_server_rounds::tables::Tables;
 
 // `l` has LL and then RL, `r` has LR and then RR. So what "or" changes stands in `l` alone.
 #[derive(Clone, Copy)]
@@ -28,6 +28,7 @@ fn or_halves(w: u64) -> u64
 }
 
 impl Wide128 {
+    // `of` and `narrowed` have names, as the promises of the lanes do: `From` is no plainer.
     pub fn of(x: Fox128) -> Wide128
         ensures { narrow result ≡ x }
     {
@@ -59,17 +60,39 @@ impl Wide128 {
 }
 
 // One round with a round key of two words, k the left and l the right. The last XOR of the round function is done on halves, before they are joined.
-pub fn elmid_wide(s: &[u32; 1024], t: &[u64; 2048], x: Wide128, k: u64, l: u64) -> Wide128
-    requires { TablesOf mu8_rows s.now t.now }
+pub fn elmid_wide(tables: &Tables<Fox128>, x: Wide128, k: u64, l: u64) -> Wide128
     ensures { narrow result ≡ elmid128 (k * 2 ^ 64 + l) (narrow x) }
 {
+    let s = tables.s;
     let mask = byte_mask(s);
-    let m = pick8(t, mask, x.l ^ x.r ^ k) ^ l;
+    let m = pick8(tables.t, mask, x.l ^ x.r ^ k) ^ l;
     let p = pick_left(s, mask, m) ^ ((k / 0x1_0000_0000) as u32);
     let q = pick_right(s, mask, m) ^ ((k % 0x1_0000_0000) as u32);
     let f = pair(p, q);
     Wide128 {
         l: x.l ^ f,
         r: x.r ^ f,
+    }
+}
+
+impl Beside for Fox128 {
+    type Lane = Wide128;
+
+    ghost narrow = { narrow };
+
+    fn lane(self) -> Wide128 {
+        Wide128::of(self)
+    }
+
+    fn narrowed(x: Wide128) -> Fox128 {
+        x.narrowed()
+    }
+
+    fn round_beside(x: Wide128, tables: &Tables<Fox128>, left: u64, right: u64) -> Wide128 {
+        elmid_wide(tables, x, left, right)
+    }
+
+    fn or_beside(x: Wide128) -> Wide128 {
+        x.or()
     }
 }

@@ -2,6 +2,5 @@
 // side where four are whole, and else one by one. The calls take a prepared key or key bytes.
 #![tactic(auto)]
 
-mod fox128;
-mod fox64;
 pub mod run;
+mod stretch;

@@ -1,5 +1,4 @@
-// Four counter blocks of a run side by side, for the server engine: counted, sealed, and XORed with their bytes of the input.
+// Four whole blocks of a run by the server engine, sealed side by side.
 #![tactic(auto)]
 
-pub mod fox128;
-pub mod fox64;
+pub mod four_blocks;

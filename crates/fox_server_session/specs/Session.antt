@@ -1,8 +1,9 @@
--- A session as one value: the plain machine that it stands for, whether its stored block is true, the same session elsewhere, that of a refused start, and what a
--- start promises, and a call that changes a session where the caller has it.
+-- A session as one value: the plain machine that it stands for, whether its stored block is true, the same session elsewhere, that of a refused start, what a
+-- start answers and promises, and a call that changes a session where the caller has it.
 -- Assumes nothing.
-use Rattle.std.specs.Prelude.{◌≡◌, ℕ, Bool, false, List}
-use Rattle.fox_refusals.specs.declared.answer.Answer.{Answer}
+use Rattle.std.specs.Prelude.{◌≡◌, ℕ, Bool, false, List, Result, Ok, Err}
+use Rattle.fox_refusals.specs.Answer.{Answer, number_in}
+use Rattle.fox_refusals.specs.declared.refusal.Refusal.{Refusal}
 use Rattle.fox_session.specs.declared.Here.{Here}
 use Rattle.fox_session.specs.Machine.{Machine, Call}
 use Rattle.fox_session.specs.Promise.{Starts, Follows}
@@ -36,6 +37,14 @@ no_session =
       here = record { position = 0; block = record { left = 0; right = 0 } };
       sealing = false;
     }
+
+-- what a start answers, with its count, which is 0; and its session, all zeros where it is refused
+abbrev pub started_of : Result Session Refusal → Answer
+started_of r = record { refusal = number_in r; count = 0 }
+
+abbrev pub session_of : Result Session Refusal → Session
+session_of (Ok s) = s
+session_of (Err e) = no_session
 
 -- a start whose session, where it is served, holds this prepared key
 pub record Begins (sealing : Bool) (p : Prepared) (cipher rounds key_len : ℕ) (rks counter : List ℕ) (r : Answer) (s : Session) : Type 0 where

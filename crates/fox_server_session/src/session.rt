@@ -1,17 +1,19 @@
-// A session as one value: the prepared key, the first counter block, where it stands, and whether it was started for sealing or for opening. A call takes the
-// session and returns where it then stands; in the crate fox_session_in_place a call changes the session where the caller has it.
+// A session as one value: the prepared key, the first counter block, where it stands, and whether it was started for sealing or for opening. A call changes the
+// session where the caller has it.
+// Cipher, rounds and key come one by one, as C programs hand them over and the promises name them.
 ghost use Rattle.std.specs.Prelude.{◌≡◌, [], length};
 ghost use Rattle.fox_key_schedule.specs.Schedule.{round_keys};
+ghost use Rattle.fox_refusals.specs.Answer.{answer_of};
 ghost use Rattle.fox_session.specs.Machine.{Advance, Move};
-ghost use Rattle.fox_session.specs.Promise.{Follows};
 ghost use Rattle.fox_server_key.specs.Prepared.{prepared_key, round_keys_in};
-ghost use Rattle.fox_server_session.specs.Session.{basis_of, machine_of, TrueOf, session_at, no_session, Begins};
+ghost use Rattle.fox_server_session.specs.Session.{basis_of, no_session, started_of, session_of, Begins, Changes};
 
-use fox_refusals::answer::Answer;
+use fox_refusals::refusal::Refusal;
 use fox_refusals::stretch::for_run;
-use fox_server_key::prepared::{Prepared, no_key, prepare};
-use fox_server_session_block::block::{block_at, read_block};
-use fox_server_session_step::step::{Basis, Step, advance, move_to};
+use fox_server_key::prepared::{Prepared, prepare};
+use fox_server_session_block::block::read_block;
+use fox_server_session_block::run::Run;
+use fox_server_session_step::step::Basis;
 use fox_session::{Here, Pair};
 
 #[derive(Clone, Copy)]
@@ -22,117 +24,98 @@ pub struct Session {
     pub sealing: bool,
 }
 
-// What a start returns; the count is 0.
-#[derive(Clone, Copy)]
-pub struct Started {
-    pub answer: Answer,
-    pub session: Session,
-}
-
-// The session of a refused start.
-fn zeros() -> Session
-    ensures { result ≡ no_session }
-{
-    let none = no_key();
-    let nothing = Pair { left: 0, right: 0 };
-    let here = Here {
-        position: 0,
-        block: nothing,
-    };
-    Session {
-        key: none,
-        counter: nothing,
-        here,
-        sealing: false,
+impl Session {
+    // The session of a refused start: all zeros, so that every call on it is refused.
+    #[tactic(auto, unfolding(crate::specs::Session::no_session, fox_server_key::specs::Prepared::no_key))]
+    pub fn none() -> Session
+        ensures { result ≡ no_session }
+    {
+        let nothing = Pair { left: 0, right: 0 };
+        Session {
+            key: Prepared {
+                cipher: 0,
+                rounds: 0,
+                key_len: 0,
+                keys: [0; 510],
+            },
+            counter: nothing,
+            here: Here {
+                position: 0,
+                block: nothing,
+            },
+            sealing: false,
+        }
     }
-}
 
-// A refused start.
-fn refused(refusal: u32) -> Started
-    ensures { (result.answer.refusal ≡ refusal) × (result.answer.count ≡ 0) × (result.session ≡ no_session) }
-{
-    let answer = Answer::refused(refusal);
-    let session = zeros();
-    Started { answer, session }
-}
-
-// From a prepared key: the session is that of the round keys it holds, also where the caller filled it.
-pub fn start(sealing: bool, p: Prepared, counter: &[u8]) -> Started
-    ensures { Begins sealing p p.cipher p.rounds p.key_len (round_keys_in p) counter.now result.answer result.session }
-{
-    let refusal = for_run(
-        sealing,
-        p.cipher,
-        p.rounds,
-        p.key_len,
-        counter.len(),
-        0,
-        0,
-        0,
-    );
-    if refusal != 0 {
-        return refused(refusal);
+    // From a prepared key: the session is that of the round keys it holds, also where the caller filled it.
+    pub fn start(sealing: bool, p: Prepared, counter: &[u8]) -> Result<Session, Refusal>
+        ensures { Begins sealing p p.cipher p.rounds p.key_len (round_keys_in p) counter.now (started_of result) (session_of result) }
+    {
+        for_run(
+            sealing,
+            p.cipher,
+            p.rounds,
+            p.key_len,
+            counter.len(),
+            0,
+            0,
+            0,
+        )?;
+        let first = read_block(p.cipher, counter);
+        let run = Run {
+            cipher: p.cipher,
+            keys: &p.keys,
+            rounds: p.rounds as usize,
+            counter: first,
+        };
+        let block = run.block_at(0);
+        Ok(Session {
+            key: p,
+            counter: first,
+            here: Here { position: 0, block },
+            sealing,
+        })
     }
-    let first = read_block(p.cipher, counter);
-    let keys = p.keys;
-    let block = block_at(p.cipher, &keys, p.rounds as usize, first, 0);
-    let here = Here { position: 0, block };
-    let session = Session {
-        key: p,
-        counter: first,
-        here,
-        sealing,
-    };
-    let answer = Answer::served(0);
-    Started { answer, session }
-}
 
-// From key bytes; the key is prepared within the call.
-pub fn start_from_key(
-    sealing: bool,
-    cipher: u32,
-    rounds: u32,
-    key: &[u8],
-    counter: &[u8],
-) -> Started
-    ensures { Begins sealing (prepared_key cipher rounds key.now) cipher rounds (length key.now)
-        (round_keys cipher rounds key.now) counter.now result.answer result.session }
-{
-    let refusal = for_run(sealing, cipher, rounds, key.len(), counter.len(), 0, 0, 0);
-    if refusal != 0 {
-        return refused(refusal);
+    // From key bytes; the key is prepared within the call, once no refusal applies.
+    pub fn start_from_key(
+        sealing: bool,
+        cipher: u32,
+        rounds: u32,
+        key: &[u8],
+        counter: &[u8],
+    ) -> Result<Session, Refusal>
+        ensures { Begins sealing (prepared_key cipher rounds key.now) cipher rounds (length key.now)
+            (round_keys cipher rounds key.now) counter.now (started_of result) (session_of result) }
+    {
+        for_run(sealing, cipher, rounds, key.len(), counter.len(), 0, 0, 0)?;
+        Session::start(sealing, prepare(cipher, rounds, key)?, counter)
     }
-    let made = prepare(cipher, rounds, key);
-    let p = made.key;
-    start(sealing, p, counter)
-}
 
-fn basis_of(s: Session) -> Basis
-    ensures { result ≡ basis_of s }
-{
-    let key = s.key;
-    let counter = s.counter;
-    Basis {
-        sealing: s.sealing,
-        cipher: key.cipher,
-        rounds: key.rounds,
-        key_len: key.key_len,
-        counter,
+    fn basis(&self) -> Basis
+        ensures { result ≡ basis_of self.now }
+    {
+        Basis {
+            sealing: self.sealing,
+            cipher: self.key.cipher,
+            rounds: self.key.rounds,
+            key_len: self.key.key_len,
+            counter: self.counter,
+        }
     }
-}
 
-pub fn advanced(s: Session, input: &[u8], out: &mut [u8]) -> Step
-    ensures { Follows machine_of TrueOf s (Advance input.now out.old) out.new result.answer (session_at s result.here) }
-{
-    let key = s.key;
-    let keys = key.keys;
-    advance(basis_of(s), &keys, s.here, input, out)
-}
+    // The next bytes, sealed or opened at the position, which moves on by their number. Returns their count.
+    pub fn advance(&mut self, input: &[u8], out: &mut [u8]) -> Result<usize, Refusal>
+        ensures { Changes self.old (Advance input.now out.old) out.new (answer_of result) self.new }
+    {
+        self.basis()
+            .advance(&self.key.keys, &mut self.here, input, out)
+    }
 
-pub fn moved(s: Session, to: u64) -> Step
-    ensures { Follows machine_of TrueOf s (Move to) [] result.answer (session_at s result.here) }
-{
-    let key = s.key;
-    let keys = key.keys;
-    move_to(basis_of(s), &keys, s.here, to)
+    // To a position, either way. Returns a count of 0.
+    pub fn move_to(&mut self, to: u64) -> Result<usize, Refusal>
+        ensures { Changes self.old (Move to) [] (answer_of result) self.new }
+    {
+        self.basis().move_to(&self.key.keys, &mut self.here, to)
+    }
 }

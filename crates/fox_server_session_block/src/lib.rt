@@ -2,4 +2,4 @@
 #![tactic(auto)]
 
 pub mod block;
-mod seal;
+pub mod run;

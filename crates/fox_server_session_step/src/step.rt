@@ -1,7 +1,8 @@
 // A call on a session in its parts: what stays the same, the round keys, which are lent, and where the session stands. Round keys are looked at only where a
 // block is sealed.
 ghost use Rattle.std.specs.Prelude.{◌≡◌, [], ◌+◌, ◌%◌, ◌≤◌, length, take};
-ghost use Rattle.fox_refusals.specs.Refusals.{block_size};
+ghost use Rattle.fox_refusals.specs.Answer.{number_in, answer_of};
+ghost use Rattle.fox_refusals.specs.Refusals.{refusal_of, block_size, for_run, Keyed};
 ghost use Rattle.fox_run.specs.Run.{run_with};
 ghost use Rattle.fox_session.specs.InUse.{held_block, BlockAt};
 ghost use Rattle.fox_session.specs.Machine.{Advance, Move};
@@ -9,10 +10,11 @@ ghost use Rattle.fox_session.specs.Promise.{Follows};
 ghost use Rattle.fox_server_key.specs.Prepared.{held_keys};
 ghost use Rattle.fox_server_session_step.specs.Step.{machine_at, TrueAt, Ready, Passes, Renews};
 
-use fox_refusals::answer::Answer;
+use fox_refusals::refusal::Refusal;
 use fox_refusals::refusals::block_size;
 use fox_refusals::stretch::for_run;
-use fox_server_session_block::block::{block_at, whole_blocks, xor_block};
+use fox_server_session_block::block::xor_block;
+use fox_server_session_block::run::Run;
 use fox_session::{Here, Pair};
 
 // What stays the same in a session, but for the round keys: whether it seals or opens among it.
@@ -25,154 +27,120 @@ pub struct Basis {
     pub counter: Pair,
 }
 
-// What a call on a session returns: its answer, and where the session then stands.
-#[derive(Clone, Copy)]
-pub struct Step {
-    pub answer: Answer,
-    pub here: Here,
-}
-
-// A refused call: the session stays where it stands.
-fn refused(refusal: u32, here: Here) -> Step
-    ensures { (result.answer.refusal ≡ refusal) × (result.answer.count ≡ 0) × (result.here ≡ here) }
-{
-    let answer = Answer::refused(refusal);
-    Step { answer, here }
-}
-
-// The first 510 words.
-fn round_keys(words: &[u64]) -> [u64; 510]
-    requires { 510 ≤ length words.now }
-    ensures { result ≡ take 510 words.now }
-{
-    let mut keys = [0u64; 510];
-    for i in 0..510 {
-        keys[i] = words[i];
-    }
-    keys
-}
-
 // The bytes of a run from byte n on, which begins a block: whole blocks, and the rest by the block that the next position is in, which is returned.
-fn further(
-    cipher: u32,
-    keys: &[u64; 510],
-    rounds: usize,
-    counter: Pair,
-    n: usize,
-    input: &[u8],
-    out: &mut [u8],
-) -> Pair
-    requires le_rounds { (1 ≤ rounds) × (rounds ≤ 255) × (n + length input.now ≤ 1073741824) × (length out.old ≡ length input.now) }
-    requires cipher_value { n % block_size cipher ≡ 0 }
-    ensures { (out.new ≡ run_with cipher (held_keys cipher keys.now rounds) (held_block cipher counter) n input.now)
-        × BlockAt cipher (held_keys cipher keys.now rounds) (held_block cipher counter) (n + length input.now) result }
+fn further(run: &Run, n: usize, input: &[u8], out: &mut [u8]) -> Pair
+    requires within { n + length input.now ≤ 1073741824 }
+    requires out_len { length out.old ≡ length input.now }
+    requires first { n % block_size run.now.cipher ≡ 0 }
+    ensures bytes { out.new
+        ≡ run_with run.now.cipher (held_keys run.now.cipher run.now.keys.now run.now.rounds)
+        (held_block run.now.cipher run.now.counter) n input.now }
+    ensures block { BlockAt run.now.cipher (held_keys run.now.cipher run.now.keys.now run.now.rounds)
+        (held_block run.now.cipher run.now.counter) (n + length input.now) result }
 {
-    let size = block_size(cipher);
-    let whole = input.len() - input.len() % size;
-    whole_blocks(
-        cipher,
-        keys,
-        rounds,
-        counter,
-        n,
-        &input[..whole],
-        &mut out[..whole],
-    );
-    let block = block_at(cipher, keys, rounds, counter, n + input.len());
-    xor_block(cipher, block, 0, &input[whole..], &mut out[whole..]);
+    let whole = input.len() - input.len() % block_size(run.cipher);
+    run.whole_blocks(n, &input[..whole], &mut out[..whole]);
+    let block = run.block_at(n + input.len());
+    xor_block(run.cipher, block, 0, &input[whole..], &mut out[whole..]);
     block
 }
 
-// The same over a copy of the round keys. What a function keeps is set to zero as it begins, so the copy is kept here, where a block is sealed.
-fn beyond(b: Basis, keys: &[u64], n: usize, input: &[u8], out: &mut [u8]) -> Pair
-    requires ready { Ready b keys.now (n + length input.now) }
-    requires out_len { length out.old ≡ length input.now }
-    requires first { n % block_size b.cipher ≡ 0 }
-    ensures { (out.new ≡ run_with b.cipher (held_keys b.cipher (take 510 keys.now) b.rounds) (held_block b.cipher b.counter) n input.now)
-        × BlockAt b.cipher (held_keys b.cipher (take 510 keys.now) b.rounds) (held_block b.cipher b.counter) (n + length input.now) result }
-{
-    let held = round_keys(keys);
-    let rounds = b.rounds as usize;
-    further(b.cipher, &held, rounds, b.counter, n, input, out)
-}
+impl Basis {
+    // The refusals of a stretch at a position, with a counter block of the block's size.
+    fn refusal(&self, offset: u64, input_len: usize, out_len: usize) -> Result<(), Refusal>
+        ensures { number_in result
+            ≡ refusal_of (for_run self.now.sealing self.now.cipher self.now.rounds self.now.key_len
+            (block_size self.now.cipher) offset input_len out_len) }
+    {
+        for_run(
+            self.sealing,
+            self.cipher,
+            self.rounds,
+            self.key_len,
+            block_size(self.cipher),
+            offset,
+            input_len,
+            out_len,
+        )
+    }
 
-// The next bytes, where no refusal applies: those of the block in use, and those further on. Returns the block that the next position is in.
-fn pass(b: Basis, keys: &[u64], here: Here, input: &[u8], out: &mut [u8]) -> Pair
-    requires ready { Ready b keys.now (here.position + length input.now) }
-    requires out_len { length out.old ≡ length input.now }
-    ensures { Passes b (take 510 keys.now) here input.now out.new result }
-{
-    let size = block_size(b.cipher);
-    let first = here.position as usize;
-    let skip = first % size;
-    let done = xor_block(b.cipher, here.block, skip, input, out);
-    if skip + input.len() < size {
-        return here.block;
+    // The run of a session whose key is not refused.
+    fn run<'a>(&self, keys: &'a [u64]) -> Run<'a>
+        requires keyed { Keyed self.now.cipher self.now.rounds self.now.key_len }
+        requires words { 510 ≤ length keys.now }
+        ensures cipher { result.cipher ≡ self.now.cipher }
+        ensures keys { result.keys.now ≡ take 510 keys.now }
+        ensures rounds { result.rounds ≡ self.now.rounds }
+        ensures counter { result.counter ≡ self.now.counter }
+    {
+        Run {
+            cipher: self.cipher,
+            keys: keys.first_chunk().unwrap(),
+            rounds: self.rounds as usize,
+            counter: self.counter,
+        }
     }
-    beyond(b, keys, first + done, &input[done..], &mut out[done..])
-}
 
-// The block that a position is in; the one in use stays where it is the same.
-fn renew(b: Basis, keys: &[u64], here: Here, to: u64) -> Pair
-    requires { Ready b keys.now to }
-    ensures { Renews b (take 510 keys.now) here to result }
-{
-    let size = block_size(b.cipher) as u64;
-    if to / size == here.position / size {
-        return here.block;
+    // The next bytes, where no refusal applies: those of the block in use, and those further on. Returns the block that the next position is in.
+    fn pass(&self, keys: &[u64], here: Here, input: &[u8], out: &mut [u8]) -> Pair
+        requires ready { Ready self.now keys.now (here.position + length input.now) }
+        requires out_len { length out.old ≡ length input.now }
+        ensures { Passes self.now (take 510 keys.now) here input.now out.new result }
+    {
+        let size = block_size(self.cipher);
+        let first = here.position as usize;
+        let skip = first % size;
+        let done = xor_block(self.cipher, here.block, skip, input, out);
+        if skip + input.len() < size {
+            return here.block;
+        }
+        further(
+            &self.run(keys),
+            first + done,
+            &input[done..],
+            &mut out[done..],
+        )
     }
-    let held = round_keys(keys);
-    let rounds = b.rounds as usize;
-    block_at(b.cipher, &held, rounds, b.counter, to as usize)
-}
 
-// The next bytes, sealed or opened at the position, which moves on by their number.
-pub fn advance(b: Basis, keys: &[u64], here: Here, input: &[u8], out: &mut [u8]) -> Step
-    requires { 510 ≤ length keys.now }
-    ensures { Follows (machine_at b (take 510 keys.now)) (TrueAt b (take 510 keys.now)) here
-        (Advance input.now out.old) out.new result.answer result.here }
-{
-    let size = block_size(b.cipher);
-    let refusal = for_run(
-        b.sealing,
-        b.cipher,
-        b.rounds,
-        b.key_len,
-        size,
-        here.position,
-        input.len(),
-        out.len(),
-    );
-    if refusal != 0 {
-        return refused(refusal, here);
+    // The block that a position is in; the one in use stays where it is the same.
+    fn renew(&self, keys: &[u64], here: Here, to: u64) -> Pair
+        requires { Ready self.now keys.now to }
+        ensures { Renews self.now (take 510 keys.now) here to result }
+    {
+        let size = block_size(self.cipher) as u64;
+        if to / size == here.position / size {
+            return here.block;
+        }
+        self.run(keys).block_at(to as usize)
     }
-    let block = pass(b, keys, here, input, out);
-    let position = here.position + input.len() as u64;
-    let answer = Answer::served(out.len());
-    Step {
-        answer,
-        here: Here { position, block },
-    }
-}
 
-// To a position, either way.
-pub fn move_to(b: Basis, keys: &[u64], here: Here, to: u64) -> Step
-    requires { 510 ≤ length keys.now }
-    ensures { Follows (machine_at b (take 510 keys.now)) (TrueAt b (take 510 keys.now)) here (Move to) []
-        result.answer result.here }
-{
-    let size = block_size(b.cipher);
-    let refusal = for_run(b.sealing, b.cipher, b.rounds, b.key_len, size, to, 0, 0);
-    if refusal != 0 {
-        return refused(refusal, here);
+    // The next bytes, sealed or opened at the position, which moves on by their number. Returns their count.
+    pub fn advance(
+        &self,
+        keys: &[u64],
+        here: &mut Here,
+        input: &[u8],
+        out: &mut [u8],
+    ) -> Result<usize, Refusal>
+        requires { 510 ≤ length keys.now }
+        ensures { Follows (machine_at self.now (take 510 keys.now)) (TrueAt self.now (take 510 keys.now)) here.old
+            (Advance input.now out.old) out.new (answer_of result) here.new }
+    {
+        self.refusal(here.position, input.len(), out.len())?;
+        here.block = self.pass(keys, *here, input, out);
+        here.position += input.len() as u64;
+        Ok(out.len())
     }
-    let block = renew(b, keys, here, to);
-    let answer = Answer::served(0);
-    Step {
-        answer,
-        here: Here {
-            position: to,
-            block,
-        },
+
+    // To a position, either way. Returns a count of 0.
+    pub fn move_to(&self, keys: &[u64], here: &mut Here, to: u64) -> Result<usize, Refusal>
+        requires { 510 ≤ length keys.now }
+        ensures { Follows (machine_at self.now (take 510 keys.now)) (TrueAt self.now (take 510 keys.now)) here.old (Move to) []
+            (answer_of result) here.new }
+    {
+        self.refusal(to, 0, 0)?;
+        here.block = self.renew(keys, *here, to);
+        here.position = to;
+        Ok(0)
     }
 }

@@ -2,6 +2,7 @@
 // ciphers. A constant table is built anew wherever it is named, so a caller builds each array of tables once and passes it by reference to every lookup.
 #![tactic(auto)]
 
+mod filled;
 pub mod tbs;
 pub mod tbsm4;
 pub mod tbsm8;

@@ -1,9 +1,10 @@
 // The joined S-box/diffusion tables (TBSM) of mu4 (001 §4.2.2), copied from four constants: table number j has at each byte column j of the matrix times the
 // S-box's value.
-ghost use Rattle.std.specs.Prelude.{◌≡◌, ◌+◌, ◌<◌};
+ghost use Rattle.std.specs.Prelude.{◌≡◌, ◌<◌};
 ghost use Rattle.fox_layers.specs.Diffusion.{mu4_rows};
 ghost use Rattle.fox_layers.specs.Tables.{table, tbsm_entry, TBSM};
-ghost use Rattle.fox_server_tables.specs.Filled.{FilledTo};
+
+use crate::filled::set_table;
 
 const TBSM0: [u32; 256] = [
     0x5d5d_8fba,
@@ -1041,7 +1042,7 @@ const TBSM3: [u32; 256] = [
     0xc261_6161,
 ];
 
-// Table number j.
+// Table number j, a constant of this matrix alone.
 fn constant(j: usize) -> [u32; 256]
     requires { j < 4 }
     ensures { result ≡ table (tbsm_entry mu4_rows j) }
@@ -1054,26 +1055,14 @@ fn constant(j: usize) -> [u32; 256]
     }
 }
 
-// Writes table number j at its place, after those before it.
-fn set_table(t: &mut [u32; 1024], j: usize)
-    requires j_bound { j < 4 }
-    requires filled_to { FilledTo (TBSM mu4_rows) j t.old }
-    ensures { FilledTo (TBSM mu4_rows) (j + 1) t.new }
-{
-    let a = constant(j);
-    for x in 0..256 {
-        t[j * 256 + x] = a[x];
-    }
-}
-
 // The tables, one after the other.
 pub fn tbsm() -> [u32; 1024]
     ensures { result ≡ TBSM mu4_rows }
 {
     let mut t = [0; 1024];
-    set_table(&mut t, 0);
-    set_table(&mut t, 1);
-    set_table(&mut t, 2);
-    set_table(&mut t, 3);
+    set_table(&mut t, 0, &constant(0));
+    set_table(&mut t, 1, &constant(1));
+    set_table(&mut t, 2, &constant(2));
+    set_table(&mut t, 3, &constant(3));
     t
 }

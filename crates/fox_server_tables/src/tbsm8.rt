@@ -1,9 +1,10 @@
 // The joined S-box/diffusion tables (TBSM) of mu8 (001 §4.2.2), copied from eight constants: table number j has at each byte column j of the matrix times the
 // S-box's value.
-ghost use Rattle.std.specs.Prelude.{◌≡◌, ◌+◌, ◌<◌};
+ghost use Rattle.std.specs.Prelude.{◌≡◌, ◌<◌};
 ghost use Rattle.fox_layers.specs.Diffusion.{mu8_rows};
 ghost use Rattle.fox_layers.specs.Tables.{table, tbsm_entry, TBSM};
-ghost use Rattle.fox_server_tables.specs.Filled.{FilledTo};
+
+use crate::filled::set_table;
 
 const TBSM0: [u64; 256] = [
     0x5d5d_e7bb_ba8d_d269,
@@ -2077,7 +2078,7 @@ const TBSM7: [u64; 256] = [
     0xa361_6161_6161_6161,
 ];
 
-// Table number j.
+// Table number j, a constant of this matrix alone.
 fn constant(j: usize) -> [u64; 256]
     requires { j < 8 }
     ensures { result ≡ table (tbsm_entry mu8_rows j) }
@@ -2094,30 +2095,18 @@ fn constant(j: usize) -> [u64; 256]
     }
 }
 
-// Writes table number j at its place, after those before it.
-fn set_table(t: &mut [u64; 2048], j: usize)
-    requires j_bound { j < 8 }
-    requires filled_to { FilledTo (TBSM mu8_rows) j t.old }
-    ensures { FilledTo (TBSM mu8_rows) (j + 1) t.new }
-{
-    let a = constant(j);
-    for x in 0..256 {
-        t[j * 256 + x] = a[x];
-    }
-}
-
 // The tables, one after the other.
 pub fn tbsm() -> [u64; 2048]
     ensures { result ≡ TBSM mu8_rows }
 {
     let mut t = [0; 2048];
-    set_table(&mut t, 0);
-    set_table(&mut t, 1);
-    set_table(&mut t, 2);
-    set_table(&mut t, 3);
-    set_table(&mut t, 4);
-    set_table(&mut t, 5);
-    set_table(&mut t, 6);
-    set_table(&mut t, 7);
+    set_table(&mut t, 0, &constant(0));
+    set_table(&mut t, 1, &constant(1));
+    set_table(&mut t, 2, &constant(2));
+    set_table(&mut t, 3, &constant(3));
+    set_table(&mut t, 4, &constant(4));
+    set_table(&mut t, 5, &constant(5));
+    set_table(&mut t, 6, &constant(6));
+    set_table(&mut t, 7, &constant(7));
     t
 }

@@ -2,6 +2,5 @@
 // are passed by reference.
 #![tactic(auto)]
 
-mod fox128;
-mod fox64;
+mod chain;
 pub mod tag;

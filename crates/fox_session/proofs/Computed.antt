@@ -4,7 +4,7 @@ use mathlib.Core.Path.{◌≡◌, refl}
 use Prim.Native.Nat.{ℕ}
 use mathlib.Core.Bool.{Bool, true, false}
 use mathlib.Core.List.{List, [], ◌∷◌, ◌++◌}
-use lib.ListN.{length, replicate}
+use lib.ListN.{replicate}
 use Rattle.fox_refusals.specs.Refusals.{refusal_of, block_size, wrong_cipher, wrong_rounds, long_key, short_key, wrong_block_length, long_data, wrong_output_length}
 use Rattle.fox_refusals.specs.Refusals.{past_end, for_key, for_turn, for_stretch, for_run}
 use Rattle.fox_session.specs.Machine.{Machine, Call, Advance, Move, tells, after}

@@ -7,7 +7,7 @@ use native.Mathlib.Omega.{arith}
 use mathlib.Core.Bool.{Bool, true}
 use mathlib.Core.List.{List, [], ◌∷◌}
 use Rattle.fox_refusals.specs.Refusals.{for_run, Keyed}
-use Rattle.fox_refusals.specs.declared.answer.Answer.{Answer}
+use Rattle.fox_refusals.specs.Answer.{Answer}
 use Rattle.fox_refusals.proofs.Laws.Refusals.{short-key}
 use Rattle.fox_run.specs.Promise.{RunsWith}
 use Rattle.fox_session.specs.Machine.{Machine, at_start, Call, Told, Advance, Move, tells, standing, tells_all, after_all}

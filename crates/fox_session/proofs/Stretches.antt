@@ -8,7 +8,7 @@ use mathlib.Core.Bool.{Bool, cond}
 use lib.Dec.{eqb}
 use lib.ListN.{length, take, drop}
 use Rattle.fox_refusals.specs.Reply.{Served}
-use Rattle.fox_refusals.specs.declared.answer.Answer.{Answer}
+use Rattle.fox_refusals.specs.Answer.{Answer}
 use Rattle.fox_refusals.proofs.Laws.Refusals.{stretched}
 use Rattle.fox_run.specs.Run.{run_with}
 use Rattle.fox_run.specs.Promise.{RunsWith}

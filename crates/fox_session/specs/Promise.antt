@@ -3,7 +3,7 @@
 -- Assumes nothing.
 use Rattle.std.specs.Prelude.{◌≡◌, ℕ, Bool, List, [], ◌∷◌, ◌++◌, length}
 use Rattle.fox_refusals.specs.Refusals.{refusal_of, for_run}
-use Rattle.fox_refusals.specs.declared.answer.Answer.{Answer}
+use Rattle.fox_refusals.specs.Answer.{Answer}
 use Rattle.fox_session.specs.Machine.{Machine, at_start, Call, Advance, Told, lent, tells, after}
 
 -- a start for sealing or for opening, from cipher, rounds, key length, a list of round keys and the counter block: refused as a stretch of no bytes at the

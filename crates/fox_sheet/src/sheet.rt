@@ -1,23 +1,18 @@
-// What reading a sheet returns. `line` is the number of the first line that breaks its rule, or 0.
+// What a well-formed sheet says, by the two steps in which it is read. A malformed one is told by the number of its first line that breaks its rule.
+// A `size` stands apart from its buffer, which the caller lends: memory is fixed, with no heap, and the bytes are promised of a malformed sheet too
+// (`ReadsSettings`, `ReadsTask`), where no struct is returned that could hold a slice of them.
+
 // `size` is the number of bytes in the key.
 #[derive(Clone, Copy)]
 pub struct Settings {
-    pub line: u32,
     pub cipher: u32,
     pub rounds: u32,
     pub size: usize,
 }
 
-#[derive(Clone, Copy)]
-pub struct Way {
-    pub right: bool,
-    pub sealing: bool,
-}
-
 // `size` is the number of bytes in the block.
 #[derive(Clone, Copy)]
 pub struct Task {
-    pub line: u32,
     pub sealing: bool,
     pub size: usize,
 }

@@ -1,10 +1,11 @@
 // The answer to a bench sheet, by the card engine.
-ghost use Rattle.std.specs.Prelude.{◌≡◌, ◌≤◌, length};
+// A buffer has a fixed size, and its part in use is a slice: there is no heap.
+ghost use Rattle.std.specs.Prelude.{◌≤◌, length};
 ghost use Rattle.fox_text.specs.Put.{Put};
 ghost use Rattle.fox_sheet.specs.Answer.{Answers, Room, values_from, block_text, broken_text, served_text};
 
 use fox_card_block::block::turn;
-use fox_sheet_read::sheet::{first_broken, read_settings, read_task};
+use fox_sheet_read::sheet::{read_settings, read_task};
 use fox_text_lines::lines::after_line;
 use fox_text_write::writing::{put_decimal_line, put_pairs_line};
 
@@ -30,27 +31,6 @@ fn put_served(cipher: u32, rounds: u32, key: usize, block: &[u8], out: &mut [u8]
     put_pairs_line(out, d, b"block=", block)
 }
 
-// `room` is the output for the sealed or opened block.
-fn write_answer(
-    sealing: bool,
-    cipher: u32,
-    rounds: u32,
-    key: &[u8],
-    block: &[u8],
-    room: &mut [u8],
-    out: &mut [u8],
-) -> usize
-    requires lengths { Room (length key.now) block.now out.old }
-    requires as_long { length room.old ≡ length block.now }
-    ensures { Put 125 (block_text (values_from sealing cipher rounds key.now block.now)) out.old out.new 0 result }
-{
-    let a = turn(sealing, cipher, rounds, key, block, room);
-    if a.refusal != 0 {
-        return put_decimal_line(out, 0, b"refusal=", a.refusal);
-    }
-    put_served(cipher, rounds, key.len(), room, out)
-}
-
 fn answer_block(
     sealing: bool,
     cipher: u32,
@@ -63,8 +43,11 @@ fn answer_block(
     ensures { Put 125 (block_text (values_from sealing cipher rounds key.now block.now)) out.old out.new 0 result }
 {
     let mut room = [0; 32];
-    let n = block.len();
-    write_answer(sealing, cipher, rounds, key, block, &mut room[..n], out)
+    let turned = &mut room[..block.len()];
+    match turn(sealing, cipher, rounds, key, block, turned) {
+        Ok(_) => put_served(cipher, rounds, key.len(), turned, out),
+        Err(refusal) => put_decimal_line(out, 0, b"refusal=", refusal.number()),
+    }
 }
 
 // Every byte that the bench program prints for the sheet, at the start of the output; returns their count.
@@ -72,17 +55,22 @@ pub fn answer(sheet: &[u8], out: &mut [u8; ROOM]) -> usize
     ensures { Answers sheet.now out.old out.new result }
 {
     let mut key = [0; 64];
-    let s = read_settings(sheet, &mut key);
-    let second = after_line(sheet);
-    let third = after_line(second);
-    let fourth = after_line(third);
+    let s = match read_settings(sheet, &mut key) {
+        Ok(settings) => settings,
+        Err(line) => return put_broken(line, out),
+    };
+    let fourth = after_line(after_line(after_line(sheet)));
     let mut block = [0; 32];
-    let t = read_task(fourth, &mut block);
-    let line = first_broken(s.line, s.line == 0, t.line);
-    if line != 0 {
-        return put_broken(line, out);
-    }
-    let k = s.size;
-    let b = t.size;
-    answer_block(t.sealing, s.cipher, s.rounds, &key[..k], &block[..b], out)
+    let t = match read_task(fourth, &mut block) {
+        Ok(task) => task,
+        Err(line) => return put_broken(line, out),
+    };
+    answer_block(
+        t.sealing,
+        s.cipher,
+        s.rounds,
+        &key[..s.size],
+        &block[..t.size],
+        out,
+    )
 }

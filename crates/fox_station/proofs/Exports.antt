@@ -11,7 +11,7 @@ use Rattle.fox_layers.specs.Words.{◌⊕◌}
 use Rattle.fox_refusals.specs.Refusals.{Refusal, refusal_of, First, block_size, Keyed, LongFor, Stretched, Tagged}
 use Rattle.fox_refusals.specs.Reply.{Verdict, Served, Refused, Same}
 use Rattle.fox_refusals.specs.Handed.{Handed, answer}
-use Rattle.fox_refusals.specs.declared.answer.Answer.{Answer}
+use Rattle.fox_refusals.specs.Answer.{Answer}
 use Rattle.fox_refusals.proofs.Laws.Refusals.{first-given, given-first}
 use Rattle.fox_refusals.proofs.Laws.Reply.{refused, handed-reply}
 use Rattle.fox_key_schedule.specs.Schedule.{round_keys}

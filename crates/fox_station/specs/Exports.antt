@@ -3,7 +3,7 @@
 use Rattle.std.specs.Prelude.{◌≡◌, Bool, true, cond, List, ℕ, eqb, length}
 use Rattle.fox_refusals.specs.Refusals.{refusal_of, for_block, for_counter, for_tag, for_tag_test}
 use Rattle.fox_refusals.specs.Handed.{Handed}
-use Rattle.fox_refusals.specs.declared.answer.Answer.{Answer}
+use Rattle.fox_refusals.specs.Answer.{Answer}
 use Rattle.fox_block.specs.Block.{turn_block}
 use Rattle.fox_run.specs.Counter.{first_counter}
 use Rattle.fox_run.specs.Promise.{RunsHanded}

@@ -1,13 +1,14 @@
 // The station's calls by the card engine, on numbers and byte slices. Each returns the refusal number, 0 for success, from which the count follows: the
-// output length, or 0; a test of a tag has no output, and count 0.
-#![tactic(auto)]
+// output length, or 0; a test of a tag has no output, and count 0. Sealing and opening have a function each, since C programs call them by these names.
+#![tactic(auto, using(fox_refusals::proofs::Laws::Reply::reply_handed))]
 
 ghost use Rattle.std.specs.Prelude.{true, false};
 ghost use Rattle.fox_station.specs.Exports.{RunHanded, TurnHanded, MakeTagHanded, TestTagHanded};
 
 use fox_card_block::block::turn;
-use fox_card_run::run::handed;
+use fox_card_run::run::run;
 use fox_card_tag::tag::{make, test};
+use fox_refusals::refusal::number_in;
 
 #[unsafe(no_mangle)]
 pub extern "C" fn fox_card_seal_block(
@@ -19,8 +20,7 @@ pub extern "C" fn fox_card_seal_block(
 ) -> u32
     ensures { TurnHanded true cipher rounds key.now block.now out.old out.new result }
 {
-    let answer = turn(true, cipher, rounds, key, block, out);
-    answer.refusal
+    number_in(turn(true, cipher, rounds, key, block, out))
 }
 
 #[unsafe(no_mangle)]
@@ -33,8 +33,7 @@ pub extern "C" fn fox_card_open_block(
 ) -> u32
     ensures { TurnHanded false cipher rounds key.now block.now out.old out.new result }
 {
-    let answer = turn(false, cipher, rounds, key, block, out);
-    answer.refusal
+    number_in(turn(false, cipher, rounds, key, block, out))
 }
 
 #[unsafe(no_mangle)]
@@ -49,7 +48,7 @@ pub extern "C" fn fox_card_seal_run(
 ) -> u32
     ensures { RunHanded true cipher rounds key.now counter.now offset input.now out.old out.new result }
 {
-    handed(true, cipher, rounds, key, counter, offset, input, out)
+    number_in(run(true, cipher, rounds, key, counter, offset, input, out))
 }
 
 #[unsafe(no_mangle)]
@@ -64,7 +63,7 @@ pub extern "C" fn fox_card_open_run(
 ) -> u32
     ensures { RunHanded false cipher rounds key.now counter.now offset input.now out.old out.new result }
 {
-    handed(false, cipher, rounds, key, counter, offset, input, out)
+    number_in(run(false, cipher, rounds, key, counter, offset, input, out))
 }
 
 #[unsafe(no_mangle)]
@@ -77,8 +76,7 @@ pub extern "C" fn fox_card_make_tag(
 ) -> u32
     ensures { MakeTagHanded cipher rounds key.now message.now tag.old tag.new result }
 {
-    let answer = make(cipher, rounds, key, message, tag);
-    answer.refusal
+    number_in(make(cipher, rounds, key, message, tag))
 }
 
 #[unsafe(no_mangle)]
@@ -91,6 +89,5 @@ pub extern "C" fn fox_card_test_tag(
 ) -> u32
     ensures { TestTagHanded cipher rounds key.now message.now tag.now result }
 {
-    let answer = test(cipher, rounds, key, message, tag);
-    answer.refusal
+    number_in(test(cipher, rounds, key, message, tag))
 }

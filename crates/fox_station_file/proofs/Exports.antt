@@ -8,8 +8,8 @@ use lib.ListN.{length, take, drop, get_or}
 use Rattle.fox_layers.specs.Words.{Bytes}
 use Rattle.fox_key_schedule.specs.Schedule.{round_keys}
 use Rattle.fox_run_file.specs.declared.place.Place.{Place}
-use Rattle.fox_run_file.specs.declared.reading.Read.{Read}
-use Rattle.fox_run_file.specs.declared.reading.Read.TheVariants.{Opened, Refused, End}
+use Rattle.fox_run_file.specs.Outcomes.{Read}
+use Rattle.fox_run_file.specs.Outcomes.{Opened, Refused, End}
 use Rattle.fox_run_file.specs.Format.{turned_scans, cut_by}
 use Rattle.fox_run_file.specs.Says.{counter_in, scans_of}
 use Rattle.fox_run.specs.Run.{run_with}

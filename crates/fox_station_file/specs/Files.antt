@@ -1,17 +1,21 @@
 -- What the station's exports on run files promise, for all inputs: the refusal number, the count and the place, which go through numbers that the caller
 -- lends, and every byte of the output.
 -- Assumes nothing.
-use Rattle.std.specs.Prelude.{◌≡◌, List, [], ◌∷◌, ℕ, ◌-◌, ◌^◌, length, get_or}
+use Rattle.std.specs.Prelude.{◌≡◌, List, [], ◌∷◌, ℕ, ◌-◌, ◌^◌, length, get_or, Option, Some, None}
 use Rattle.fox_key_schedule.specs.Schedule.{round_keys}
+use Rattle.fox_refusals.specs.Answer.{Answer}
 use Rattle.fox_run_file.specs.declared.place.Place.{Place}
-use Rattle.fox_run_file.specs.declared.reading.Next.{Next}
-use Rattle.fox_run_file.specs.declared.reading.Next.TheVariants.{Scan, End}
 use Rattle.fox_run_file.specs.Places.{passed_over}
 use Rattle.fox_run_file.specs.Promise.{TellsSize, WritesFileWith, TakesUpWith, next_at, read_at, read_output, number_of, count_of, place_of}
 
 -- the place that three words hold
 unfoldable pub place_in : List ℕ → Place
 place_in words = record { at = get_or words 0 0; scans = get_or words 1 0; offset = get_or words 2 0 }
+
+-- an answer's refusal number and its count
+pub record CountHanded (a : Answer) (n r : ℕ) : Type 0 where
+  pub refusal : r ≡ a.refusal
+  pub count : n ≡ a.count
 
 -- how long a file will be, from cipher, rounds and the lengths of the scans
 abbrev pub SizeHanded : ℕ → ℕ → List ℕ → ℕ → ℕ → Type 0
@@ -28,9 +32,9 @@ TakeUpHanded cipher rounds key file words r =
     TakesUpWith cipher rounds (length key) (round_keys cipher rounds key) file (record { refusal = r; place = place_in words })
 
 -- the length of the scan that comes next, or at the end the largest number of 64 bits
-abbrev pub length_of : Next → ℕ
-length_of (Scan n) = n
-length_of End = 2 ^ 64 - 1
+abbrev pub length_of : Option ℕ → ℕ
+length_of (Some n) = n
+length_of None = 2 ^ 64 - 1
 
 abbrev pub NextHanded : List ℕ → List ℕ → ℕ → Type 0
 NextHanded file words r = r ≡ length_of (next_at file (place_in words))

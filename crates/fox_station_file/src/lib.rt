@@ -3,20 +3,23 @@
 #![tactic(auto)]
 
 ghost use Rattle.std.specs.Prelude.{◌≡◌};
+ghost use Rattle.fox_refusals.specs.Answer.{answer_of};
 ghost use Rattle.fox_run_file.specs.declared.place.Place.{Place};
-ghost use Rattle.fox_run_file.specs.declared.reading.Next.{Next};
-ghost use Rattle.fox_run_file.specs.declared.reading.Read.{Read};
-ghost use Rattle.fox_run_file.specs.Promise.{number_of, count_of, place_of};
-ghost use Rattle.fox_station_file.specs.Files.{place_in, length_of, SizeHanded, WriteHanded, TakeUpHanded, NextHanded, ReadHanded, SkipHanded};
+ghost use Rattle.fox_station_file.specs.Files.{place_in, length_of, CountHanded, SizeHanded, WriteHanded, TakeUpHanded, NextHanded, ReadHanded, SkipHanded};
 
+use fox_refusals::refusal::Refusal;
 use fox_run_file::place::Place;
-use fox_run_file::reading::{Next, Read};
 use fox_run_file_read::places::{next_at, pass_over};
 use fox_run_file_read::read::read_from_key;
 use fox_run_file_sizes::sizes::tell_size;
 use fox_run_file_take_up::take::take_up_from_key;
 use fox_run_file_write::write::write_from_key;
 
+// The words of the place at which a refused file's reader stands: past the end of every file.
+const NO_PLACE: [u64; 3] = [18_446_744_073_709_551_615, 0, 0];
+
+// Place and words by functions and no From: their order is the C interface's, which this crate alone knows, and the type is another crate's.
+#[tactic(auto, unfolding(crate::specs::Files::place_in))]
 fn place_in(words: &[u64; 3]) -> Place
     ensures { result ≡ place_in words.now }
 {
@@ -27,48 +30,26 @@ fn place_in(words: &[u64; 3]) -> Place
     }
 }
 
+#[tactic(auto, unfolding(crate::specs::Files::place_in))]
 fn words_of(place: Place) -> [u64; 3]
     ensures { place_in result ≡ place }
 {
     [place.at as u64, place.scans as u64, place.offset as u64]
 }
 
-fn length_of(n: Next) -> u64
-    ensures { result ≡ length_of n }
+// The number of an answer; its count goes through a number that the caller lends.
+fn handed(answer: Result<usize, Refusal>, count: &mut u64) -> u32
+    ensures { CountHanded (answer_of answer) count.new result }
 {
-    match n {
-        Next::Scan(size) => size as u64,
-        Next::End => 18_446_744_073_709_551_615,
-    }
-}
-
-fn number_of(x: Read) -> u32
-    ensures { result ≡ number_of x }
-{
-    match x {
-        Read::Opened(_, _) => 0,
-        Read::Refused(n) => n,
-        Read::End => 0,
-    }
-}
-
-fn count_of(x: Read) -> usize
-    ensures { result ≡ count_of x }
-{
-    match x {
-        Read::Opened(n, _) => n,
-        Read::Refused(_) => 0,
-        Read::End => 0,
-    }
-}
-
-fn place_of(place: Place, x: Read) -> Place
-    ensures { result ≡ place_of place x }
-{
-    match x {
-        Read::Opened(_, p) => p,
-        Read::Refused(_) => place,
-        Read::End => place,
+    match answer {
+        Ok(n) => {
+            *count = n as u64;
+            0
+        }
+        Err(refusal) => {
+            *count = 0;
+            refusal.number()
+        }
     }
 }
 
@@ -76,10 +57,7 @@ fn place_of(place: Place, x: Read) -> Place
 pub extern "C" fn fox_file_size(cipher: u32, rounds: u32, lengths: &[u64], count: &mut u64) -> u32
     ensures { SizeHanded cipher rounds lengths.now count.new result }
 {
-    let answer = tell_size(cipher, rounds, lengths);
-    let n = answer.count as u64;
-    *count = n;
-    answer.refusal
+    handed(tell_size(cipher, rounds, lengths), count)
 }
 
 #[unsafe(no_mangle)]
@@ -97,9 +75,7 @@ pub extern "C" fn fox_file_write(
         out.new count.new result }
 {
     let answer = write_from_key(cipher, rounds, key, counter, input, lengths, out);
-    let n = answer.count as u64;
-    *count = n;
-    answer.refusal
+    handed(answer, count)
 }
 
 #[unsafe(no_mangle)]
@@ -112,17 +88,26 @@ pub extern "C" fn fox_file_take_up(
 ) -> u32
     ensures { TakeUpHanded cipher rounds key.now file.now place.new result }
 {
-    let taken = take_up_from_key(cipher, rounds, key, file);
-    let start = taken.place;
-    *place = words_of(start);
-    taken.refusal
+    match take_up_from_key(cipher, rounds, key, file) {
+        Ok(start) => {
+            *place = words_of(start);
+            0
+        }
+        Err(refusal) => {
+            *place = NO_PLACE;
+            refusal.number()
+        }
+    }
 }
 
 #[unsafe(no_mangle)]
 pub extern "C" fn fox_file_next_length(file: &[u8], place: &[u64; 3]) -> u64
     ensures { NextHanded file.now place.now result }
 {
-    length_of(next_at(file, place_in(place)))
+    match next_at(file, place_in(place)) {
+        Some(size) => size as u64,
+        None => 18_446_744_073_709_551_615,
+    }
 }
 
 #[unsafe(no_mangle)]
@@ -138,12 +123,17 @@ pub extern "C" fn fox_file_read(
     ensures { ReadHanded cipher rounds key.now file.now place.old place.new out.old
         out.new count.new result }
 {
+    *count = 0;
     let at = place_in(place);
-    let x = read_from_key(cipher, rounds, key, file, at, out);
-    *place = words_of(place_of(at, x));
-    let n = count_of(x) as u64;
-    *count = n;
-    number_of(x)
+    match read_from_key(cipher, rounds, key, file, at, out) {
+        Ok(Some(scan)) => {
+            *place = words_of(scan.next);
+            *count = scan.size as u64;
+            0
+        }
+        Ok(None) => 0,
+        Err(refusal) => refusal.number(),
+    }
 }
 
 #[unsafe(no_mangle)]

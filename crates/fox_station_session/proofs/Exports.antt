@@ -13,7 +13,7 @@ use lib.Seq.{get_or-append-add, take_at}
 use Rattle.fox_refusals.specs.Refusals.{refusal_of, First, block_size, Keyed, Stretched, LongFor, for_key, for_turn, for_run, wrong_cipher}
 use Rattle.fox_refusals.specs.Reply.{Served, Same}
 use Rattle.fox_refusals.specs.Handed.{answer}
-use Rattle.fox_refusals.specs.declared.answer.Answer.{Answer}
+use Rattle.fox_refusals.specs.Answer.{Answer}
 use Rattle.fox_refusals.proofs.Laws.Refusals.{given-first, stretched, stretched-served}
 use Rattle.fox_refusals.proofs.Laws.Reply.{chosen}
 use Rattle.fox_run.specs.Run.{run}

@@ -2,14 +2,13 @@
 -- session that the words hold. They are the promises of a session, over words.
 -- Assumes nothing.
 use Rattle.std.specs.Prelude.{◌≡◌, ℕ, ◌%◌, ◌^◌, Bool, cond, not, List, eqb, length, get_or, take, replicate}
-use Rattle.fox_refusals.specs.declared.answer.Answer.{Answer}
+use Rattle.fox_refusals.specs.Answer.{Answer}
 use Rattle.fox_key_schedule.specs.Schedule.{round_keys}
 use Rattle.fox_server_key.specs.Prepared.{prepared_key}
 use Rattle.fox_session.specs.Machine.{Machine, Call, Told, lent}
 use Rattle.fox_session.specs.Promise.{Starts, Follows}
 use Rattle.fox_server_session.specs.declared.session.Session.{Session}
-use Rattle.fox_server_session_step.specs.declared.step.Step.{Step}
-use Rattle.fox_server_session.specs.Session.{machine_of, TrueOf, session_at}
+use Rattle.fox_server_session.specs.Session.{machine_of, TrueOf}
 
 -- the last word: 0 in a session for opening; in one for sealing any other number, and a start stores 1
 unfoldable pub direction_word : Bool → ℕ
@@ -72,9 +71,3 @@ pub record Stands (sealing : Bool) (cipher rounds : ℕ) (key counter words : Li
 -- what a call tells that is refused with a number: count 0, and the output as it is lent
 abbrev pub refused_with : ℕ → Call → Told
 refused_with number call = record { refusal = number; count = 0; output = lent call }
-
--- what keeping a step promises, of the words before and after and the number returned: where the session stands is stored, unless the step was refused
-pub record Keeps (words : List ℕ) (step : Step) (words' : List ℕ) (r : ℕ) : Type 0 where
-  pub refusal : r ≡ step.answer.refusal
-  pub served : r ≡ 0 → session_in words' ≡ session_at (session_in words) step.here
-  pub refused : (r ≡ 0 → ⊥) → words' ≡ words

@@ -4,115 +4,89 @@
 #![tactic(auto)]
 
 ghost use Rattle.std.specs.Prelude.{◌≡◌, true, false, [], length, get_or};
+ghost use Rattle.fox_refusals.specs.Answer.{answer_of};
 ghost use Rattle.fox_refusals.specs.Handed.{answer};
 ghost use Rattle.fox_session.specs.Machine.{Advance, Move};
 ghost use Rattle.fox_server_session.specs.Session.{basis_of, session_at};
-ghost use Rattle.fox_station_session.specs.Sessions.{session_in, direction_word, Keeps, StartHanded, CallHanded};
+ghost use Rattle.fox_station_session.specs.Sessions.{session_in, direction_word, StartHanded, CallHanded};
 
-use fox_server_session::session::{Session, start_from_key};
-use fox_server_session_step::step::{Basis, Step, advance, move_to};
+use fox_refusals::refusal::{Refusal, number_in};
+use fox_server_session::session::Session;
+use fox_server_session_step::step::Basis;
 use fox_session::{Here, Pair};
 
-fn basis_in(words: &[u64]) -> Basis
-    requires { length words.now ≡ 519 }
+// To the words and from them by functions and no From: their order is the C interface's, which this crate alone knows, and the types are other crates'. The
+// words are 519 in one array, since the C programs lend them so.
+#[tactic(auto, unfolding(crate::specs::Sessions::session_in))]
+fn basis_in(words: &[u64; 519]) -> Basis
     ensures { result ≡ basis_of (session_in words.now) }
 {
-    let counter = Pair {
-        left: words[513],
-        right: words[514],
-    };
     Basis {
         sealing: words[518] != 0,
         cipher: (words[510] % 0x1_0000_0000) as u32,
         rounds: (words[511] % 0x1_0000_0000) as u32,
         key_len: words[512] as usize,
-        counter,
+        counter: Pair {
+            left: words[513],
+            right: words[514],
+        },
     }
 }
 
-fn here_in(words: &[u64]) -> Here
-    requires { length words.now ≡ 519 }
+#[tactic(auto, unfolding(crate::specs::Sessions::session_in))]
+fn here_in(words: &[u64; 519]) -> Here
     ensures { result ≡ (session_in words.now).here }
 {
-    let block = Pair {
-        left: words[516],
-        right: words[517],
-    };
     Here {
         position: words[515],
-        block,
+        block: Pair {
+            left: words[516],
+            right: words[517],
+        },
     }
 }
 
 // Writes where the session stands.
-fn write_here(words: &mut [u64], here: Here)
-    requires { length words.old ≡ 519 }
-    ensures { (session_in words.new ≡ session_at (session_in words.old) here)
-        × (get_or words.new 518 0 ≡ get_or words.old 518 0) }
+fn write_here(words: &mut [u64; 519], here: Here)
+    ensures session { session_in words.new ≡ session_at (session_in words.old) here }
+    ensures direction { get_or words.new 518 0 ≡ get_or words.old 518 0 }
 {
-    let block = here.block;
     words[515] = here.position;
-    words[516] = block.left;
-    words[517] = block.right;
+    words[516] = here.block.left;
+    words[517] = here.block.right;
 }
 
-// Keeps a step, unless it was refused; returns its refusal number.
-fn keep(words: &mut [u64], step: Step) -> u32
-    requires { length words.old ≡ 519 }
-    ensures { Keeps words.old step words.new result }
+fn write_session(words: &mut [u64; 519], s: Session)
+    ensures session { session_in words.new ≡ s }
+    ensures direction { get_or words.new 518 0 ≡ direction_word s.sealing }
 {
-    let refusal = step.answer.refusal;
-    if refusal == 0 {
-        write_here(words, step.here);
-    }
-    refusal
+    words[..510].copy_from_slice(&s.key.keys);
+    words[510] = u64::from(s.key.cipher);
+    words[511] = u64::from(s.key.rounds);
+    words[512] = s.key.key_len as u64;
+    words[513] = s.counter.left;
+    words[514] = s.counter.right;
+    words[518] = u64::from(s.sealing);
+    write_here(words, s.here);
 }
 
-// The last word.
-fn direction(sealing: bool) -> u64
-    ensures { result ≡ direction_word sealing }
+// The session in the words goes on, unless the call is refused.
+fn advance_in(words: &mut [u64; 519], input: &[u8], out: &mut [u8]) -> Result<usize, Refusal>
+    ensures { CallHanded words.old (Advance input.now out.old) out.new (answer_of result) words.new }
 {
-    if sealing {
-        return 1;
-    }
-    0
+    let mut here = here_in(words);
+    let count = basis_in(words).advance(&words[..], &mut here, input, out)?;
+    write_here(words, here);
+    Ok(count)
 }
 
-fn words_of(s: Session) -> [u64; 519]
-    ensures { (session_in result ≡ s) × (get_or result 518 0 ≡ direction_word s.sealing) }
+fn move_in(words: &mut [u64; 519], to: u64) -> Result<usize, Refusal>
+    ensures { CallHanded words.old (Move to) [] (answer_of result) words.new }
 {
-    let key = s.key;
-    let keys = key.keys;
-    let counter = s.counter;
-    let mut words = [0u64; 519];
-    for i in 0..510 {
-        words[i] = keys[i];
-    }
-    words[510] = key.cipher as u64;
-    words[511] = key.rounds as u64;
-    words[512] = key.key_len as u64;
-    words[513] = counter.left;
-    words[514] = counter.right;
-    words[518] = direction(s.sealing);
-    write_here(&mut words, s.here);
-    words
-}
-
-fn advance_in(words: &mut [u64], input: &[u8], out: &mut [u8]) -> u32
-    requires { length words.old ≡ 519 }
-    ensures { CallHanded words.old (Advance input.now out.old) out.new
-        (answer result (length out.old)) words.new }
-{
-    let step = advance(basis_in(words), words, here_in(words), input, out);
-    keep(words, step)
-}
-
-fn move_in(words: &mut [u64], to: u64) -> u32
-    requires { length words.old ≡ 519 }
-    ensures { CallHanded words.old (Move to) [] (answer result 0) words.new }
-{
-    let step = move_to(basis_in(words), words, here_in(words), to);
-    keep(words, step)
+    let mut here = here_in(words);
+    let count = basis_in(words).move_to(&words[..], &mut here, to)?;
+    write_here(words, here);
+    Ok(count)
 }
 
 // Begins a session in the words, or makes all of them zero where it is refused.
@@ -126,14 +100,16 @@ fn start_in(
 ) -> u32
     ensures { StartHanded sealing cipher rounds key.now counter.now (answer result 0) session.new }
 {
-    let started = start_from_key(sealing, cipher, rounds, key, counter);
-    let answer = started.answer;
-    if answer.refusal == 0 {
-        *session = words_of(started.session);
-    } else {
-        *session = [0u64; 519];
+    match Session::start_from_key(sealing, cipher, rounds, key, counter) {
+        Ok(started) => {
+            write_session(session, started);
+            0
+        }
+        Err(refusal) => {
+            *session = [0; 519];
+            refusal.number()
+        }
     }
-    answer.refusal
 }
 
 #[unsafe(no_mangle)]
@@ -167,12 +143,12 @@ pub extern "C" fn fox_session_advance(session: &mut [u64; 519], input: &[u8], ou
     ensures { CallHanded session.old (Advance input.now out.old) out.new
         (answer result (length out.old)) session.new }
 {
-    advance_in(session, input, out)
+    number_in(advance_in(session, input, out))
 }
 
 #[unsafe(no_mangle)]
 pub extern "C" fn fox_session_move(session: &mut [u64; 519], position: u64) -> u32
     ensures { CallHanded session.old (Move position) [] (answer result 0) session.new }
 {
-    move_in(session, position)
+    number_in(move_in(session, position))
 }

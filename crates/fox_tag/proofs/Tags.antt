@@ -9,7 +9,7 @@ use lib.ListN.{length}
 use Rattle.fox_layers.proofs.Laws.Lists.{by-test}
 use Rattle.fox_refusals.specs.Refusals.{refusal_of, block_size, same, for_tag, Keyed, Tagged}
 use Rattle.fox_refusals.specs.Reply.{Served, Same}
-use Rattle.fox_refusals.specs.declared.answer.Answer.{Answer}
+use Rattle.fox_refusals.specs.Answer.{Answer}
 use Rattle.fox_refusals.proofs.Laws.Refusals.{tagged, tagged-served, tag-verdict, test-passed, test-differs, same_refl, same_known}
 use Rattle.fox_refusals.proofs.Laws.Reply.{served, same as same-replies}
 use Rattle.fox_block.proofs.Laws.Block.{length-turned}

@@ -2,4 +2,3 @@
 pub mod Cmac
 pub mod Tag
 pub mod Promise
-pub mod States

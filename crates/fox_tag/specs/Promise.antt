@@ -4,7 +4,7 @@
 use Rattle.std.specs.Prelude.{◌≡◌, ℕ, true, cond, List, length}
 use Rattle.fox_refusals.specs.Refusals.{same, for_tag, for_tag_test}
 use Rattle.fox_refusals.specs.Reply.{Reply, Verdict}
-use Rattle.fox_refusals.specs.declared.answer.Answer.{Answer}
+use Rattle.fox_refusals.specs.Answer.{Answer}
 use Rattle.fox_key_schedule.specs.Schedule.{round_keys}
 use Rattle.fox_tag.specs.Tag.{tag_with}
 

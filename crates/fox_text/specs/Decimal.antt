@@ -1,7 +1,6 @@
 -- Decimal numbers from 0 to a limit, with no leading zero.
 -- Assumes nothing.
-use Rattle.std.specs.Prelude.{◌≡◌, ℕ, zero, suc, ◌+◌, ◌-◌, ◌*◌, ◌/◌, ◌%◌, Bool, true, false, cond, not, ◌&&◌, List, [], ◌∷◌, ◌++◌, leb, ltb, eqb}
-use Rattle.fox_text.specs.declared.decimal.Decimal.{Decimal}
+use Rattle.std.specs.Prelude.{◌≡◌, ℕ, zero, suc, ◌+◌, ◌-◌, ◌*◌, ◌/◌, ◌%◌, Bool, true, false, cond, not, ◌&&◌, List, [], ◌∷◌, ◌++◌, Option, Some, None, leb, ltb, eqb}
 
 abbrev pub is_digit : ℕ → Bool
 is_digit d = leb 48 d && leb d 57
@@ -30,10 +29,9 @@ in_range most ds = all_digits ds && leb (decimal_of ds) most
 unfoldable pub is_decimal : ℕ → List ℕ → Bool
 is_decimal most ds = begins ds && in_range most ds
 
--- what reading returns: whether the text is a decimal in range, and its value, or 0 where it is not
-pub record Found (ok : Bool) (n : ℕ) (r : Decimal) : Type 0 where
-  pub right : r.right ≡ ok
-  pub value : r.value ≡ cond ok n 0
+-- what reading returns: the number where the text is a decimal in range
+pub record Found (ok : Bool) (n : ℕ) (r : Option ℕ) : Type 0 where
+  pub number : r ≡ cond ok (Some n) None
 
 -- the last k digits of a number, or all of its digits, with no leading zero, where it has at most k
 unfoldable pub digits_text : ℕ → ℕ → List ℕ

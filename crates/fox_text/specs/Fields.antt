@@ -1,14 +1,12 @@
 -- A line that is a name, with its `=`, and a value: whether it is well-formed, what it says, and how it is written. Lines are without their line feed here.
 -- Assumes nothing.
-use Rattle.std.specs.Prelude.{◌≡◌, ℕ, ◌+◌, ◌*◌, cond, ◌&&◌, List, [], ◌∷◌, ◌++◌, length, drop}
+use Rattle.std.specs.Prelude.{◌≡◌, ℕ, ◌+◌, ◌*◌, cond, ◌&&◌, List, [], ◌∷◌, ◌++◌, length, drop, Option, Some, None}
 use Rattle.fox_text.specs.Ascii.{starts_with}
 use Rattle.fox_text.specs.Lines.{line}
 use Rattle.fox_text.specs.Rules.{Test, is_line}
 use Rattle.fox_text.specs.Decimal.{is_decimal, decimal_of, decimal_text}
 use Rattle.fox_text.specs.Hex.{is_pairs, pairs_of, hex_text}
 use Rattle.fox_text.specs.Put.{Put, Stored}
-use Rattle.fox_text.specs.declared.decimal.Decimal.{Decimal}
-use Rattle.fox_text.specs.declared.fields.Pairs.{Pairs}
 
 -- the value's text, after the name
 abbrev pub value_text : List ℕ → List ℕ → List ℕ
@@ -29,15 +27,23 @@ decimal_in most name l = cond (is_decimal most (value_text name l)) (decimal_of 
 unfoldable pub pairs_in : ℕ → List ℕ → List ℕ → List ℕ
 pairs_in most name l = cond (is_pairs_line most name l) (pairs_of (value_text name l)) []
 
--- what reading a text's first line returns: whether it is ended and well-formed, and its number
-pub record ReadsDecimal (most : ℕ) (name t : List ℕ) (r : Decimal) : Type 0 where
-  pub right : r.right ≡ is_line (is_decimal_line most name) t
-  pub value : r.value ≡ decimal_in most name (line t)
+-- how many bytes they are
+abbrev pub count_in : ℕ → List ℕ → List ℕ → ℕ
+count_in most name l = length (pairs_in most name l)
 
--- the same of a line of pairs, whose bytes are written at the start of the output
-pub record ReadsPairs (most : ℕ) (name t before after : List ℕ) (r : Pairs) : Type 0 where
-  pub right : r.right ≡ is_line (is_pairs_line most name) t
-  pub stored : Stored most (pairs_in most name (line t)) before after r.count
+-- what reading a text's first line returns: its number, where the line is ended and well-formed
+pub record ReadsDecimal (most : ℕ) (name t : List ℕ) (r : Option ℕ) : Type 0 where
+  pub number : r ≡ cond (is_line (is_decimal_line most name) t) (Some (decimal_in most name (line t))) None
+
+-- the same of a line of pairs: how many bytes they are. The bytes of a well-formed line are written at the start of the output, whether or not it is ended
+pub record ReadsPairs (most : ℕ) (name t before after : List ℕ) (r : Option ℕ) : Type 0 where
+  pub number : r ≡ cond (is_line (is_pairs_line most name) t) (Some (count_in most name (line t))) None
+  pub stored : Stored most (pairs_in most name (line t)) before after (count_in most name (line t))
+
+-- the same, whether or not the line is ended
+pub record TakesPairs (most : ℕ) (name l before after : List ℕ) (r : Option ℕ) : Type 0 where
+  pub number : r ≡ cond (is_pairs_line most name l) (Some (count_in most name l)) None
+  pub stored : Stored most (pairs_in most name l) before after (count_in most name l)
 
 -- such lines as they are written, without and with their line feed
 unfoldable pub decimal_line : List ℕ → ℕ → List ℕ

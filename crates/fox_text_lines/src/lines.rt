@@ -1,18 +1,20 @@
 // A text's first line, what follows it, and how texts are compared.
-ghost use Rattle.std.specs.Prelude.{◌≡◌, drop};
+ghost use Rattle.std.specs.Prelude.{◌≡◌, ◌==◌, drop, position};
 ghost use Rattle.fox_text.specs.Ascii.{same, starts_with};
 ghost use Rattle.fox_text.specs.Lines.{After, Ends, has_line, line};
+
+// The place of the first line feed.
+fn line_feed(t: &[u8]) -> Option<usize>
+    ensures { result ≡ position (λ x. x == 10) t.now }
+{
+    t.iter().position(|x| *x == b'\n')
+}
 
 // The place of the first line feed, or the text's length where there is none.
 pub fn line_end(t: &[u8]) -> usize
     ensures { Ends t.now result }
 {
-    for i in 0..t.len() {
-        if t[i] == 10 {
-            return i;
-        }
-    }
-    t.len()
+    line_feed(t).unwrap_or(t.len())
 }
 
 pub fn has_line(t: &[u8]) -> bool
@@ -32,10 +34,7 @@ pub fn first_line(t: &[u8]) -> &[u8]
 pub fn rest(t: &[u8], at: usize) -> &[u8]
     ensures { result.now ≡ drop at t.now }
 {
-    if at <= t.len() {
-        return &t[at..];
-    }
-    &t[..0]
+    &t[at.min(t.len())..]
 }
 
 pub fn after_line(t: &[u8]) -> &[u8]
@@ -48,19 +47,11 @@ pub fn after_line(t: &[u8]) -> &[u8]
 pub fn starts_with(name: &[u8], t: &[u8]) -> bool
     ensures { result ≡ starts_with name.now t.now }
 {
-    if t.len() < name.len() {
-        return false;
-    }
-    for i in 0..name.len() {
-        if name[i] != t[i] {
-            return false;
-        }
-    }
-    true
+    t.starts_with(name)
 }
 
 pub fn same(a: &[u8], b: &[u8]) -> bool
     ensures { result ≡ same a.now b.now }
 {
-    (a.len() == b.len()) & starts_with(a, b)
+    a == b
 }

@@ -1,23 +1,19 @@
 // Pairs of upper-case hex digits, read from a text of any length.
 ghost use Rattle.std.specs.Prelude.{◌≡◌, true};
+ghost use Rattle.std.specs.List.{list_all};
 ghost use Rattle.std.proofs.lemmas.List.Edits.{sets};
-ghost use Rattle.fox_text.specs.Hex.{Joins, all_hex, is_hex, is_pairs, nibble, pairs_of};
+ghost use Rattle.fox_text.specs.Hex.{Joins, is_hex, is_pairs, nibble, pairs_of};
 
 pub fn is_hex(d: u8) -> bool
     ensures { result ≡ is_hex d }
 {
-    ((48 <= d) & (d <= 57)) | ((65 <= d) & (d <= 70))
+    matches!(d, b'0'..=b'9' | b'A'..=b'F')
 }
 
 fn all_hex(ds: &[u8]) -> bool
-    ensures { result ≡ all_hex ds.now }
+    ensures { result ≡ list_all is_hex ds.now }
 {
-    for i in 0..ds.len() {
-        if !is_hex(ds[i]) {
-            return false;
-        }
-    }
-    true
+    ds.iter().all(|d| is_hex(*d))
 }
 
 // Whether the digits are pairs of hex digits, at most `most` of them.
@@ -31,7 +27,7 @@ fn nibble(d: u8) -> u8
     requires { is_hex d ≡ true }
     ensures { result ≡ nibble d }
 {
-    if d < 65 { d - 48 } else { d - 55 }
+    if d < b'A' { d - b'0' } else { d - b'A' + 10 }
 }
 
 // Writes the bytes of the pairs at the start of the output, and nothing past them.
@@ -39,8 +35,8 @@ pub fn join_pairs(ds: &[u8], out: &mut [u8])
     requires { Joins ds.now out.old }
     ensures { out.new ≡ sets out.old 0 (pairs_of ds.now) }
 {
-    let n = ds.len() / 2;
-    for i in 0..n {
-        out[i] = nibble(ds[i * 2]) * 16 + nibble(ds[i * 2 + 1]);
+    // By the pair's index: tried `zip` over `out.iter_mut()` and the chunks: the proof does not close, since it knows nothing of a place that `zip` lends.
+    for (i, pair) in ds.chunks_exact(2).enumerate() {
+        out[i] = nibble(pair[0]) * 16 + nibble(pair[1]);
     }
 }

@@ -1,4 +1,5 @@
 // Texts written into a buffer from a place on. Each function returns the place after its last byte, and promises a limit for it.
+// Buffer and place are two parameters, since a writer that holds both is no plainer: a run file's writer reads and moves the buffer's bytes between two writes.
 ghost use Rattle.std.specs.Prelude.{◌≡◌, ◌+◌, ◌*◌, ◌≤◌, ◌<◌, length};
 ghost use Rattle.fox_text.specs.Decimal.{digits_text};
 ghost use Rattle.fox_text.specs.Hex.{digit, hex_text};
@@ -9,10 +10,9 @@ pub fn put(out: &mut [u8], at: usize, text: &[u8]) -> usize
     requires { at + length text.now ≤ length out.old }
     ensures { Put (length text.now) text.now out.old out.new at result }
 {
-    for i in 0..text.len() {
-        out[at + i] = text[i];
-    }
-    at + text.len()
+    let end = at + text.len();
+    out[at..end].copy_from_slice(text);
+    end
 }
 
 // The last `places` digits of a number, or all of its digits, with no leading zero, where it has at most `places`.
@@ -24,11 +24,11 @@ pub fn put_digits(out: &mut [u8], at: usize, n: u32, places: usize) -> usize
         return at;
     }
     if n < 10 {
-        out[at] = 48 + n as u8;
+        out[at] = b'0' + n as u8;
         return at + 1;
     }
     let last = put_digits(out, at, n / 10, places - 1);
-    out[last] = 48 + (n % 10) as u8;
+    out[last] = b'0' + (n % 10) as u8;
     last + 1
 }
 
@@ -36,18 +36,18 @@ fn digit(n: u8) -> u8
     requires { n < 16 }
     ensures { result ≡ digit n }
 {
-    if n < 10 { 48 + n } else { 55 + n }
+    if n < 10 { b'0' + n } else { b'A' + (n - 10) }
 }
 
 pub fn put_hex(out: &mut [u8], at: usize, bytes: &[u8]) -> usize
     requires { at + length bytes.now * 2 ≤ length out.old }
     ensures { Put (length bytes.now * 2) (hex_text bytes.now) out.old out.new at result }
 {
-    for i in 0..bytes.len() {
-        out[at + i * 2] = digit(bytes[i] / 16);
-        out[at + i * 2 + 1] = digit(bytes[i] % 16);
+    let mut end = at;
+    for b in bytes {
+        end = put(out, end, &[digit(*b / 16), digit(*b % 16)]);
     }
-    at + bytes.len() * 2
+    end
 }
 
 // A name, a number of at most five digits, and a line feed.

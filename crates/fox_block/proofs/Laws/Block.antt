@@ -6,9 +6,9 @@ use mathlib.Core.Bool.{Bool, true, false, cond}
 use Prim.Native.Nat.{ℕ, ◌%◌}
 use native.Mathlib.Omega.{arith}
 use lib.Dec.{eqb}
-use lib.ListN.{length}
+use lib.ListN.{length, replicate}
 use borrow.Author.Tests.{eq-eqb, ne_eqb, eqb-true, eqb-false}
-use Rattle.fox_layers.specs.Words.{split}
+use Rattle.fox_layers.specs.Words.{joined, split}
 use Rattle.fox_rounds.specs.Skeleton.{size, round, between, in_order, turned}
 use Rattle.fox_rounds.specs.declared.fox64.Fox64.{Fox64}
 use Rattle.fox_rounds.specs.declared.fox128.Fox128.{Fox128}
@@ -48,6 +48,14 @@ state-128 c bs n = simp (ne_eqb c 64 n)
 
 -- a state has the cipher's size, and rounds do not change it
 
+pub sized-64 : (x : Fox64) → size (Of64 x) ≡ block_size 64
+unfolding size
+sized-64 x = sym (size_64 64 refl)
+
+pub sized-128 : (x : Fox128) → size (Of128 x) ≡ block_size 128
+unfolding size block_size
+sized-128 x = refl
+
 pub state-size : (c : ℕ) (bs : List ℕ) → size (state c bs) ≡ block_size c
 unfolding size state block_size
 state-size c bs = both (eqb c 64)
@@ -55,6 +63,20 @@ state-size c bs = both (eqb c 64)
     both : (t : Bool) → size (cond t (Of64 (state64 bs)) (Of128 (state128 bs))) ≡ cond t 8 16
     both true = refl
     both false = refl
+
+-- the state of a zero block has zero words
+
+pub zero-64 : state 64 (replicate (block_size 64) 0) ≡ Of64 (record { l = 0; r = 0 })
+unfolding state64 state joined block_size
+zero-64 = refl
+
+pub zero-128 : state 128 (replicate (block_size 128) 0) ≡ Of128 (record { ll = 0; lr = 0; rl = 0; rr = 0 })
+unfolding state128 state joined block_size
+zero-128 = refl
+
+pub zero-other : (c : ℕ) → (c ≡ 64 → ⊥) → state 128 (replicate (block_size 128) 0) ≡ state c (replicate (block_size c) 0)
+unfolding state block_size
+zero-other c n = rw (ne_eqb c 64 n) refl
 
 pub round-size : (k : ℕ) (x : State) → size (round k x) ≡ size x
 unfolding size round

@@ -1,15 +1,18 @@
--- A block's bytes and the words of a state determine each other: bytes to state to bytes, and state to bytes to state, change nothing.
+-- A block's bytes and the words of a state determine each other: bytes to state to bytes, and state to bytes to state, change nothing. XOR of states is XOR of
+-- their bytes.
 -- Assumes nothing.
-use mathlib.Core.Path.{◌≡◌, sym, ap, subst}
+use mathlib.Core.Path.{◌≡◌, sym, ap, ap₂, ◌∙◌, subst}
 use mathlib.Core.Bool.{Bool, true, false, cond}
-use mathlib.Core.List.{List}
+use mathlib.Core.List.{List, ◌++◌}
 use Prim.Native.Nat.{ℕ, ◌*◌, ◌^◌, ◌<◌, ◌≤◌}
 use native.Mathlib.Omega.{arith}
 use lib.Dec.{eqb}
 use lib.ListN.{length, take, drop, length-drop}
 use lib.Seq.{length-take-le}
-use Rattle.fox_layers.specs.Words.{joined, split, Bytes}
-use Rattle.fox_layers.proofs.Laws.Words.{joined-lt, joined-split, take-bytes, drop-bytes}
+use Rattle.fox_layers.specs.Words.{joined, split, Bytes, xor_each}
+use Rattle.fox_layers.proofs.Laws.Words.{joined-lt, joined-split, split-xor, take-bytes, drop-bytes}
+use Rattle.fox_rounds.specs.Skeleton.{size}
+use Rattle.fox_rounds.specs.Xor.{xor64, xor128, xor_states}
 use Rattle.fox_rounds.specs.declared.fox64.Fox64.{Fox64}
 use Rattle.fox_rounds.specs.declared.fox128.Fox128.{Fox128}
 use Rattle.fox_rounds.specs.declared.state.State.{State}
@@ -95,3 +98,26 @@ module _ (c : ℕ) (block : List ℕ) (b : BlockOf c block) where
       there : (t : Bool) → length block ≡ cond t 8 16 → Fits t (cond t (Of64 (state64 block)) (Of128 (state128 block)))
       there true n = state64-words block b.bytes n
       there false n = state128-words block b.bytes n
+
+-- the bytes of two blocks XORed as states are the XOR of their bytes
+
+bytes64-xored : (x y : Fox64) → bytes64 (xor64 x y) ≡ xor_each (bytes64 x) (bytes64 y)
+unfolding xor64 bytes64 split xor_each
+bytes64-xored x y = ap₂ (λ (a b : List ℕ). a ++ b) (split-xor 4 x.l y.l) (split-xor 4 x.r y.r)
+
+bytes128-xored : (x y : Fox128) → bytes128 (xor128 x y) ≡ xor_each (bytes128 x) (bytes128 y)
+unfolding xor128 bytes128 split xor_each
+bytes128-xored x y =
+    ap₂ (λ (a b : List ℕ). a ++ b) (split-xor 4 x.ll y.ll)
+    (ap₂ (λ (a b : List ℕ). a ++ b) (split-xor 4 x.lr y.lr) (ap₂ (λ (a b : List ℕ). a ++ b) (split-xor 4 x.rl y.rl) (split-xor 4 x.rr y.rr)))
+
+pub bytes-xored : (c : ℕ) (x : State) (ds : List ℕ) → size x ≡ block_size c → BlockOf c ds → bytes (xor_states x (state c ds)) ≡ xor_each (bytes x) ds
+unfolding state block_size bytes xor_states size
+bytes-xored c x ds e b = there (eqb c 64) x e ∙ ap (xor_each (bytes x)) (bytes-state c ds b)
+  where
+    there : (t : Bool) (y : State) → size y ≡ cond t 8 16
+        → bytes (xor_states y (cond t (Of64 (state64 ds)) (Of128 (state128 ds)))) ≡ xor_each (bytes y) (bytes (cond t (Of64 (state64 ds)) (Of128 (state128 ds))))
+    there true (Of64 y) n = bytes64-xored y (state64 ds)
+    there true (Of128 y) n = absurd (omega (arith, n))
+    there false (Of64 y) n = absurd (omega (arith, n))
+    there false (Of128 y) n = bytes128-xored y (state128 ds)

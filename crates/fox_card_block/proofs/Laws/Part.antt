@@ -1,14 +1,8 @@
 -- Part of a block's rounds by the definition: what the schedule of a key gives; parts that follow each other are one part; and all rounds are the block sealed
 -- or opened.
 -- Assumes nothing.
-use mathlib.Core.Path.{◌≡◌, refl, sym, ap, ap₂, ◌∙◌}
-use mathlib.Core.Bool.{Bool}
-use mathlib.Core.List.{List}
-use Prim.Native.Nat.{ℕ, zero, suc, ◌+◌, ◌-◌, ◌*◌, ◌%◌, ◌^◌, ◌<◌, ◌≤◌}
-use native.Mathlib.Nat.{not-suc-le-zero}
-use native.Mathlib.Omega.{arith}
-use lib.Dec.{ltb, eqb}
-use borrow.Author.Tests.{lt-ltb, le-ltb, ltb-true, ltb-false}
+use Rattle.std.proofs.Common.{◌≡◌, ℕ, zero, suc, ◌+◌, ◌-◌, ◌*◌, ◌%◌, ◌^◌, ◌<◌, ◌≤◌, min, Bool, List, ltb, eqb, refl, sym, ap, ap₂, ◌∙◌, arith, lt-ltb, le-ltb, ltb-false, not-suc-le-zero}
+use borrow.Author.Tests.{ltb-true}
 use Rattle.fox_layers.specs.Lists.{numbered}
 use Rattle.fox_layers.proofs.Laws.Lists.{by-test, numbered-same}
 use Rattle.fox_rounds.specs.Skeleton.{through, size, round, between, place, turned}
@@ -36,6 +30,11 @@ least-below a b h = simp (lt-ltb a b h)
 pub least_above : (a b : ℕ) → b ≤ a → least a b ≡ b
 unfolding least
 least_above a b h = simp (le-ltb a b h)
+
+-- the library's name for it
+pub least-min : (a b : ℕ) → least a b ≡ min a b
+unfolding least
+least-min a b = by-test (ltb a b) (λ t. rw t (omega (arith, ltb-true a b t))) (λ t. rw t (omega (arith, ltb-false a b t)))
 
 pub least-most : (a b : ℕ) → least a b ≤ b
 unfolding least

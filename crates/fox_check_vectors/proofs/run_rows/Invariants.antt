@@ -5,7 +5,7 @@ use lib.ListN.{length}
 use Rattle.fox_check_vectors.proofs.run_rows.Given as goal
 
 abbrev pub invariant-loop-left : goal.invariant-loop-left
-invariant-loop-left l = (l.rows + l.left ≤ length l.text) × (l.differ ≤ l.rows) × (l.cut ≤ length l.text)
+invariant-loop-left l = (l.rows + length l.left ≤ length l.text) × (l.differ ≤ l.rows) × (l.cut ≤ length l.text)
 
 abbrev pub decreases-loop-left : goal.decreases-loop-left
-decreases-loop-left l = l.left
+decreases-loop-left l = length l.left

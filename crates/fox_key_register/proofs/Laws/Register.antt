@@ -2,11 +2,13 @@
 -- Assumes nothing.
 use mathlib.Core.Path.{◌≡◌, refl, sym, ap, ◌∙◌}
 use mathlib.Core.Bool.{Bool, true, false, not}
+use mathlib.Core.List.{List, [], ◌∷◌, ◌++◌}
 use Prim.Native.Nat.{ℕ, zero, suc, ◌+◌, ◌-◌, ◌*◌, ◌/◌, ◌%◌, ◌^◌, ◌≤◌, ◌<◌}
 use native.Mathlib.Nat.{zero-add, suc-add, add_comm, one-mul}
 use native.Mathlib.Numerals.{add-one}
 use native.Mathlib.Omega.{arith}
 use lib.Dec.{ltb, eqb}
+use lib.ListN.{length, length-append}
 use lib.Bits.{xor_shr, xor_mod, xor_comm, xor_lt, xor_shifted}
 use borrow.Author.Tests.{ltb-true, ltb-false, lt-ltb, le-ltb, eq-eqb, ne_eqb, eqb-true, eqb-false}
 use Rattle.fox_layers.specs.Words.{◌⊕◌, joined}
@@ -131,6 +133,15 @@ pub step-undone : (on : Bool) (x : ℕ) → x < 2 ^ 24 → step (not on) (step o
 unfolding step
 step-undone true x h = back-clocked x h
 step-undone false x h = clocked-back x h
+
+-- as many steps on, or back, as a list has numbers: with none, and with one more
+pub stepped-none : (on : Bool) (x : ℕ) → x ≡ stepped on 0 x
+unfolding stepped iterate
+stepped-none on x = refl
+
+pub stepped-more : (on : Bool) (ns : List ℕ) (n x : ℕ) → step on (stepped on (length ns) x) ≡ stepped on (length (ns ++ n ∷ [])) x
+unfolding stepped
+stepped-more on ns n x = sym (rw length-append (iterate-suc (length ns) (step on) x))
 
 -- and so n steps
 pub stepped-lt : (on : Bool) (n x : ℕ) → x < 2 ^ 24 → stepped on n x < 2 ^ 24

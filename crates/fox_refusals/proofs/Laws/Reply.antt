@@ -1,11 +1,12 @@
 -- A reply from its parts, and the two cases of how a call ends, served or refused: it is served exactly where the refusals' number is 0.
 -- Assumes nothing.
-use Rattle.std.proofs.Common.{◌≡◌, ℕ, ◌<◌, true, cond, eqb, List, ◌++◌, length, sym, refl, ap, ◌∙◌, ap₂, arith, eq-eqb, ne_eqb, eqb-true}
+use Rattle.std.proofs.Common.{◌≡◌, ℕ, Result, Ok, Err, ◌<◌, true, cond, eqb, List, ◌++◌, length, sym, refl, ap, ◌∙◌, ap₂, arith, eq-eqb, ne_eqb, eqb-true}
 use Rattle.fox_layers.proofs.Laws.Lists.{by-test}
 use Rattle.fox_refusals.specs.Refusals.{Refusal, refusal_of, First, for_turn, Keyed}
 use Rattle.fox_refusals.specs.Reply.{Reply, Verdict, Served, Refused, Same}
 use Rattle.fox_refusals.specs.Handed.{Handed, answer}
-use Rattle.fox_refusals.specs.declared.answer.Answer.{Answer}
+use Rattle.fox_refusals.specs.Answer.{Answer, number_of, number_in, answer_of}
+use Rattle.fox_refusals.specs.declared.refusal.Refusal as code
 use Rattle.fox_refusals.proofs.Laws.Refusals.{first-given, given-first, short-key}
 
 -- the value that a `cond` on the refusals' number takes
@@ -34,6 +35,10 @@ refused-reply {rs} {value} {before} e isnt refused =
       count = refused.1 ∙ passed_over (refusal_of rs) (length before) 0 refusal;
       output = passed_over (refusal_of rs) value before refusal;
     }
+
+-- no refusal has the number of a served call
+pub number_not_zero : (e : code.Refusal) → number_of e ≡ 0 → ⊥
+number_not_zero e = grind arith
 
 -- a reply fixes the value only where the call is served
 pub reply-as : {rs : List Refusal} {value other before after : List ℕ} {r : Answer} → (refusal_of rs ≡ 0 → value ≡ other) → Reply rs value before after r
@@ -106,14 +111,6 @@ same {rs₁} {rs₂} {value} e l a b =
       same_before = λ q. a.output ∙ ap₂ (λ (rs : List Refusal) (old : List ℕ). cond (eqb (refusal_of rs) 0) value old) e q ∙ sym b.output;
     }
 
--- a call that returns the number alone: where code refuses with it, and where it serves
-
-pub handed-refused : {rs : List Refusal} {value before : List ℕ} {n : ℕ} → n ≡ refusal_of rs → (n ≡ 0 → ⊥) → Handed rs value before before n
-handed-refused {rs} {value} {before} e isnt = record { refusal = e; output = passed_over (refusal_of rs) value before (λ z. isnt (e ∙ z)) }
-
-pub handed-served : {rs : List Refusal} {value before after : List ℕ} → refusal_of rs ≡ 0 → after ≡ value → Handed rs value before after 0
-handed-served {rs} {value} {before} zero is = record { refusal = sym zero; output = is ∙ chosen (refusal_of rs) value before zero }
-
 -- what a call over the C interface returns is a reply, with the count that follows from the number
 pub handed-reply : {rs : List Refusal} {value before after : List ℕ} {r : ℕ}
     → Handed rs value before after r → Reply rs value before after (answer r (length before))
@@ -121,8 +118,22 @@ unfolding answer
 handed-reply {before = before} h =
     record { refusal = h.refusal; count = ap (λ (n : ℕ). cond (eqb n 0) (length before) 0) h.refusal; output = h.output }
 
--- and so is an answer with that number, and the count that follows
-pub handed-answer : {rs : List Refusal} {value before after : List ℕ} {n : ℕ} {r : Answer} → Handed rs value before after n → r.refusal ≡ n
-    → r.count ≡ cond (eqb n 0) (length before) 0 → Reply rs value before after r
-handed-answer {before = before} h refusal count =
-    record { refusal = refusal ∙ h.refusal; count = count ∙ ap (λ (m : ℕ). cond (eqb m 0) (length before) 0) h.refusal; output = h.output }
+-- a call's answer as code gives it: refused by its tests, with the output as it was; and served, with the whole output's length as count
+
+pub refused_answer : {rs : List Refusal} {value before : List ℕ} {e : code.Refusal} {r : Result ℕ code.Refusal} → r ≡ Err e → number_of e ≡ refusal_of rs
+    → Reply rs value before before (answer_of r)
+refused_answer {rs} {value} {before} {e} is number = rw is (refused-reply number (number_not_zero e) (refl, refl))
+
+pub served_answer : {rs : List Refusal} {value before after : List ℕ} {n : ℕ} → refusal_of rs ≡ 0 → n ≡ length before → after ≡ value
+    → Reply rs value before after (answer_of (Ok n))
+served_answer {rs} {value} {before} {after} zero count output = served-reply rs value before after (answer_of (Ok _)) zero refl count output
+
+-- the refusal number of an answer with a count
+pub answered : (r : Result ℕ code.Refusal) → (answer_of r).refusal ≡ number_in r
+answered (Ok n) = refl
+answered (Err e) = refl
+
+-- a reply as the number alone
+pub reply_handed : {rs : List Refusal} {value before after : List ℕ} (r : Result ℕ code.Refusal) → Reply rs value before after (answer_of r)
+    → Handed rs value before after (number_in r)
+reply_handed r reply = record { refusal = sym (answered r) ∙ reply.refusal; output = reply.output }

@@ -8,7 +8,7 @@ use Prim.Native.Nat.{ℕ}
 use lib.ListN.{length}
 use Rattle.fox_refusals.specs.Refusals.{Stretched}
 use Rattle.fox_refusals.specs.Reply.{Served}
-use Rattle.fox_refusals.specs.declared.answer.Answer.{Answer}
+use Rattle.fox_refusals.specs.Answer.{Answer}
 use Rattle.fox_refusals.proofs.Laws.Refusals.{stretched, stretched-served}
 use Rattle.fox_refusals.proofs.Laws.Reply.{served}
 use Rattle.fox_run.specs.Run.{run_with}

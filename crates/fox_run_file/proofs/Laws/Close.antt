@@ -11,7 +11,7 @@ use lib.ListN.{length, take, drop, length-append, length-drop}
 use lib.Seq.{drop-drop}
 use borrow.Author.Tests.{ltb-true, eqb-true, leb-true}
 use Rattle.fox_refusals.specs.Refusals.{refusal_of, block_size, same, other_tag, for_tag_test, Keyed}
-use Rattle.fox_refusals.specs.declared.answer.Answer.{Answer}
+use Rattle.fox_refusals.specs.Answer.{Answer}
 use Rattle.fox_refusals.proofs.Laws.Refusals.{tag-verdict}
 use Rattle.fox_tag.specs.Tag.{tag_with}
 use Rattle.fox_tag.specs.Promise.{TestsTagWith}

@@ -2,18 +2,20 @@
 -- Assumes nothing.
 use mathlib.Core.Path.{◌≡◌, sym, ◌∙◌}
 use mathlib.Core.Bool.{Bool, true, false, true≢false}
-use mathlib.Core.List.{List, [], ◌∷◌, ◌++◌}
+use mathlib.Core.List.{List}
 use Prim.Native.Nat.{ℕ, ◌≤◌}
 use native.Mathlib.Omega.{arith}
+use borrow.Author.Rules.{rules}
+use Rattle.std.specs.Prelude.{Some, None}
+use Rattle.std.specs.Bool.{then_some}
 use lib.Dec.{eqb, ltb}
-use lib.ListN.{length, take, length-append}
+use lib.ListN.{length, take}
 use borrow.Author.Tests.{eqb-true, ltb-true, ltb-false}
 use Rattle.fox_refusals.specs.Refusals.{block_size}
 use Rattle.fox_text.specs.Ascii.{starts_with}
 use Rattle.fox_text.specs.Lines.{line}
 use Rattle.fox_text.specs.Rules.{is_line}
 use Rattle.fox_text.specs.Put.{Put}
-use Rattle.fox_text.specs.Decimal.{decimal_text}
 use Rattle.fox_text.specs.Fields.{is_pairs_line, pairs_in, decimal_line_text}
 use Rattle.fox_text.proofs.Laws.Tests.{both, by-test}
 use Rattle.fox_text.proofs.Laws.Lines.{starts-short}
@@ -36,30 +38,29 @@ starts-long name t e =
     by-test (ltb (length t) (length name)) (λ h. absurd (true≢false (sym e ∙ starts-short name t (ltb-true (length t) (length name) h))))
     (λ h. ltb-false (length t) (length name) h)
 
--- a line of a name and a number has a line feed, so its length 0 stands for its absence
-
-text-some : (name : List ℕ) (number : ℕ) → 1 ≤ length (decimal_line_text name number)
-unfolding decimal_line_text
-text-some name number = omega (arith, length-append (name ++ decimal_text number) (10 ∷ []))
+-- a line of a name and a number
 
 module _ (name : List ℕ) (number : ℕ) (t : List ℕ) where
-  pub found-line : {n : ℕ} → starts_with (decimal_line_text name number) t ≡ true → n ≡ length (decimal_line_text name number) → FindsLine name number t n
+  found-line : {n : ℕ} → starts_with (decimal_line_text name number) t ≡ true → n ≡ length (decimal_line_text name number) → FindsLine name number t (Some n)
   found-line starts long =
       let fits = starts-long (decimal_line_text name number) t starts in
-      record { is = rw starts long; within = omega arith }
+      record { is = rw (starts, long); within = omega arith }
 
-  pub no_line : starts_with (decimal_line_text name number) t ≡ false → FindsLine name number t 0
-  no_line e = record { is = rw e; within = omega arith }
+  no_line : starts_with (decimal_line_text name number) t ≡ false → FindsLine name number t None
+  no_line e = record { is = rw e; within = search rules }
 
-  pub line-missing : {n : ℕ} → FindsLine name number t n → n ≡ 0 → starts_with (decimal_line_text name number) t ≡ false
-  line-missing found none =
-      by-test (starts_with (decimal_line_text name number) t)
-      (λ e. let long = rw e at found.is in absurd (omega (arith, text-some name number))) (λ e. e)
+  pub line-told : {n : ℕ} {b : Bool} → b ≡ starts_with (decimal_line_text name number) t → n ≡ length (decimal_line_text name number)
+      → FindsLine name number t (then_some b n)
+  line-told same long =
+      by-test (starts_with (decimal_line_text name number) t) (λ e. rw (same, e) (found-line e long)) (λ e. rw (same, e) (no_line e))
 
-  pub line-there : {n : ℕ} → FindsLine name number t n → (n ≡ 0 → ⊥)
+  pub line-missing : FindsLine name number t None → starts_with (decimal_line_text name number) t ≡ false
+  line-missing found = by-test (starts_with (decimal_line_text name number) t) (λ e. let is = rw e at found.is in cc) (λ e. e)
+
+  pub line-there : {n : ℕ} → FindsLine name number t (Some n)
       → (starts_with (decimal_line_text name number) t ≡ true) × (n ≡ length (decimal_line_text name number))
-  line-there found some =
-      by-test (starts_with (decimal_line_text name number) t) (λ e. (e, rw e at found.is)) (λ e. absurd (some (rw e at found.is)))
+  line-there found =
+      by-test (starts_with (decimal_line_text name number) t) (λ e. let is = rw e at found.is in (e, cc)) (λ e. let is = rw e at found.is in cc)
 
 -- a right line's block has the cipher's size, and what reading the line put at the start of a buffer is this block
 

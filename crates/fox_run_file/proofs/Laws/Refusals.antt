@@ -1,15 +1,13 @@
--- The number of a list of refusals by that of its first part, the answers of calls that write nothing, and what holds where a call of the run file meets no
+-- The number of a list of refusals by that of its first part, and what holds where a call of the run file meets no
 -- refusal. A list's number is 0 only where each of its tests is false, and so is that of its first part.
 -- Assumes nothing.
-use mathlib.Core.Path.{◌≡◌, refl, sym, ◌∙◌}
-use mathlib.Core.Bool.{true, false, cond}
+use mathlib.Core.Path.{◌≡◌, refl, ◌∙◌}
+use mathlib.Core.Bool.{true, false}
 use mathlib.Core.List.{List, [], ◌∷◌, ◌++◌}
 use mathlib.Core.Logic.{⊎_elim}
 use Prim.Native.Nat.{ℕ, ◌≤◌, ◌<◌}
 use native.Mathlib.Omega.{arith}
 use lib.Dec.{eqb}
-use Rattle.fox_refusals.specs.declared.answer.Answer.{Answer}
-use Rattle.fox_refusals.proofs.Laws.Reply.{chosen, passed_over}
 use Rattle.fox_text.proofs.Laws.Tests.{by-test, neither}
 use borrow.Author.Tests.{ltb-false, eqb-true, le-ltb, eq-eqb, not-false}
 use Rattle.fox_refusals.specs.Refusals.{Refusal, refusal_of, differs, block_size, wrong_cipher, wrong_rounds, long_key, short_key, wrong_block_length, for_key}
@@ -32,16 +30,6 @@ past_first (x ∷ xs) ys p = rw p.0 (past_first xs ys p.1)
 
 pub found-later : (xs ys : List Refusal) → numbered xs ≡ true → refusal_of xs ≡ 0 → refusal_of (xs ++ ys) ≡ refusal_of ys
 found-later xs ys some e = past_first xs ys (served-passed xs some e)
-
--- a call that writes nothing and tells a number as its count: where it is refused with the number that it found, and where it is served
-
-pub told-refused : (rs : List Refusal) (n : ℕ) {m : ℕ} {r : Answer} → m ≡ refusal_of rs → (m ≡ 0 → ⊥) → (r.refusal ≡ m) × (r.count ≡ 0)
-    → (r.refusal ≡ refusal_of rs) × (r.count ≡ cond (eqb (refusal_of rs) 0) n 0)
-told-refused rs n e isnt refused = (refused.0 ∙ e, refused.1 ∙ passed_over (refusal_of rs) n 0 (λ z. isnt (e ∙ z)))
-
-pub told-served : (rs : List Refusal) {n : ℕ} {r : Answer} → refusal_of rs ≡ 0 → (r.refusal ≡ 0) × (r.count ≡ n)
-    → (r.refusal ≡ refusal_of rs) × (r.count ≡ cond (eqb (refusal_of rs) 0) n 0)
-told-served rs {n} z served = (served.0 ∙ sym z, served.1 ∙ chosen (refusal_of rs) n 0 z)
 
 -- what holds past the refusals
 

@@ -2,11 +2,14 @@
 -- scans and what comes after the last, so that they can be passed over one by one.
 -- Assumes nothing.
 use mathlib.Core.Path.{◌≡◌, refl, sym, ap, ◌∙◌}
-use mathlib.Core.Bool.{Bool, true, false, ◌&&◌, true≢false}
+use mathlib.Core.Bool.{Bool, true, false, ◌&&◌}
 use mathlib.Core.List.{List, [], ◌∷◌}
 use Prim.Native.Nat.{ℕ, zero, suc, ◌+◌, ◌-◌, ◌≤◌, ◌<◌}
 use native.Mathlib.Numerals.{add-one}
 use native.Mathlib.Omega.{arith}
+use borrow.Author.Rules.{rules}
+use Rattle.std.specs.Prelude.{Some, None}
+use Rattle.std.specs.Bool.{then_some}
 use lib.ListN.{length, take, drop, length-drop}
 use lib.Seq.{length-take-le, drop-drop}
 use Rattle.fox_text.specs.Ascii.{starts_with}
@@ -14,12 +17,12 @@ use Rattle.fox_text.specs.Lines.{line, line_end}
 use Rattle.fox_text.specs.Rules.{is_line}
 use Rattle.fox_text.specs.Decimal.{is_decimal}
 use Rattle.fox_text.specs.Fields.{value_text, is_decimal_line, decimal_in, decimal_line_text, ReadsDecimal}
-use Rattle.fox_text.specs.declared.decimal.Decimal.{Decimal}
 use Rattle.fox_text.proofs.Laws.Tests.{both, by-test}
 use Rattle.fox_text.proofs.Laws.Decimals.{decimal-digits}
+use Rattle.fox_text.proofs.Laws.Fields.{decimal-read, decimal-wrong}
 use Rattle.fox_run_file.specs.Format.{scan_name, bytes_name}
 use Rattle.fox_run_file.specs.Says.{bytes_text, from_bytes, size_in, head_in, is_scan, bytes_in, after_scan, scans_in, after_scans}
-use Rattle.fox_run_file.specs.Parts.{FindsLine, FindsScan}
+use Rattle.fox_run_file.specs.Parts.{FindsLine, scan_in, FindsScan}
 use Rattle.fox_run_file.specs.declared.scan.Scan.{Scan}
 use Rattle.fox_run_file.proofs.Laws.Lines.{starts-long, line-missing, line-there}
 
@@ -32,10 +35,6 @@ decimal-small most name l =
 pub size_small : (number : ℕ) (t : List ℕ) → size_in number t ≤ 65536
 unfolding size_in
 size_small number t = decimal-small 65536 bytes_name (line (bytes_text number t))
-
--- what is returned where there is no whole scan
-abbrev pub none : Scan
-none = record { whole = false; head = 0; size = 0 }
 
 module _ (number : ℕ) (t : List ℕ) where
   pub scan-fits : is_scan number t ≡ true → head_in number t + suc (size_in number t) ≤ length t
@@ -55,30 +54,15 @@ module _ (number : ℕ) (t : List ℕ) where
 
   -- what looking for a scan returns
 
-  no-scan : is_scan number t ≡ false → FindsScan number t none
-  no-scan e =
-      record {
-        whole = sym e;
-        head = rw e;
-        size = rw e;
-        small = omega arith;
-        within = omega arith;
-        ends = λ p. absurd (true≢false (sym p));
-      }
+  no-scan : is_scan number t ≡ false → FindsScan number t None
+  no-scan e = record { is = rw e; small = search rules; ends = search rules }
 
   found-scan : {h s : ℕ} → is_scan number t ≡ true → h ≡ head_in number t → s ≡ size_in number t
-      → FindsScan number t (record { whole = true; head = h; size = s })
+      → FindsScan number t (Some (record { head = h; size = s }))
   found-scan e head size =
       let fits = scan-fits e in
       let small = size_small number t in
-      record {
-        whole = sym e;
-        head = rw e head;
-        size = rw e size;
-        small = omega arith;
-        within = omega arith;
-        ends = λ p. omega arith;
-      }
+      record { is = rw (e, head, size); small = omega arith; ends = omega arith }
 
 -- where a scan's two lines are there, its line feed settles whether it is whole
 pub record Settled (number : ℕ) (t : List ℕ) (feed : Bool) (h s : ℕ) : Type 0 where
@@ -86,50 +70,52 @@ pub record Settled (number : ℕ) (t : List ℕ) (feed : Bool) (h s : ℕ) : Typ
   pub head : h ≡ head_in number t
   pub size : s ≡ size_in number t
 
-pub feed-missing : {number : ℕ} {t : List ℕ} {feed : Bool} {h s : ℕ} → Settled number t feed h s → feed ≡ false
-    → FindsScan number t none
-feed-missing {number} {t} by e = no-scan number t (sym by.is ∙ e)
-
-pub feed-there : {number : ℕ} {t : List ℕ} {feed : Bool} {h s : ℕ} → Settled number t feed h s → feed ≡ true
-    → FindsScan number t (record { whole = true; head = h; size = s })
-feed-there {number} {t} by e = found-scan number t (sym by.is ∙ e) by.head by.size
+pub feed-told : {number : ℕ} {t : List ℕ} {feed : Bool} {h s : ℕ} → Settled number t feed h s
+    → FindsScan number t (then_some feed (record { head = h; size = s }))
+feed-told {number} {t} {feed} by =
+    by-test feed (λ e. rw e (found-scan number t (sym by.is ∙ e) by.head by.size)) (λ e. rw e (no-scan number t (sym by.is ∙ e)))
 
 -- a scan looked for step by step: its first line, its second line, and the line feed after its bytes
 
-pub first-missing : (number : ℕ) (t : List ℕ) {n : ℕ} → FindsLine scan_name number t n → n ≡ 0
-    → FindsScan number t none
+pub first-missing : (number : ℕ) (t : List ℕ) → FindsLine scan_name number t None → FindsScan number t None
 unfolding is_scan
-first-missing number t first e = no-scan number t (rw (line-missing scan_name number t first e))
+first-missing number t first = no-scan number t (rw (line-missing scan_name number t first))
 
-module _ (number : ℕ) (t : List ℕ) {n : ℕ} {second : List ℕ} {d : Decimal} (first : FindsLine scan_name number t n) (some : n ≡ 0 → ⊥)
-    (is-second : second ≡ drop n t)
-    (read : ReadsDecimal 65536 bytes_name second d) where
+module _ (number : ℕ) (t : List ℕ) {n : ℕ} {second : List ℕ} (first : FindsLine scan_name number t (Some n))
+    (is-second : second ≡ drop n t) where
   second-text : second ≡ bytes_text number t
-  second-text = is-second ∙ rw (line-there scan_name number t first some).1
+  second-text = is-second ∙ rw (line-there scan_name number t first).1
 
-  pub second-missing : d.right ≡ false → FindsScan number t none
+  pub second-missing : ReadsDecimal 65536 bytes_name second None → FindsScan number t None
   unfolding is_scan
-  second-missing wrong = no-scan number t (rw ((line-there scan_name number t first some).0, ← second-text, ← read.right, wrong))
+  second-missing read = no-scan number t (rw ((line-there scan_name number t first).0, ← second-text, decimal-wrong read))
 
-  pub second-read : {e : ℕ} {bytes after : List ℕ} {feed : Bool} → d.right ≡ true → e ≡ line_end second → bytes ≡ drop (n + e + 1) t
-      → after ≡ drop d.value bytes → feed ≡ starts_with (10 ∷ []) after → Settled number t feed (n + e + 1) d.value
+  pub second-read : {e s : ℕ} {bytes after : List ℕ} {feed : Bool} → ReadsDecimal 65536 bytes_name second (Some s) → e ≡ line_end second
+      → bytes ≡ drop (n + e + 1) t → after ≡ drop s bytes → feed ≡ starts_with (10 ∷ []) after → Settled number t feed (n + e + 1) s
   unfolding head_in size_in is_scan
-  second-read {e} right ends is-bytes is-after is-feed =
-      let (starts, long) = line-there scan_name number t first some in
+  second-read {e} {s} read ends is-bytes is-after is-feed =
+      let (right, value) = decimal-read read in
+      let (starts, long) = line-there scan_name number t first in
       let head : n + e + 1 ≡ head_in number t = omega (arith, ends ∙ ap line_end second-text) in
-      let size : d.value ≡ size_in number t = rw second-text at read.value in
-      record { is = is-feed ∙ rw (is-after, is-bytes, head, size, starts, ← second-text, ← read.right, right); head = head; size = size }
+      let size : s ≡ size_in number t = rw second-text at value in
+      record { is = is-feed ∙ rw (is-after, is-bytes, head, size, starts, ← second-text, right); head = head; size = size }
+
+pub none-found : (number : ℕ) (t : List ℕ) → FindsScan number t None → is_scan number t ≡ false
+none-found number t found = by-test (is_scan number t) (λ e. let is = rw e at found.is in cc) (λ e. e)
 
 -- a whole scan that was found in a file at a place: its head and its size, its bytes, and what comes after it
-module _ (file : List ℕ) (at : ℕ) {number : ℕ} {r : Scan} (found : FindsScan number (drop at file) r) (whole : r.whole ≡ true) where
+module _ (file : List ℕ) (at : ℕ) {number : ℕ} {r : Scan} (found : FindsScan number (drop at file) (Some r)) where
   pub found-is : is_scan number (drop at file) ≡ true
-  found-is = sym found.whole ∙ whole
+  found-is = by-test (is_scan number (drop at file)) (λ e. e) (λ e. let is = rw e at found.is in cc)
+
+  is-it : r ≡ scan_in number (drop at file)
+  is-it = let is = rw found-is at found.is in cc
 
   pub found-head : r.head ≡ head_in number (drop at file)
-  found-head = rw found-is at found.head
+  found-head = ap (λ (s : Scan). s.head) is-it
 
   pub found-size : r.size ≡ size_in number (drop at file)
-  found-size = rw found-is at found.size
+  found-size = ap (λ (s : Scan). s.size) is-it
 
   pub bytes-found : bytes_in number (drop at file) ≡ take r.size (drop (at + r.head) file)
   unfolding bytes_in

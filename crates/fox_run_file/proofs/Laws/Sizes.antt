@@ -1,16 +1,17 @@
 -- Lengths: of a decimal by its value, of lines, of the header and of a scan; of the scans that are left, one scan further, as a loop goes over them; and what
 -- the limits on them tell.
 -- Assumes nothing.
-use mathlib.Core.Path.{◌≡◌, sym, ap, ◌∙◌}
+use mathlib.Core.Path.{◌≡◌, ap}
 use mathlib.Core.Bool.{true, false, cond, ◌||◌, or-true}
 use mathlib.Core.List.{List, [], ◌∷◌}
 use Prim.Native.Nat.{ℕ, zero, suc, ◌+◌, ◌*◌, ◌/◌, ◌%◌, ◌^◌, ◌≤◌, ◌<◌}
 use native.Mathlib.Nat.{one-le-pow}
 use native.Mathlib.Numerals.{add-one}
 use native.Mathlib.Omega.{arith}
+use Rattle.std.specs.Prelude.{Some, None}
 use lib.ListN.{length, drop, get_or, length-append, drop_of_length-le}
 use lib.Dec.{ltb}
-use borrow.Author.Tests.{lt-ltb, le-ltb, not-true, not-false}
+use borrow.Author.Tests.{lt-ltb, le-ltb}
 use Rattle.fox_refusals.specs.Refusals.{block_size}
 use Rattle.fox_text.specs.Ascii.{codes, ascii}
 use Rattle.fox_text.specs.Names.{cipher_name, rounds_name}
@@ -20,7 +21,7 @@ use Rattle.fox_text.proofs.Laws.Tests.{by-test}
 use Rattle.fox_text.proofs.Laws.Lines.{from-here}
 use Rattle.fox_run_file.specs.Format.{format_text, counter_name, scan_name, bytes_name, scans_name, close_name, key_lines, scan_head}
 use Rattle.fox_run_file.specs.Sizes.{block_line_size, header_size, scan_size, scans_size, unclosed_size, file_size, total, any_above, past_limit}
-use Rattle.fox_run_file.specs.Parts.{Sized}
+use Rattle.fox_run_file.specs.Parts.{sizes_in, Sized}
 use Rattle.fox_run_file.specs.declared.sizes.Sizes.{Sizes}
 use Rattle.fox_run_file.proofs.Laws.Lines.{block-small}
 
@@ -130,20 +131,24 @@ module _ (cipher rounds : ℕ) (sizes : List ℕ) where
   unfolding past_limit
   in-limits few e small = rw (le-ltb 65535 (length sizes) few, e, le-ltb 1073741824 (unclosed_size cipher rounds sizes) small)
 
-  pub sized_past : past_limit cipher rounds sizes ≡ true → Sized cipher rounds sizes (record { fit = false; total = 0; size = 0 })
-  sized_past e = record { fit = rw e; total = rw e; size = rw e }
+  pub sized_past : past_limit cipher rounds sizes ≡ true → Sized cipher rounds sizes None
+  sized_past e = record { is = rw e }
 
   pub sized-in : {t s : ℕ} → past_limit cipher rounds sizes ≡ false → t ≡ total sizes → s ≡ file_size cipher rounds sizes
-      → Sized cipher rounds sizes (record { fit = true; total = t; size = s })
-  sized-in e sum size = record { fit = rw e; total = rw e sum; size = rw e size }
+      → Sized cipher rounds sizes (Some (record { total = t; size = s }))
+  sized-in e sum size = record { is = rw (e, sum, size) }
 
 -- and what it has told
 
-module _ {cipher rounds : ℕ} {sizes : List ℕ} {s : Sizes} (told : Sized cipher rounds sizes s) where
-  pub told-past : s.fit ≡ false → past_limit cipher rounds sizes ≡ true
-  told-past e = not-false (past_limit cipher rounds sizes) (sym told.fit ∙ e)
+module _ {cipher rounds : ℕ} {sizes : List ℕ} where
+  pub told-past : Sized cipher rounds sizes None → past_limit cipher rounds sizes ≡ true
+  told-past told = by-test (past_limit cipher rounds sizes) (λ e. e) (λ e. let is = rw e at told.is in cc)
 
-  pub told_in : s.fit ≡ true → (past_limit cipher rounds sizes ≡ false) × (s.total ≡ total sizes) × (s.size ≡ file_size cipher rounds sizes)
-  told_in e =
-      let in-them = not-true (past_limit cipher rounds sizes) (sym told.fit ∙ e) in
-      (in-them, told.total ∙ rw in-them, told.size ∙ rw in-them)
+  pub told_in : {s : Sizes} → Sized cipher rounds sizes (Some s)
+      → (past_limit cipher rounds sizes ≡ false) × (s.total ≡ total sizes) × (s.size ≡ file_size cipher rounds sizes)
+  told_in {s} told =
+      by-test (past_limit cipher rounds sizes) (λ e. let is = rw e at told.is in cc)
+      (λ e.
+      let is : Some s ≡ Some (sizes_in cipher rounds sizes) = rw e at told.is in
+      let same : s ≡ sizes_in cipher rounds sizes = cc in
+      (e, ap (λ (x : Sizes). x.total) same, ap (λ (x : Sizes). x.size) same))

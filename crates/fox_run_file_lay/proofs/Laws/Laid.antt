@@ -2,14 +2,15 @@
 -- laid one after the other are laid as one.
 -- Assumes nothing.
 use mathlib.Core.Path.{◌≡◌, sym, ap, ◌∙◌}
-use mathlib.Core.List.{List, [], ◌∷◌, ◌++◌, append_assoc}
-use Prim.Native.Nat.{ℕ, ◌+◌, ◌-◌, ◌≤◌, ◌<◌}
-use native.Mathlib.Numerals.{add-one}
+use mathlib.Core.List.{List, ◌++◌, append_assoc}
+use Prim.Native.Nat.{ℕ, ◌+◌, ◌-◌, ◌≤◌}
 use native.Mathlib.Omega.{arith}
-use lib.ListN.{length, take, drop, get_or, set, length-append, length-drop}
-use lib.Seq.{sets-eq, length-take-le, take_at, drop-append-add, drop-drop, take-suc, get_or-drop}
+use lib.ListN.{length, take, drop, length-append, length-drop}
+use lib.Seq.{sets-eq, length-take-le, take_at, drop-append-add, drop-drop}
+use lib.Seq.{paste}
+use Rattle.std.specs.List.{copy_within}
+use Rattle.std.proofs.lemmas.List.Edits.{take-paste, drop-paste}
 use Rattle.fox_text.specs.Put.{Put}
-use Rattle.fox_text.proofs.Laws.Stores.{one}
 use Rattle.fox_run_file_lay.specs.Laid.{Laid}
 
 -- lists that agree from a place on agree from a later place on
@@ -47,19 +48,16 @@ laid_then {at = at} {f = f} {g = g} {a = a} {b = b} {l = l} {l' = l'} p q h =
       back = q.back ∙ drop-later f g l' l h p.back;
     }
 
-at-start : (l : List ℕ) (n : ℕ) → get_or l n 0 ≡ get_or (drop n l) 0 0
-at-start l n =
-    let e : n + 0 ≡ n = omega arith in
-    rw (get_or-drop n l 0 0, e)
-
--- bytes moved down, one more of them
-pub moved : (at src i : ℕ) (l l' : List ℕ) → at ≤ src → src + i < length l → length l' ≡ length l
-    → Laid at (src + i) (take i (drop src l)) l l' (at + i)
-    → Laid at (src + (i + 1)) (take (i + 1) (drop src l)) l (set l' (at + i) (get_or l' (src + i) 0)) (at + (i + 1))
-moved at src i l l' low fits same p =
-    let here : at + i + 1 ≡ at + (i + 1) = omega arith in
-    let byte : get_or l' (src + i) 0 ≡ get_or (drop src l) i 0 =
-    at-start l' (src + i) ∙ ap (λ (t : List ℕ). get_or t 0 0) p.back ∙ sym (at-start l (src + i)) ∙ sym (get_or-drop src l i 0) in
-    let text : take (i + 1) (drop src l) ≡ take i (drop src l) ++ (get_or l' (src + i) 0 ∷ []) =
-    rw (add-one i, byte) (take-suc (drop src l) i 0 (rw (length-drop src l) (omega arith))) in
-    rw (text, ← here) (laid_then p (put-laid (src + (i + 1)) (one l' (at + i) _) (omega arith) (omega arith)) (omega arith))
+-- bytes copied down, to a place at or before their own
+pub copied : (at src n : ℕ) (l l' : List ℕ) → at ≤ src → src + n ≤ length l → l' ≡ copy_within l src (src + n) at
+    → Laid at (src + n) (take n (drop src l)) l l' (at + n)
+copied at src n l l' low fits is =
+    let many : src + n - src ≡ n = omega arith in
+    let room : n ≤ length (drop src l) = rw (length-drop src l) (omega arith) in
+    let long = length-take-le n (drop src l) room in
+    let same : l' ≡ paste l at (drop src l) n = rw many at is in
+    rw same (record {
+      place = omega (arith, long);
+      front = take-paste l at (drop src l) n (omega arith) room;
+      back = drop-later (at + n) (src + n) _ _ (omega arith) (drop-paste l at (drop src l) n (omega arith) room);
+    })

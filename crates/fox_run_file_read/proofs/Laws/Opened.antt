@@ -10,12 +10,15 @@ use lib.Dec.{ltb, leb, eqb}
 use lib.ListN.{length, take, drop}
 use borrow.Author.Tests.{eq-eqb, ne_eqb}
 use Rattle.fox_refusals.specs.Refusals.{refusal_of, short_key, for_key, for_turn, for_stretch, for_run}
-use Rattle.fox_refusals.specs.declared.answer.Answer.{Answer}
+use Rattle.fox_refusals.specs.Answer.{Answer, number_of}
+use Rattle.fox_refusals.specs.declared.refusal.Refusal as code
+use Rattle.fox_refusals.proofs.Laws.Refusals.{stretched}
+use Rattle.fox_refusals.proofs.Laws.Reply.{number_not_zero, chosen}
 use Rattle.fox_run.specs.Run.{run_with}
 use Rattle.fox_run.specs.Promise.{RunsWith}
 use Rattle.fox_text.proofs.Laws.Tests.{both}
 use Rattle.fox_run_file.specs.declared.place.Place.{Place}
-use Rattle.fox_run_file.specs.declared.reading.Read.TheVariants as read
+use Rattle.fox_run_file.specs.Outcomes.{Opened, Refused, End}
 use Rattle.fox_run_file.specs.declared.scan.Scan.{Scan}
 use Rattle.fox_run_file.specs.Says.{is_scan, counter_in}
 use Rattle.fox_run_file.specs.Places.{at_scan, size_at, bytes_at, place_after}
@@ -40,16 +43,18 @@ bytes-number file place there =
     bytes-length number t (both (ltb place.scans 65535 && leb place.offset 1073741824) (is_scan number t) there).1
 
 module _ (c r k : ℕ) (rks file : List ℕ) (place : Place) where
-  pub ended : {before : List ℕ} → at_scan file place ≡ false → ReadsWith c r k rks file place before before read.End
+  pub ended : {before : List ℕ} → at_scan file place ≡ false → ReadsWith c r k rks file place before before End
   unfolding read_at
   ended none = record { answer = rw none; output = rw none }
 
   module _ (there : at_scan file place ≡ true) where
     -- a key that is refused, before it is prepared
-    pub key-refused : {n : ℕ} {before : List ℕ} → n ≡ refusal_of (for_key c r k) → (n ≡ 0 → ⊥) → ReadsWith c r k rks file place before before (read.Refused n)
+    pub key-refused : (e : code.Refusal) {before : List ℕ} → number_of e ≡ refusal_of (for_key c r k)
+        → ReadsWith c r k rks file place before before (Refused (number_of e))
     unfolding read_at read_refusal for_key for_turn for_run
-    key-refused {before = before} e isnt =
-        let first = found_first (for_key c r k) (short_key false k ∷ for_stretch c (length (counter_in c r file)) place.offset (size_at file place) (length before)) e isnt in
+    key-refused e {before} is =
+        let isnt = number_not_zero e in
+        let first = found_first (for_key c r k) (short_key false k ∷ for_stretch c (length (counter_in c r file)) place.offset (size_at file place) (length before)) is isnt in
         let other = ne_eqb (read_refusal c r k file place (length before)) 0 (λ z. isnt (first ∙ z)) in
         record { answer = rw (there, other, first); output = rw (there, other) }
 
@@ -64,14 +69,23 @@ module _ (c r k : ℕ) (rks file : List ℕ) (place : Place) where
       unfolding read_refusal
       output = rw (bytes-number file place there) at call.output
 
-      pub run-refused : (a.refusal ≡ 0 → ⊥) → ReadsWith c r k rks file place before after (read.Refused a.refusal)
+      -- the count is the scan's length, which is that of the output
+      pub size-told : a.refusal ≡ 0 → a.count ≡ size_at file place
+      size-told z =
+          let zero = sym call.refusal ∙ z in
+          call.count
+          ∙ sym (chosen (refusal_of (for_run false c r k (length (counter_in c r file)) place.offset (length (bytes_at file place)) (length before))) (length before) 0 zero)
+          ∙ (stretched false c r k _ _ _ _ zero).output
+          ∙ bytes-number file place there
+
+      pub run-refused : (a.refusal ≡ 0 → ⊥) → ReadsWith c r k rks file place before after (Refused a.refusal)
       unfolding read_at
       run-refused isnt =
           let other = ne_eqb (read_refusal c r k file place (length before)) 0 (λ z. isnt (refusal ∙ z)) in
           record { answer = rw (there, other, refusal); output = rw there output }
 
       pub run-opened : {n : ℕ} {next : Place} → a.refusal ≡ 0 → n ≡ size_at file place → next ≡ place_after file place
-          → ReadsWith c r k rks file place before after (read.Opened n next)
+          → ReadsWith c r k rks file place before after (Opened n next)
       unfolding read_at
       run-opened z size moved =
           let zero = eq-eqb (read_refusal c r k file place (length before)) 0 (sym refusal ∙ z) in

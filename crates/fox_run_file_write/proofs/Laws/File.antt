@@ -9,7 +9,7 @@ use lib.ListN.{length, take, drop, length-drop, take-append-drop}
 use lib.Seq.{sets-eq, length-take-le, drop_at}
 use borrow.Rule.Slice.PartMut.{put_mid, post_of, same_len_mid, drop_put}
 use Rattle.fox_refusals.specs.Refusals.{block_size}
-use Rattle.fox_refusals.specs.declared.answer.Answer.{Answer}
+use Rattle.fox_refusals.specs.Answer.{Answer}
 use Rattle.fox_refusals.proofs.Laws.Reply.{chosen}
 use Rattle.fox_server_key.specs.Prepared.{round_keys_in}
 use Rattle.fox_server_key.specs.declared.prepared.Prepared.{Prepared}

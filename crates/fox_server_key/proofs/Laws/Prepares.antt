@@ -1,33 +1,24 @@
--- What preparing a key returns, from its parts: for a key that is served, and for one that is refused.
+-- What preparing a key returns, from its parts; and what follows for calls that prepare a key.
 -- Assumes nothing.
-use mathlib.Core.Path.{◌≡◌, refl, sym, ◌∙◌, subst}
-use mathlib.Core.List.{List}
-use mathlib.Core.Bool.{Bool, true, false, cond}
-use Prim.Native.Nat.{ℕ, ◌*◌, ◌^◌, ◌≤◌, ◌<◌}
-use native.Mathlib.Nat.{mul-le-mul_right}
-use native.Mathlib.Omega.{arith}
-use lib.Dec.{eqb, lit≤}
-use lib.ListN.{length}
+use Rattle.std.proofs.Common.{◌≡◌, ℕ, ◌*◌, ◌^◌, ◌≤◌, ◌<◌, Bool, true, false, cond, List, length, Ok, eqb, refl, sym, ap, ◌∙◌, subst, arith, lit≤, mul-le-mul_right}
 use Rattle.fox_refusals.specs.Refusals.{refusal_of, block_size, for_key, Keyed}
 use Rattle.fox_refusals.proofs.Laws.Refusals.{keyed-served}
-use Rattle.fox_refusals.proofs.Laws.Reply.{chosen, passed_over}
+use Rattle.fox_refusals.proofs.Laws.Reply.{chosen}
 use Rattle.fox_key_schedule.specs.Schedule.{round_keys}
-use Rattle.fox_server_key.specs.Prepared.{prepared_key, no_key, Prepares, round_keys_in}
+use Rattle.fox_server_key.specs.Prepared.{Preparation, preparation_of, prepared_words, prepared_key, Prepares, round_keys_in}
 use Rattle.fox_server_key.specs.declared.prepared.Prepared.{Prepared}
-use Rattle.fox_server_key.specs.declared.prepared.Preparation.{Preparation}
 use Rattle.fox_server_key.proofs.Laws.RoundKeys.{round_keys_in-prepared}
 
-module _ (c n : ℕ) (key : List ℕ) (r : Preparation) where
-  pub served-key : refusal_of (for_key c n (length key)) ≡ 0 → r.answer.refusal ≡ 0 → r.answer.count ≡ block_size c * n → r.key ≡ prepared_key c n key
-      → Prepares c n key r
-  served-key e refusal count made =
-      record { refusal = refusal ∙ sym e; count = count ∙ chosen _ _ _ e; key = made ∙ chosen _ _ _ e }
-
-  pub refused-key : (refusal_of (for_key c n (length key)) ≡ 0 → ⊥) → r.answer.refusal ≡ refusal_of (for_key c n (length key)) → r.answer.count ≡ 0
-      → r.key ≡ no_key
-      → Prepares c n key r
-  refused-key e refusal count none =
-      record { refusal = refusal; count = count ∙ passed_over _ _ _ e; key = none ∙ passed_over _ _ _ e }
+-- a key that is served, with its words; no count but that of its own cipher and rounds
+pub served-key : (c n : ℕ) (key words : List ℕ) → refusal_of (for_key c n (length key)) ≡ 0 → words ≡ prepared_words c n key
+    → Prepares c n key (preparation_of (Ok record { cipher = c; rounds = n; key_len = length key; keys = words }))
+unfolding prepared_key
+served-key c n key words e made =
+    record {
+      refusal = sym e;
+      count = chosen _ _ _ e;
+      key = ap (λ (ws : List ℕ). record { cipher = c; rounds = n; key_len = length key; keys = ws }) made ∙ chosen _ _ _ e;
+    }
 
 pub size-le : (c : ℕ) {b : ℕ} → b ≡ block_size c → b ≤ 16
 unfolding block_size
@@ -37,8 +28,8 @@ size-le c e = rw e (small (eqb c 64))
     small true = lit≤ tt
     small false = lit≤ tt
 
--- the bytes of round keys in use, at most 4,080, fit a word
-pub in_use : (c n : ℕ) {b : ℕ} → b ≡ block_size c → n ≤ 255 → b * n < 2 ^ 64
+-- the bytes of round keys in use fit a word
+pub in_use : (c n : ℕ) {b : ℕ} → b ≡ block_size c → n < 2 ^ 32 → b * n < 2 ^ 64
 in_use c n {b} e few =
     let most : b * n ≤ 16 * n = mul-le-mul_right n (size-le c e) in
     omega arith

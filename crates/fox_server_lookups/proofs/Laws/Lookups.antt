@@ -1,15 +1,17 @@
--- The bytes that a lookup reads: those of each half of a word of eight bytes, and the entry at a byte that was taken out of a word.
+-- The bytes that a lookup reads, those of each half of a word of eight bytes; and the entry of the first table.
 -- Assumes nothing.
-use mathlib.Core.Path.{◌≡◌, ap, ◌∙◌}
+use mathlib.Core.Path.{◌≡◌, sym, ap, ◌∙◌}
 use mathlib.Core.List.{List, [], ◌∷◌}
-use Prim.Native.Nat.{ℕ, ◌+◌, ◌*◌, ◌/◌, ◌%◌, ◌^◌}
-use native.Mathlib.Nat.{div-add-mod', div-div-eq-div-mul}
+use Prim.Native.Nat.{ℕ, ◌*◌, ◌/◌, ◌%◌, ◌^◌}
+use native.Mathlib.Nat.{zero-add, div-add-mod', div-div-eq-div-mul}
 use lib.ListN.{get_or}
 use Rattle.fox_layers.specs.Words.{split}
 use Rattle.fox_layers.proofs.Laws.Words.{split-4, split-above}
+use Rattle.fox_server_lookups.specs.Entry.{entry}
 
-pub at_byte : (t : List ℕ) (j : ℕ) {b x r : ℕ} → r ≡ get_or t (j * 256 + b) 0 → b ≡ x → r ≡ get_or t (j * 256 + x) 0
-at_byte t j e f = e ∙ ap (λ (n : ℕ). get_or t (j * 256 + n) 0) f
+-- table number 0 is read without adding its place
+pub first : (t : List ℕ) (x : ℕ) → get_or t x 0 ≡ entry t 0 x
+first t x = ap (λ (n : ℕ). get_or t n 0) (sym (zero-add x))
 
 pub split-left : (w : ℕ)
     → split 4 (w / 2 ^ 32) ≡ w / 0x100000000000000 % 256 ∷ w / 0x1000000000000 % 256 ∷ w / 0x10000000000 % 256 ∷ w / 0x100000000 % 256 ∷ []

@@ -1,7 +1,7 @@
 -- What holds of a session's parts holds of it as one value; and what a start promises, from what it did: its session is at position 0 with the first block, or
 -- it is the session with no key.
 -- Assumes nothing.
-use mathlib.Core.Path.{◌≡◌, sym, ap, ◌∙◌}
+use mathlib.Core.Path.{◌≡◌, refl, sym, ap, ◌∙◌}
 use mathlib.Core.Logic.{⊎_elim}
 use mathlib.Core.Bool.{Bool}
 use mathlib.Core.List.{List}
@@ -9,8 +9,11 @@ use Prim.Native.Nat.{ℕ}
 use native.Mathlib.Omega.{arith}
 use lib.ListN.{length}
 use Rattle.fox_refusals.specs.Refusals.{refusal_of, for_run}
-use Rattle.fox_refusals.specs.declared.answer.Answer.{Answer}
-use Rattle.fox_session.specs.Machine.{Machine, Call}
+use Rattle.std.specs.Prelude.{Result, Err}
+use Rattle.fox_refusals.specs.Answer.{Answer, number_of}
+use Rattle.fox_refusals.specs.declared.refusal.Refusal.{Refusal}
+use Rattle.fox_refusals.proofs.Laws.Reply.{number_not_zero}
+use Rattle.fox_session.specs.Machine.{Call}
 use Rattle.fox_session.specs.Promise.{Starts, Follows}
 use Rattle.fox_session.specs.InUse.{held_block, BlockAt}
 use Rattle.fox_session.specs.declared.Pair.{Pair}
@@ -20,7 +23,7 @@ use Rattle.fox_server_key.specs.declared.prepared.Prepared.{Prepared}
 use Rattle.fox_server_session_step.specs.declared.step.Basis.{Basis}
 use Rattle.fox_server_session_step.specs.Step.{machine_at, TrueAt}
 use Rattle.fox_server_session.specs.declared.session.Session.{Session}
-use Rattle.fox_server_session.specs.Session.{basis_of, machine_of, TrueOf, session_at, no_session}
+use Rattle.fox_server_session.specs.Session.{basis_of, machine_of, TrueOf, session_at, no_session, started_of, session_of, Begins}
 
 -- what holds of the parts holds of the session as one value
 pub in-session : (s : Session) {b : Basis} {keys : List ℕ} (call : Call) {output : List ℕ} {r : Answer} {next : Here} → b ≡ basis_of s → keys ≡ s.key.keys
@@ -53,6 +56,13 @@ module _ (sealing : Bool) (cipher rounds key_len : ℕ) (rks counter : List ℕ)
             let cipher = ap (λ (x : Session). x.key.cipher) refused.2 in
             absurd (⊎_elim (λ h. omega arith) (λ h. omega arith) keyed.cipher);
       }
+
+  -- the same of what code answers, a Result, whatever key it was to be of
+  pub refused_begins : {e : Refusal} {r : Result Session Refusal} (p : Prepared) → r ≡ Err e
+      → number_of e ≡ refusal_of (for_run sealing cipher rounds key_len (length counter) 0 0 0)
+      → Begins sealing p cipher rounds key_len rks counter (started_of r) (session_of r)
+  refused_begins {e} p is number =
+      rw is (record { starts = refused-start number (number_not_zero e) (refl, refl, refl); key = λ z. absurd (number_not_zero e z) })
 
 pub served-start : (sealing : Bool) (p : Prepared) (first block : Pair) (counter : List ℕ) {r : Answer}
     → refusal_of (for_run sealing p.cipher p.rounds p.key_len (length counter) 0 0 0) ≡ 0 → (r.refusal ≡ 0) × (r.count ≡ 0)

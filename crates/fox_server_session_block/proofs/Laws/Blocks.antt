@@ -2,15 +2,14 @@
 -- Assumes nothing.
 use mathlib.Core.Path.{◌≡◌, refl, sym, ap, ap₂, ◌∙◌}
 use mathlib.Core.Bool.{true}
-use mathlib.Core.List.{List, ◌++◌, append_assoc}
-use Prim.Native.Nat.{ℕ, ◌+◌, ◌-◌, ◌/◌, ◌%◌, ◌^◌, ◌≤◌, ◌<◌}
-use native.Mathlib.Nat.{div-add-mod'}
+use mathlib.Core.List.{List}
+use Prim.Native.Nat.{ℕ, ◌+◌, ◌-◌, ◌/◌, ◌≤◌, ◌<◌}
 use native.Mathlib.Omega.{arith}
 use lib.Dec.{lit≤}
 use lib.ListN.{length, take, drop, length-append}
-use lib.Seq.{length-take-le, take_all, take_at, drop_at, take-add}
+use lib.Seq.{length-take-le, drop_at, take-add}
 use Rattle.fox_layers.specs.Words.{split}
-use Rattle.fox_layers.proofs.Laws.Words.{length-split, split-above, split_parts}
+use Rattle.fox_layers.proofs.Laws.Words.{length-split}
 use Rattle.fox_rounds.specs.Skeleton.{size, turned}
 use Rattle.fox_rounds.specs.declared.state.State.{State}
 use Rattle.fox_rounds.specs.declared.state.State.TheVariants.{Of64, Of128}
@@ -31,26 +30,9 @@ size-some c e = by-cipher c (λ is. omega (arith, e, size_64 c is)) (λ isnt. om
 
 -- the bytes of two words
 
-split-halves : (w : ℕ) → split 8 w ≡ split 4 (w / 2 ^ 32) ++ split 4 (w % 2 ^ 32)
-split-halves w =
-    let low : split 4 (w % 2 ^ 32) ≡ split 4 w = sym (split-above 4 (w / 2 ^ 32) (w % 2 ^ 32)) ∙ ap (split 4) (div-add-mod' w (2 ^ 32)) in
-    split_parts 4 4 w ∙ ap (λ (bs : List ℕ). split 4 (w / 2 ^ 32) ++ bs) (sym low)
-
-pub bytes-of-halves : (w : Pair)
-    → split 4 (w.left / 2 ^ 32) ++ split 4 (w.left % 2 ^ 32) ++ split 4 (w.right / 2 ^ 32) ++ split 4 (w.right % 2 ^ 32) ≡ bytes_in w
-unfolding bytes_in
-bytes-of-halves w =
-    append_assoc (split 4 (w.left / 2 ^ 32) ++ split 4 (w.left % 2 ^ 32)) (split 4 (w.right / 2 ^ 32)) (split 4 (w.right % 2 ^ 32))
-    ∙ ap₂ (λ (l r : List ℕ). l ++ r) (sym (split-halves w.left)) (sym (split-halves w.right))
-
 pub length-bytes_in : (w : Pair) → length (bytes_in w) ≡ 16
 unfolding bytes_in
 length-bytes_in w = length-append (split 8 w.left) (split 8 w.right) ∙ omega (arith, length-split 8 w.left, length-split 8 w.right)
-
--- two words read from 16 bytes
-pub bytes_read : (w : Pair) (bs : List ℕ) → length bs ≡ 16 → split 8 w.left ≡ take 8 bs → split 8 w.right ≡ take 8 (drop 8 bs) → bytes_in w ≡ bs
-unfolding bytes_in
-bytes_read w bs l e f = ap₂ (λ (xs ys : List ℕ). xs ++ ys) e f ∙ sym (take-add 8 8 bs) ∙ take_all 16 bs (omega arith)
 
 -- the block in two words
 
@@ -58,14 +40,6 @@ module _ (c : ℕ) (w : Pair) where
   pub length-held_block : length (held_block c w) ≡ block_size c
   unfolding held_block
   length-held_block = length-take-le (block_size c) (bytes_in w) (omega (arith, length-bytes_in w, size-le c refl))
-
-  -- a block of 8 bytes is in the left word
-  pub left-block : (bs : List ℕ) → c ≡ 64 → length bs ≡ block_size c → split 8 w.left ≡ take 8 bs → held_block c w ≡ bs
-  unfolding bytes_in held_block
-  left-block bs is l e =
-      ap (λ (n : ℕ). take n (split 8 w.left ++ split 8 w.right)) (size_64 c is)
-      ∙ take_at (split 8 w.left) (split 8 w.right) 8 (length-split 8 w.left)
-      ∙ e ∙ take_all 8 bs (omega (arith, size_64 c is))
 
   -- the first of the words' bytes
   pub front-block : {bs : List ℕ} {B : ℕ} → bs ≡ bytes_in w → B ≡ block_size c → take B bs ≡ held_block c w

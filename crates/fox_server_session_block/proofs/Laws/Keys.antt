@@ -1,10 +1,9 @@
 -- A round key by its number: as one word for FOX64 and two for FOX128; and the round keys that words hold are these, numbered from 0.
 -- Assumes nothing.
-use mathlib.Core.Path.{◌≡◌, sym, ap, ◌∙◌}
+use mathlib.Core.Path.{◌≡◌, sym, ◌∙◌}
 use mathlib.Core.List.{List}
-use Prim.Native.Nat.{ℕ, ◌+◌, ◌*◌, ◌^◌}
+use Prim.Native.Nat.{ℕ}
 use borrow.Author.Tests.{eq-eqb, ne_eqb}
-use lib.ListN.{get_or}
 use Rattle.fox_layers.specs.Lists.{numbered}
 use Rattle.fox_rounds.specs.RoundKeys.{round_key_in64, round_key_in128}
 use Rattle.fox_block.proofs.Laws.Block.{by-cipher}

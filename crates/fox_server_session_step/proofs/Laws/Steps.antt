@@ -152,14 +152,12 @@ module _ (b : Basis) (keys : List ℕ) (here : Here) (ds os : List ℕ) (keyed :
       }
 
   -- the block's rest is done, and the bytes go on
-  pub passes_on : (w : Pair) {held part : List ℕ} → held ≡ keys
-      → (part ≡ run_with b.cipher (held_keys b.cipher held b.rounds) (held_block b.cipher b.counter) (here.position + r)
-      (mid_of r (length ds - r) ds))
-      × BlockAt b.cipher (held_keys b.cipher held b.rounds) (held_block b.cipher b.counter)
-      (here.position + r + length (mid_of r (length ds - r) ds)) w
+  pub passes_on : (w : Pair) {part : List ℕ}
+      → part ≡ run_with b.cipher (held_keys b.cipher keys b.rounds) (held_block b.cipher b.counter) (here.position + r) (mid_of r (length ds - r) ds)
+      → BlockAt b.cipher (held_keys b.cipher keys b.rounds) (held_block b.cipher b.counter) (here.position + r + length (mid_of r (length ds - r) ds)) w
       → Passes b keys here ds (put_mid r (length after - r) after part) w
   unfolding machine_at run_with
-  passes_on w {held} {part} same further =
+  passes_on w {part} bytes block =
       let c = b.cipher in
       let rks = held_keys c keys b.rounds in
       let counter = held_block c b.counter in
@@ -171,8 +169,8 @@ module _ (b : Basis) (keys : List ℕ) (here : Here) (ds os : List ℕ) (keyed :
         bytes = λ t.
             run-joined c rks counter n r ds after done
             (ap (take r) (xored-run c n here.block ds os e x rks counter within (t keyed)) ∙ take_at _ (drop r os) r size)
-            (rw same at further).0;
-        block = λ t k. rw end at (rw same at further).1;
+            bytes;
+        block = λ t k. rw end at block;
       }
 
 module _ (b : Basis) (keys : List ℕ) (here : Here) (to : ℕ) where
@@ -181,10 +179,9 @@ module _ (b : Basis) (keys : List ℕ) (here : Here) (to : ℕ) where
   unfolding machine_at
   renews-same e same t k = same_block b.cipher _ _ here.position to here.block (sym (rw e at same)) (t k)
 
-  pub renews-new : (w : Pair) {held : List ℕ} → held ≡ keys
-      → BlockAt b.cipher (held_keys b.cipher held b.rounds) (held_block b.cipher b.counter) to w → Renews b keys here to w
+  pub renews-new : (w : Pair) → BlockAt b.cipher (held_keys b.cipher keys b.rounds) (held_block b.cipher b.counter) to w → Renews b keys here to w
   unfolding machine_at
-  renews-new w same made t k = rw same at made
+  renews-new w made t k = made
 
 -- the refusals of a session's machine are those of a stretch whose counter block has the cipher's block size
 pub refusal-with : (b : Basis) (keys : List ℕ) (here : Here) (offset input_len out_len : ℕ) {B : ℕ} → B ≡ block_size b.cipher

@@ -6,8 +6,10 @@ use mathlib.Core.List.{List, []}
 use Prim.Native.Nat.{ℕ, ◌+◌}
 use native.Mathlib.Nat.{add-zero}
 use lib.ListN.{length}
-use Rattle.fox_refusals.specs.declared.answer.Answer.{Answer}
-use Rattle.fox_refusals.proofs.Laws.Reply.{chosen, passed_over}
+use Rattle.std.specs.Prelude.{Result, Err}
+use Rattle.fox_refusals.specs.Answer.{Answer, number_of, answer_of}
+use Rattle.fox_refusals.specs.declared.refusal.Refusal.{Refusal}
+use Rattle.fox_refusals.proofs.Laws.Reply.{chosen, passed_over, number_not_zero}
 use Rattle.fox_run.specs.Run.{run_with}
 use Rattle.fox_session.specs.Machine.{Machine, Call, Advance, Move, lent, refusal_on, tells, standing}
 use Rattle.fox_session.specs.Promise.{Follows}
@@ -39,6 +41,11 @@ module _ {S : Type 0} (machine : S → Machine) (True : S → Type 0) (s : S) wh
         bytes = λ t. refl;
         true = λ t. subst True (sym refused.2) t;
       }
+
+  -- the same of what code answers, a Result
+  pub refused_result : (call : Call) {e : Refusal} {r : Result ℕ Refusal} → r ≡ Err e → number_of e ≡ (tells (machine s) call).refusal
+      → Follows machine True s call (lent call) (answer_of r) s
+  refused_result call {e} is number = rw is (refused-call call number (number_not_zero e) (refl, refl, refl))
 
   pub served-advance : (input out : List ℕ) {after : List ℕ} {r : Answer} {s' : S}
       → refusal_on (machine s) (machine s).position (length input) (length out) ≡ 0 → (r.refusal ≡ 0) × (r.count ≡ length out)

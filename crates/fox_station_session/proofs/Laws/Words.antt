@@ -8,6 +8,7 @@ use native.Mathlib.Nat.{not-suc-le-zero, le_of_suc-le-suc, add-zero, mod-eq_of_l
 use native.Mathlib.Omega.{arith}
 use borrow.Author.Tests.{ltb-true}
 use lib.Dec.{ltb, eqb}
+use Rattle.std.specs.Int.{from_bool}
 use lib.ListN.{length, get_or, take, set, length-set}
 use lib.Seq.{sets, get_or-set_other, get_or-set_same, take-set-le}
 use Rattle.fox_session.specs.declared.Here.{Here}
@@ -71,6 +72,12 @@ direction-told : (b : Bool) → not (eqb (direction_word b) 0) ≡ b
 unfolding direction_word
 direction-told true = refl
 direction-told false = refl
+
+-- it is the direction as a number
+pub direction-byte : (b : Bool) → from_bool b ≡ direction_word b
+unfolding direction_word
+direction-byte true = refl
+direction-byte false = refl
 
 -- the last word after all others
 pub last_stored : (words : List ℕ) (s : Session) (d : ℕ) → length words ≡ 519 → get_or (set (sets words 510 (basis_in s)) 518 d) 518 0 ≡ d

@@ -9,7 +9,7 @@ use borrow.Author.Tests.{ne_eqb}
 use Rattle.fox_rounds.specs.Skeleton.{size}
 use Rattle.fox_rounds.specs.declared.state.State.{State}
 use Rattle.fox_refusals.specs.Refusals.{refusal_of, or_else, block_size, same, for_tag, Tagged}
-use Rattle.fox_refusals.specs.declared.answer.Answer.{Answer}
+use Rattle.fox_refusals.specs.Answer.{Answer}
 use Rattle.fox_refusals.proofs.Laws.Refusals.{tag-tested, tag-verdict}
 use Rattle.fox_block.specs.Block.{state, bytes, BlockOf}
 use Rattle.fox_block.proofs.Laws.Block.{state-size}

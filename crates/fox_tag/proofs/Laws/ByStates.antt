@@ -18,7 +18,7 @@ use Rattle.fox_refusals.specs.Refusals.{block_size}
 use Rattle.fox_block.specs.Block.{state, seal_with, BlockOf}
 use Rattle.fox_tag.specs.Cmac.{doubled, subkey_of, blocks_before, block_at, last_at, filled, chained, keyed_block}
 use Rattle.fox_tag.specs.Tag.{tag_with, chain_of}
-use Rattle.fox_tag.specs.States.{xor_states}
+use Rattle.fox_rounds.specs.Xor.{xor_states}
 use Rattle.fox_tag.proofs.Laws.Chain.{chained_to-first, chained_to-on, chained_to-tag}
 use Rattle.fox_tag.proofs.Laws.Doubling.{length-doubled}
 use Rattle.fox_tag.proofs.Laws.Parts.{length-block_at, block_room}

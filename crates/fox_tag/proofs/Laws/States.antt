@@ -23,7 +23,7 @@ use Rattle.fox_block.specs.Block.{state64, state128, bytes64, bytes128, state, b
 use Rattle.fox_block.proofs.Laws.Block.{length-turned}
 use Rattle.fox_block.proofs.Laws.States.{state-bytes, state-fits}
 use Rattle.fox_tag.specs.Cmac.{chained}
-use Rattle.fox_tag.specs.States.{xor64, xor128, xor_states}
+use Rattle.fox_rounds.specs.Xor.{xor64, xor128, xor_states}
 
 -- the part of a XOR from a place on
 take-xor_each : (n : ℕ) (xs ys : List ℕ) → take n (xor_each xs ys) ≡ xor_each (take n xs) (take n ys)

@@ -1,6 +1,6 @@
 -- Decimals: one digit further, what holds of well-formed digits, and digits as they are written.
 -- Assumes nothing.
-use mathlib.Core.Path.{◌≡◌, refl, sym}
+use mathlib.Core.Path.{◌≡◌, refl}
 use mathlib.Core.List.{List, [], ◌∷◌, ◌++◌}
 use mathlib.Core.Bool.{Bool, true, false, cond, not, ◌&&◌}
 use Prim.Native.Nat.{ℕ, zero, suc, ◌+◌, ◌-◌, ◌*◌, ◌/◌, ◌%◌, ◌^◌, ◌≤◌, ◌<◌}
@@ -9,17 +9,18 @@ use native.Mathlib.Omega.{arith}
 use lib.ListN.{length, drop, get_or, drop_of_length-le}
 use lib.Dec.{leb, ltb, eqb}
 use borrow.Author.Tests.{le-leb, lt-leb, leb-true, ltb-true, ltb-false, eqb-false, not-true}
+use Rattle.std.specs.Prelude.{Some, None}
 use Rattle.fox_text.specs.Decimal.{is_digit, all_digits, onward, decimal_of, begins, in_range, is_decimal, Found, digits_text}
 use Rattle.fox_text.proofs.Laws.Tests.{both, by-test}
 use Rattle.fox_text.proofs.Laws.Lines.{from-here}
 
 -- what reading returns
 
-pub not_found : {ok : Bool} {n : ℕ} → ok ≡ false → Found ok n (record { right = false; value = 0 })
-not_found e = record { right = sym e; value = rw e }
+pub not_found : {ok : Bool} (n : ℕ) → ok ≡ false → Found ok n None
+not_found n e = record { number = rw e }
 
-pub is_found : {ok : Bool} {n v : ℕ} → ok ≡ true → v ≡ n → Found ok n (record { right = true; value = v })
-is_found e same = record { right = sym e; value = rw e same }
+pub is_found : {ok : Bool} {n v : ℕ} → ok ≡ true → v ≡ n → Found ok n (Some v)
+is_found e same = record { number = rw (e, same) }
 
 -- one digit further
 
@@ -57,11 +58,16 @@ in-range most ds e h = rw (e, le-leb (decimal_of ds) most h)
 
 -- how a decimal begins, by the number of its digits
 
-pub begins-short : (ds : List ℕ) → length ds < 2 → eqb (length ds) 1 ≡ begins ds
+pub begins-none : (ds : List ℕ) → length ds < 1 → false ≡ begins ds
 unfolding begins
-begins-short [] h = refl
-begins-short (d ∷ []) h = refl
-begins-short (d ∷ e ∷ ds) h = absurd (omega arith)
+begins-none [] h = refl
+begins-none (d ∷ ds) h = absurd (omega arith)
+
+pub begins-one : (ds : List ℕ) → length ds ≡ 1 → true ≡ begins ds
+unfolding begins
+begins-one [] h = absurd (omega arith)
+begins-one (d ∷ []) h = refl
+begins-one (d ∷ e ∷ ds) h = absurd (omega arith)
 
 pub begins-long : (ds : List ℕ) → 2 ≤ length ds → not (eqb (get_or ds 0 0) 48) ≡ begins ds
 unfolding begins

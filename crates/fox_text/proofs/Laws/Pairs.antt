@@ -1,33 +1,24 @@
 -- Pairs of hex digits: one digit or one pair further, and what holds of well-formed digits and pairs.
 -- Assumes nothing.
 use mathlib.Core.Path.{◌≡◌, refl, sym, ◌∙◌}
-use mathlib.Core.List.{List, [], ◌∷◌}
+use mathlib.Core.List.{List, [], ◌∷◌, ◌++◌}
 use mathlib.Core.Bool.{Bool, true, ◌&&◌}
-use Prim.Native.Nat.{ℕ, zero, suc, ◌+◌, ◌*◌, ◌/◌, ◌%◌, ◌≤◌, ◌<◌}
+use Prim.Native.Nat.{ℕ, ◌+◌, ◌*◌, ◌/◌, ◌%◌, ◌≤◌, ◌<◌}
 use native.Mathlib.Numerals.{add-one}
 use native.Mathlib.Omega.{arith}
-use lib.ListN.{length, drop, get_or, set, length-drop, drop_of_length-le}
+use lib.ListN.{length, get_or, set}
 use lib.Seq.{sets}
 use lib.Dec.{leb, ltb, eqb}
 use borrow.Author.Tests.{leb-true, eqb-true, ltb-true, ltb-false}
+use Rattle.std.specs.List.{list_all}
 use Rattle.fox_text.specs.Decimal.{is_digit}
 use Rattle.fox_text.specs.Hex.{is_hex, all_hex, is_pairs, nibble, pairs_of, Joins, hex_text}
 use Rattle.fox_text.proofs.Laws.Tests.{both, by-test}
-use Rattle.fox_text.proofs.Laws.Lines.{from-here}
 
-pub hex-here : (ds : List ℕ) (i : ℕ) → i < length ds → all_hex (drop i ds) ≡ (is_hex (get_or ds i 0) && all_hex (drop (i + 1) ds))
+pub hex-all : (ds : List ℕ) → list_all is_hex ds ≡ all_hex ds
 unfolding all_hex
-hex-here ds i h = rw (from-here ds i h)
-
-pub hex-done : (ds : List ℕ) (i : ℕ) → length ds ≤ i → all_hex (drop i ds) ≡ true
-unfolding all_hex
-hex-done ds i h = rw (drop_of_length-le ds h)
-
-pub hex-at : (ds : List ℕ) (i : ℕ) → all_hex ds ≡ true → i < length ds → is_hex (get_or ds i 0) ≡ true
-unfolding all_hex
-hex-at [] i e h = absurd (omega arith)
-hex-at (d ∷ ds) zero e h = (both (is_hex d) (all_hex ds) e).0
-hex-at (d ∷ ds) (suc i) e h = hex-at ds i (both (is_hex d) (all_hex ds) e).1 (omega arith)
+hex-all [] = refl
+hex-all (d ∷ ds) = rw (hex-all ds) refl
 
 -- what holds of a hex digit: it is in one of two ranges, and its value is below 16
 pub record Ranges (d : ℕ) : Type 0 where
@@ -58,18 +49,44 @@ pairs_end [] h = refl
 pairs_end (a ∷ []) h = refl
 pairs_end (a ∷ b ∷ ds) h = absurd (omega arith)
 
--- a pair joined and stored, with those after it still to be stored
-pub pairs-stored : (out ds : List ℕ) (i a b : ℕ) → i * 2 + 1 < length ds → a ≡ nibble (get_or ds (i * 2) 0) → b ≡ nibble (get_or ds (i * 2 + 1) 0)
-    → sets (set out i (a * 16 + b)) (i + 1) (pairs_of (drop ((i + 1) * 2) ds)) ≡ sets out i (pairs_of (drop (i * 2) ds))
+-- a pair before others: its digits and the others' are hex digits, and it is joined and stored, with the others still to be stored
+
+pub record HexPair (l p ds : List ℕ) : Type 0 where
+  pub first : is_hex (get_or p 0 0) ≡ true
+  pub second : is_hex (get_or p 1 0) ≡ true
+  pub high : nibble (get_or p 0 0) < 16
+  pub low : nibble (get_or p 1 0) < 16
+  pub others : all_hex ds ≡ true
+  pub long : length l ≡ length ds + 2
+
+pub hex-pair : {l : List ℕ} (p ds : List ℕ) → length p ≡ 2 → l ≡ p ++ ds → all_hex l ≡ true → HexPair l p ds
+unfolding all_hex
+hex-pair [] ds two e h = absurd (omega arith)
+hex-pair (a ∷ []) ds two e h = absurd (omega arith)
+hex-pair (a ∷ b ∷ []) ds two e h =
+    let (first, later) = both (is_hex a) (is_hex b && all_hex ds) (rw e at h) in
+    let (second, others) = both (is_hex b) (all_hex ds) later in
+    record {
+      first = first;
+      second = second;
+      high = nibble-small a first;
+      low = nibble-small b second;
+      others = others;
+      long = rw e (omega arith);
+    }
+hex-pair (a ∷ b ∷ c ∷ p) ds two e h = absurd (omega arith)
+
+pub pair-stored : {l : List ℕ} (out p ds : List ℕ) (i x y : ℕ) → length p ≡ 2 → l ≡ p ++ ds → x ≡ nibble (get_or p 0 0) → y ≡ nibble (get_or p 1 0)
+    → sets (set out i (x * 16 + y)) (i + 1) (pairs_of ds) ≡ sets out i (pairs_of l)
 unfolding pairs_of
-pairs-stored out ds i a b h p q =
-    let first : i * 2 < length ds = omega arith in
-    let e : i * 2 + 1 + 1 ≡ (i + 1) * 2 = omega arith in
-    rw (from-here ds (i * 2) first, from-here ds (i * 2 + 1) h, e, p, q, add-one i)
+pair-stored out [] ds i x y two e p q = absurd (omega arith)
+pair-stored out (a ∷ []) ds i x y two e p q = absurd (omega arith)
+pair-stored out (a ∷ b ∷ []) ds i x y two e p q = rw (e, p, q, add-one i) refl
+pair-stored out (a ∷ b ∷ c ∷ r) ds i x y two e p q = absurd (omega arith)
 
 -- nothing is left to be stored after the last pair
-pub pairs-done : (out ds : List ℕ) (i : ℕ) → length ds < i * 2 + 2 → sets out i (pairs_of (drop (i * 2) ds)) ≡ out
-pairs-done out ds i h = rw (pairs_end (drop (i * 2) ds) (rw (length-drop (i * 2) ds) (omega arith)))
+pub pairs-done : (out ds : List ℕ) (i : ℕ) → length ds < 2 → sets out i (pairs_of ds) ≡ out
+pairs-done out ds i h = rw (pairs_end ds h)
 
 pub length_pairs : (ds : List ℕ) → length (pairs_of ds) ≡ length ds / 2
 unfolding pairs_of

@@ -1,11 +1,12 @@
 -- Bytes stored one after the other: one more of them, two texts one after the other, and a text at the start of a buffer.
 -- Assumes nothing.
 use mathlib.Core.Path.{◌≡◌, refl, sym, ap, ◌∙◌}
-use mathlib.Core.List.{List, [], ◌∷◌, ◌++◌}
-use Prim.Native.Nat.{ℕ, suc, ◌+◌, ◌*◌, ◌/◌, ◌%◌, ◌≤◌, ◌<◌}
+use mathlib.Core.List.{List, [], ◌∷◌, ◌++◌, append_assoc}
+use Prim.Native.Nat.{ℕ, suc, ◌+◌, ◌-◌, ◌*◌, ◌/◌, ◌%◌, ◌≤◌, ◌<◌}
 use native.Mathlib.Omega.{arith}
 use lib.ListN.{length, take, drop, get_or, set, length-append, drop_of_length-le}
-use lib.Seq.{sets, sets-eq, length-sets, length-take-le, take-append_seam}
+use borrow.Rule.Slice.PartMut.{put_mid}
+use lib.Seq.{sets, sets-eq, drop-drop, length-sets, length-take-le, take-append_seam}
 use Rattle.fox_text.specs.Hex.{digit, hex_text}
 use Rattle.fox_text.specs.Put.{Put, Stored}
 use Rattle.fox_text.proofs.Laws.Lines.{from-here}
@@ -14,17 +15,14 @@ sets-append : (l : List ℕ) (i : ℕ) (a b : List ℕ) → sets l i (a ++ b) �
 sets-append l i [] b = ap (λ (n : ℕ). sets l n b) (omega arith)
 sets-append l i (x ∷ a) b = sets-append (set l i x) (suc i) a b ∙ ap (λ (n : ℕ). sets (sets (set l i x) (suc i) a) n b) (omega arith)
 
--- byte i of the text stored, with those after it still to be stored
-pub text-stored : (out t : List ℕ) (at i : ℕ) → i < length t
-    → sets (set out (at + i) (get_or t i 0)) (at + (i + 1)) (drop (i + 1) t) ≡ sets out (at + i) (drop i t)
-text-stored out t at i h =
-    let e : at + (i + 1) ≡ suc (at + i) = omega arith in
-    rw (from-here t i h, e)
+-- a part of the buffer that becomes the text is the text stored
+pub put-part : (l t v : List ℕ) (at : ℕ) → at + length t ≤ length l → v ≡ t
+    → Put (length t) t l (put_mid at (at + length t - at) l v) at (at + length t)
+put-part l t v at room e =
+    let size : at + length t - at ≡ length t = omega arith in
+    record { place = refl; short = omega arith; bytes = rw (e, size, drop-drop (length t) at l) (sym (sets-eq t l at room ∙ append_assoc (take at l) t (drop (at + length t) l))) }
 
-pub text-done : (out t : List ℕ) (at i : ℕ) → length t ≤ i → sets out (at + i) (drop i t) ≡ out
-text-done out t at i h = rw (drop_of_length-le t h)
-
--- the same for the two digits of a byte
+-- the two digits of byte i stored, with those after it still to be stored
 pub hex-stored : (out bs : List ℕ) (at i a b : ℕ) → i < length bs → a ≡ digit (get_or bs i 0 / 16) → b ≡ digit (get_or bs i 0 % 16)
     → sets (set (set out (at + i * 2) a) (at + i * 2 + 1) b) (at + (i + 1) * 2) (hex_text (drop (i + 1) bs)) ≡ sets out (at + i * 2) (hex_text (drop i bs))
 unfolding hex_text

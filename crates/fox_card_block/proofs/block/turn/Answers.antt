@@ -6,4 +6,4 @@ use Rattle.fox_card_block.proofs.block.turn.Goals as goal
 pub returns : goal.returns
 returns c =
     let a = c.args in
-    whole_part a.sealing a.cipher a.rounds a.key.now 0 a.block.now c.turn_part-whole.ensures
+    rw c.turn_part.auto.out (whole_part a.sealing a.cipher a.rounds a.key.now 0 a.block.now c.in_ok-turn_part.ensures)

@@ -1,9 +1,6 @@
--- `stretch::stretch` meets its contract: whenever the loop's test is reached, the output is XORed up to `at`, and the rest of it is as it was after the first
--- block. Each step does at least one byte of what is left.
+-- `stretch::stretch`: whenever the loop's test is reached, the output is XORed up to `at`, and the rest of it is as it was.
 -- Assumes nothing.
-use mathlib.Core.Path.{◌≡◌}
-use Prim.Native.Nat.{◌-◌, ◌≤◌}
-use lib.ListN.{length}
+use Rattle.std.proofs.Common.{◌≡◌, ◌-◌, ◌≤◌, length}
 use Rattle.fox_key_schedule.specs.Step.{round_keys_of}
 use Rattle.fox_run.specs.States.{stream}
 use Rattle.fox_run.specs.Parts.{XoredTo}

@@ -55,14 +55,14 @@ loop-i-preserved c =
     let a = c.args in
     let rks = round_keys_of c.of-s.result a.rounds in
     let room = all-within a.cipher _ a.message.now c.requires.2 c.blocks_before-n.ensures in
-    let last : BlockOf a.cipher a.out.now = record { size = c.requires.2; bytes = λ i. (c.slice_known-1.given i).fits } in
+    let last : BlockOf a.cipher a.out.now = record { size = c.requires.2; bytes = search rules } in
     let f = with_last a.cipher rks a.message.now a.out.now c.blocks_before-n.result in (
       search rules,
       c.loop-i.invariant.1,
       chained_state-on a.cipher rks f c.loop-i.i
           (with_last-block a.cipher rks a.message.now a.out.now c.blocks_before-n.result c.loop-i.i
           (λ i. (c.type_inv.message i).fits) room last)
-          c.loop-i.invariant.2 c.block_at.ensures (c.turned-y.ensures ∙ ap (turned true rks) c.xored.ensures),
+          c.loop-i.invariant.2 c.block_at.ensures (c.turned-y.ensures ∙ ap (turned true rks) c.xor.ensures),
     )
 
 pub write-requires : goal.write-requires

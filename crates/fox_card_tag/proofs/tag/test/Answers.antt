@@ -1,39 +1,45 @@
--- `tag::test` meets its contract: a refused call returns the first refusal that applies; past the refusals the stored tag is compared with the definition's.
+-- `tag::test` meets its contract: past the refusals the stored tag is compared with the definition's.
 -- Assumes nothing.
-use mathlib.Core.Path.{◌≡◌, sym, ap, ◌∙◌}
-use Prim.Native.Nat.{ℕ, ◌-◌, ◌≤◌}
-use native.Mathlib.Omega.{arith}
-use lib.ListN.{length, take, replicate, length-take, length-replicate}
+use Rattle.std.proofs.Common.{◌≡◌, ℕ, ◌≤◌, length, take, replicate, Err, sym, refl, ◌∙◌, arith, rules, length-take}
+use Rattle.std.proofs.lemmas.List.{length-replicate}
 use Rattle.fox_key_schedule.specs.Schedule.{round_keys}
 use Rattle.fox_refusals.proofs.Laws.Refusals.{tagged}
-use Rattle.fox_block.proofs.Laws.Block.{rounds-whole}
-use Rattle.fox_tag.specs.Tag.{tag_with}
+use Rattle.fox_refusals.proofs.Laws.Reply.{number_not_zero}
 use Rattle.fox_tag.proofs.Laws.Answers.{test-refused, test_compared}
 use Rattle.fox_tag.proofs.Laws.Parts.{size-most}
 use Rattle.fox_card_tag.proofs.tag.test.Goals as goal
 
-pub returns-then-refusal-ne0 : goal.returns-then-refusal-ne0
-returns-then-refusal-ne0 c =
+pub returns-in_err-for_tag : goal.returns-in_err-for_tag
+returns-in_err-for_tag c =
     let a = c.args in
-    test-refused a.cipher a.rounds _ (round_keys a.cipher a.rounds a.key.now) a.message.now a.stored.now c.for_tag-refusal.ensures
-    c.if-refusal-ne0.true c.refused.ensures
+    let is : c.from_residual.result ≡ Err c.in_err-for_tag.field-0.0 = search rules in
+    rw is (test-refused a.cipher a.rounds _ (round_keys a.cipher a.rounds a.key.now) a.message.now a.stored.now c.in_err-for_tag.ensures (number_not_zero _) (refl, refl))
 
 -- the front of a buffer of 16 bytes
-front-size : (n b : ℕ) → n ≡ b → b ≤ 16 → length {A = ℕ} (take (n - 0) (replicate 16 0)) ≡ b
-front-size n b e most = length-take {A = ℕ} (n - 0) (replicate 16 0) ∙ omega (arith, length-replicate {A = ℕ} 16 0)
+front-size : (n : ℕ) → n ≤ 16 → length {A = ℕ} (take n (replicate 16 0)) ≡ n
+front-size n most = length-take {A = ℕ} n (replicate 16 0) ∙ omega (arith, length-replicate {A = ℕ} 16 0)
+
+pub slice_bounds-room-end : goal.slice_bounds-room-end
+slice_bounds-room-end c = omega (arith, (tagged _ _ _ _ _ _ (sym c.in_ok-for_tag.ensures)).tag, size-most c.args.cipher)
 
 pub slice_bounds-right-end : goal.slice_bounds-right-end
-slice_bounds-right-end c = rw c.block_size-size.ensures (size-most c.args.cipher)
+slice_bounds-right-end c =
+    sym (front-size _ (omega (arith, (tagged _ _ _ _ _ _ (sym c.in_ok-for_tag.ensures)).tag, size-most c.args.cipher)))
 
-pub tested-requires : goal.tested-requires
-tested-requires c =
-    let known = tagged _ _ _ _ _ _ (sym c.for_tag-refusal.ensures ∙ c.if-refusal-ne0.false) in
-    let size = c.block_size-size.ensures in
-    (omega (arith, known.keyed.low, known.keyed.high), known.keyed.key, front-size _ _ size (size-most _), known.tag)
+pub overflow_cast-rounds : goal.overflow_cast-rounds
+overflow_cast-rounds c = record { fits = omega (arith, (tagged _ _ _ _ _ _ (sym c.in_ok-for_tag.ensures)).keyed.high) }
+
+pub tag-requires : goal.tag-requires
+tag-requires c =
+    let known = tagged _ _ _ _ _ _ (sym c.in_ok-for_tag.ensures) in
+    (omega (arith, known.keyed.low), known.keyed.key, front-size _ (omega (arith, known.tag, size-most c.args.cipher)) ∙ known.tag)
+
+pub compared-requires : goal.compared-requires
+compared-requires c =
+    c.tag.auto.out ∙ front-size _ (omega (arith, (tagged _ _ _ _ _ _ (sym c.in_ok-for_tag.ensures)).tag, size-most c.args.cipher))
 
 pub returns : goal.returns
 returns c =
     let a = c.args in
-    let known = tagged _ _ _ _ _ _ (sym c.for_tag-refusal.ensures ∙ c.if-refusal-ne0.false) in
-    test_compared a.cipher a.rounds _ (round_keys a.cipher a.rounds a.key.now) a.message.now a.stored.now known
-    (ap (λ (n : ℕ). tag_with a.cipher (round_keys a.cipher n a.key.now) a.message.now) (rounds-whole known.keyed)) c.tested.ensures
+    test_compared a.cipher a.rounds _ (round_keys a.cipher a.rounds a.key.now) a.message.now a.stored.now
+    (tagged _ _ _ _ _ _ (sym c.in_ok-for_tag.ensures)) c.tag.ensures c.compared.ensures

@@ -2,7 +2,6 @@
 -- the rest of it.
 -- Assumes nothing.
 use mathlib.Core.Path.{refl}
-use Prim.Native.Nat.{◌-◌}
 use native.Mathlib.Omega.{arith}
 use Rattle.fox_run_file_lay.proofs.Laws.Scans.{onward-first, onward-room, onward-next, onward-last}
 use borrow.Author.Rules.{rules}

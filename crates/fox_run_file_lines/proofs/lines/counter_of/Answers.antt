@@ -4,6 +4,7 @@ use mathlib.Core.Path.{◌≡◌}
 use native.Mathlib.Omega.{arith}
 use lib.ListN.{length}
 use Rattle.fox_text.specs.Ascii.{codes, ascii}
+use Rattle.fox_text.proofs.Laws.Fields.{pairs-taken}
 use Rattle.fox_run_file.specs.Format.{counter_name, key_lines}
 use Rattle.fox_run_file.specs.Says.{block_in, counter_in}
 use Rattle.fox_run_file_lines.proofs.lines.counter_of.Goals as goal
@@ -13,4 +14,4 @@ unfolding codes ascii counter_name block_in counter_in
 returns c =
     let a = c.args in
     let long : c.put_key_lines-n.result ≡ length (key_lines a.cipher a.rounds) = omega (arith, c.put_key_lines-n.ensures.place) in
-    rw (← c.block_size.ensures, ← long, ← c.rest.ensures) c.pairs_line-got.ensures.stored
+    rw (← c.block_size.ensures, ← long, ← c.rest.ensures, c.unwrap_or.ensures) (pairs-taken c.pairs_in.ensures)

@@ -33,4 +33,4 @@ returns c =
     let pre = c.requires in
     tag-told a.p.cipher a.p.rounds a.p.key_len (round_keys_in a.p) a.file.now pre.0 pre.1
     (ap (λ (n : ℕ). length a.file.now - n) c.close_size-close.ensures) c.block_size-size.ensures (block-small _)
-    (rw c.rest.ensures at c.block_line.ensures) c.test-tested.ensures
+    (rw c.rest.ensures at c.block_line.ensures) c.test.ensures

@@ -1,41 +1,41 @@
 -- `take::take_up` meets its contract: the tests of key, text and tag are those of the list, in the list's order, and a file is taken up where none applies.
 -- Assumes nothing.
-use mathlib.Core.Path.{sym, ◌∙◌}
+use mathlib.Core.Path.{sym}
+use Rattle.std.proofs.lemmas.Result.{err_from_is_err_and}
 use Rattle.fox_refusals.proofs.Laws.Refusals.{keyed}
+use Rattle.fox_refusals.proofs.Laws.Reply.{number_not_zero}
 use Rattle.fox_run_file.proofs.Laws.Refusals.{few-digits}
 use Rattle.fox_run_file_take_up.proofs.Laws.Taken.{of-key, of-text, of-tag, text-right, refused-taken, served-taken}
 use Rattle.fox_run_file_take_up.proofs.take.take_up.Goals as goal
 
-pub returns-then-of_key-ne0 : goal.returns-then-of_key-ne0
-returns-then-of_key-ne0 c =
-    refused-taken _ _ _ _ _ (of-key _ _ _ _ _ c.for_key-of_key.ensures c.if-of_key-ne0.true) c.if-of_key-ne0.true c.refused.ensures
+pub returns-in_err-for_key : goal.returns-in_err-for_key
+returns-in_err-for_key c =
+    let err = err_from_is_err_and c.from_residual.result c.from_residual.ensures.1 in
+    rw (err.1, err.2) (refused-taken _ _ _ _ _ _ (of-key _ _ _ _ _ c.in_err-for_key.ensures (number_not_zero _)))
 
-pub of_text-text-requires : goal.of_text-text-requires
-of_text-text-requires c = few-digits (keyed _ _ _ (sym c.for_key-of_key.ensures ∙ c.if-of_key-ne0.false))
+pub of_text-requires : goal.of_text-requires
+of_text-requires c = few-digits (keyed _ _ _ (sym c.in_ok-for_key.ensures))
 
-pub returns-then-text-ne0 : goal.returns-then-text-ne0
-returns-then-text-ne0 c =
-    let key-passed = sym c.for_key-of_key.ensures ∙ c.if-of_key-ne0.false in
-    refused-taken _ _ _ _ _ (of-text _ _ _ _ _ key-passed c.of_text-text.ensures c.if-text-ne0.true) c.if-text-ne0.true
-    c.refused-then-text-ne0.ensures
+pub returns-in_err-of_text : goal.returns-in_err-of_text
+returns-in_err-of_text c =
+    let residual = c.from_residual-in_err-of_text in
+    let err = err_from_is_err_and residual.result residual.ensures.1 in
+    rw (err.1, err.2) (refused-taken _ _ _ _ _ _ (of-text _ _ _ _ _ (sym c.in_ok-for_key.ensures) c.in_err-of_text.ensures (number_not_zero _)))
 
-pub of_tag-tag-requires : goal.of_tag-tag-requires
-of_tag-tag-requires c =
-    let key-passed = sym c.for_key-of_key.ensures ∙ c.if-of_key-ne0.false in
-    let text-passed = sym c.of_text-text.ensures ∙ c.if-text-ne0.false in
-    (keyed _ _ _ key-passed, text-right _ _ _ text-passed)
+pub of_tag-requires : goal.of_tag-requires
+of_tag-requires c = (keyed _ _ _ (sym c.in_ok-for_key.ensures), text-right _ _ _ (sym c.in_ok-of_text.ensures))
 
-pub returns-then-tag-ne0 : goal.returns-then-tag-ne0
-returns-then-tag-ne0 c =
-    let key-passed = sym c.for_key-of_key.ensures ∙ c.if-of_key-ne0.false in
-    let text-passed = sym c.of_text-text.ensures ∙ c.if-text-ne0.false in
-    refused-taken _ _ _ _ _ (of-tag _ _ _ _ _ key-passed text-passed c.of_tag-tag.ensures) c.if-tag-ne0.true c.refused-then-tag-ne0.ensures
+pub returns-in_err-of_tag : goal.returns-in_err-of_tag
+returns-in_err-of_tag c =
+    let residual = c.from_residual-in_err-of_tag in
+    let err = err_from_is_err_and residual.result residual.ensures.1 in
+    rw (err.1, err.2)
+    (refused-taken _ _ _ _ _ _ (of-tag _ _ _ _ _ (sym c.in_ok-for_key.ensures) (sym c.in_ok-of_text.ensures) c.in_err-of_tag.ensures))
 
-pub taken-requires : goal.taken-requires
-taken-requires c = few-digits (keyed _ _ _ (sym c.for_key-of_key.ensures ∙ c.if-of_key-ne0.false))
+pub header_size-requires : goal.header_size-requires
+header_size-requires c = few-digits (keyed _ _ _ (sym c.in_ok-for_key.ensures))
 
 pub returns : goal.returns
 returns c =
-    let key-passed = sym c.for_key-of_key.ensures ∙ c.if-of_key-ne0.false in
-    let text-passed = sym c.of_text-text.ensures ∙ c.if-text-ne0.false in
-    served-taken _ _ _ _ _ (sym (of-tag _ _ _ _ _ key-passed text-passed c.of_tag-tag.ensures) ∙ c.if-tag-ne0.false) c.taken.ensures
+    served-taken _ _ _ _ _ (sym (of-tag _ _ _ _ _ (sym c.in_ok-for_key.ensures) (sym c.in_ok-of_text.ensures) c.in_ok-of_tag.ensures))
+    c.header_size.ensures

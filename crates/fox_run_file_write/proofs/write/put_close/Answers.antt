@@ -8,14 +8,14 @@ use Rattle.fox_run_file_write.proofs.write.put_close.Goals as goal
 
 pub slice_bounds-tag-end : goal.slice_bounds-tag-end
 slice_bounds-tag-end c =
-    omega (arith, c.block_size-size.ensures, size-most c.args.p.cipher)
+    omega (arith, c.block_size-size.ensures, size-most c.args.p.now.cipher)
 
 pub slice_bounds-put_tag-end : goal.slice_bounds-put_tag-end
-slice_bounds-put_tag-end c = sym (length-take-le _ _ (omega (arith, c.block_size-size.ensures, size-most c.args.p.cipher)))
+slice_bounds-put_tag-end c = sym (length-take-le _ _ (omega (arith, c.block_size-size.ensures, size-most c.args.p.now.cipher)))
 
 pub put_tag-requires : goal.put_tag-requires
 put_tag-requires c =
     record {
       close_room = c.requires;
-      tag_len = length-take-le _ _ (omega (arith, c.block_size-size.ensures, size-most c.args.p.cipher)) ∙ c.block_size-size.ensures;
+      tag_len = length-take-le _ _ (omega (arith, c.block_size-size.ensures, size-most c.args.p.now.cipher)) ∙ c.block_size-size.ensures;
     }

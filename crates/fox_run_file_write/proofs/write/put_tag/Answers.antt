@@ -24,5 +24,5 @@ returns c =
     let text = take a.at a.out.now in
     let long : length text ≡ a.at = length-take-le a.at a.out.now (omega (arith, room.fits)) in
     let short : length text ≤ 1073741824 = omega (arith, room.text) in
-    let tag = (tag-made a.p.cipher a.p.rounds _ (round_keys_in a.p) text room.keyed short c.requires.tag_len c.make.ensures).output in
+    let tag = (tag-made a.p.now.cipher a.p.now.rounds _ (round_keys_in a.p.now) text room.keyed short c.requires.tag_len c.make_by.ensures).output in
     rw (← tag) c.put_pairs_line.ensures

@@ -11,10 +11,10 @@ use Rattle.fox_server_session_block.proofs.block.xor_block.Goals as goal
 
 pub slice_bounds-xor_bytes-end : goal.slice_bounds-xor_bytes-end
 slice_bounds-xor_bytes-end c =
-    omega (arith, size-le _ c.block_size-size.ensures, c.put_pair.auto.out)
+    omega (arith, size-le _ c.block_size-size.ensures)
 
 pub returns : goal.returns
 returns c =
     let a = c.args in
     subst (λ (bs : List ℕ). Xored bs a.input.now a.out.now c.xor_bytes.new.out c.xor_bytes.result)
-    (rest-block a.cipher a.block a.skip c.put_pair.ensures c.block_size-size.ensures (omega arith)) c.xor_bytes.ensures
+    (rest-block a.cipher a.block a.skip c.from-bytes.ensures c.block_size-size.ensures (omega arith)) c.xor_bytes.ensures

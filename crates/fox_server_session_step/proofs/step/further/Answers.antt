@@ -12,7 +12,7 @@ use Rattle.fox_server_session_step.proofs.Laws.Steps.{run-further}
 use Rattle.fox_server_session_step.proofs.step.further.Goals as goal
 
 pub nonzero_rem-whole : goal.nonzero_rem-whole
-nonzero_rem-whole c = size-some c.args.cipher c.block_size-size.ensures
+nonzero_rem-whole c = size-some c.args.run.now.cipher c.block_size.ensures
 
 pub overflow_sub-whole : goal.overflow_sub-whole
 overflow_sub-whole c = mod-le _ _
@@ -24,19 +24,20 @@ pub slice_bounds-whole_blocks-end-3 : goal.slice_bounds-whole_blocks-end-3
 slice_bounds-whole_blocks-end-3 c = simp length-take (omega arith)
 
 pub whole_blocks-requires : goal.whole_blocks-requires
-whole_blocks-requires c =
-    let pre = c.requires.le_rounds in
-    (pre.0, pre.1, simp length-take (omega arith), simp length-take (omega arith))
+whole_blocks-requires c = record { within = simp length-take (omega arith); out_len = simp length-take (omega arith) }
 
 pub xor_block-requires : goal.xor_block-requires
 xor_block-requires c =
-    (size-some c.args.cipher refl, simp (length-take, length-drop) (omega arith))
+    (size-some c.args.run.now.cipher refl, simp (length-take, length-drop) (omega arith))
 
 pub returns : goal.returns
 returns c =
-    let a = c.args in (
-      run-further a.cipher (held_keys a.cipher a.keys.now a.rounds) (held_block a.cipher a.counter) a.n _ c.block_at-block.result
-          a.input.now a.out.now _ c.block_size-size.ensures refl c.requires.cipher_value c.requires.le_rounds.2 c.requires.le_rounds.3 c.whole_blocks.ensures
-          c.block_at-block.ensures c.xor_block.ensures,
-      c.block_at-block.ensures,
-    )
+    let a = c.args in
+    let run = a.run.now in
+    let pre = c.requires in
+    record {
+      bytes = run-further run.cipher (held_keys run.cipher run.keys.now run.rounds) (held_block run.cipher run.counter) a.n _ c.block_at-block.result
+          a.input.now a.out.now _ c.block_size.ensures refl pre.first pre.within pre.out_len c.whole_blocks.ensures c.block_at-block.ensures
+          c.xor_block.ensures;
+      block = c.block_at-block.ensures;
+    }

@@ -1,20 +1,11 @@
--- `fields::pairs_line` meets its contract: the bytes are written exactly where the line's value is pairs.
+-- `fields::pairs_line` meets its contract: what `pairs_in` answers counts where the line is ended.
 -- Assumes nothing.
-use Rattle.fox_text.proofs.Laws.Pairs.{joinable}
-use Rattle.fox_text.proofs.Laws.Fields.{right-pairs, wrong-pairs}
-use borrow.Author.Rules.{rules}
+use Rattle.std.proofs.Common.{sym, ◌∙◌}
+use Rattle.fox_text.proofs.Laws.Fields.{pairs-ended, pairs-open}
 use Rattle.fox_text_read.proofs.fields.pairs_line.Goals as goal
 
-pub join_pairs-requires : goal.join_pairs-requires
-join_pairs-requires c =
-    joinable c.starts_with.result c.is_pairs.result _ _ _ c.if-starts_with-is_pairs.true c.is_pairs.ensures (search rules)
+pub returns-then-has_line : goal.returns-then-has_line
+returns-then-has_line c = pairs-ended c.pairs_in-count.ensures (sym c.has_line.ensures ∙ c.if-has_line.true)
 
-pub returns-then-starts_with-is_pairs : goal.returns-then-starts_with-is_pairs
-returns-then-starts_with-is_pairs c =
-    right-pairs _ _ _ _ (search rules) c.first_line-line.ensures c.rest-ds.ensures c.starts_with.ensures
-    c.is_pairs.ensures c.if-starts_with-is_pairs.true c.has_line.ensures c.join_pairs.ensures
-
-pub returns : goal.returns
-returns c =
-    wrong-pairs _ _ _ _ (search rules) c.first_line-line.ensures c.rest-ds.ensures c.starts_with.ensures
-    c.is_pairs.ensures c.if-starts_with-is_pairs.false
+pub returns-else-has_line : goal.returns-else-has_line
+returns-else-has_line c = pairs-open c.pairs_in-count.ensures (sym c.has_line.ensures ∙ c.if-has_line.false)

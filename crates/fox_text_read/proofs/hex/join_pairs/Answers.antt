@@ -1,49 +1,67 @@
--- `hex::join_pairs` meets its contract: whenever the loop's test is reached, storing the pairs from number i on gives what storing all of them into the first
--- output gives.
+-- `hex::join_pairs` meets its contract: whenever the next pair is taken, storing the pairs that are left from here on gives what storing all of them into the
+-- first output gives.
 -- Assumes nothing.
-use mathlib.Core.Path.{refl, sym, ◌∙◌}
-use Prim.Native.Nat.{◌+◌, ◌-◌, ◌*◌}
-use native.Mathlib.Omega.{arith}
-use lib.ListN.{get_or, length-set}
-use Rattle.fox_text.specs.Hex.{nibble}
-use Rattle.fox_text.proofs.Laws.Pairs.{hex-at, nibble-small, pairs-stored, pairs-done}
-use borrow.Author.Rules.{rules}
+use Rattle.std.proofs.Common.{refl, sym, ◌∙◌, arith, length-set}
+use Rattle.std.specs.Slice.Iter.{chunks_exact_rest}
+use Rattle.fox_text.proofs.Laws.Pairs.{hex-pair, pair-stored, pairs-done}
 use Rattle.fox_text_read.proofs.hex.join_pairs.Goals as goal
 
 pub loop-i-init : goal.loop-i-init
-loop-i-init c = (search rules, omega arith, omega arith, refl, refl)
+loop-i-init c =
+    let same = c.into_iter-i-iterator.ensures.into_iter_gives in
+    let e = c.enumerate-i-items.ensures in
+    let first = c.chunks_exact.ensures in
+    record {
+      pairs = rw (same, e.source, first.size) refl;
+      hex = rw (same, e.source, first.rest) c.requires.hex;
+      room = rw (same, e.source, e.count, first.rest) (omega (arith, c.requires.room));
+      bytes = rw (same, e.source, e.count, first.rest) refl;
+    }
 
--- a digit of a text that is pairs of hex digits has a value below 16
 pub nibble-requires : goal.nibble-requires
-nibble-requires c = hex-at _ _ c.requires.hex (search rules)
+nibble-requires c =
+    let (cut, size) = c.in-Some.ensures.steps.0.1 in
+    (hex-pair c.in-Some.pair.now (chunks_exact_rest c.next.new.self.iter) (size ∙ c.loop-i.invariant.pairs) cut c.loop-i.invariant.hex).first
 
 pub overflow_mul-out : goal.overflow_mul-out
-overflow_mul-out c = omega (arith, c.nibble.ensures, nibble-small (get_or c.args.ds.now (c.loop-i.i * 2) 0) (hex-at _ _ c.requires.hex (search rules)))
+overflow_mul-out c =
+    let (cut, size) = c.in-Some.ensures.steps.0.1 in
+    let pair = hex-pair c.in-Some.pair.now (chunks_exact_rest c.next.new.self.iter) (size ∙ c.loop-i.invariant.pairs) cut c.loop-i.invariant.hex in
+    omega (arith, c.nibble.ensures, pair.high)
 
 pub nibble-requires-in-loop-i : goal.nibble-requires-in-loop-i
-nibble-requires-in-loop-i c = hex-at _ _ c.requires.hex (search rules)
+nibble-requires-in-loop-i c =
+    let (cut, size) = c.in-Some.ensures.steps.0.1 in
+    (hex-pair c.in-Some.pair.now (chunks_exact_rest c.next.new.self.iter) (size ∙ c.loop-i.invariant.pairs) cut c.loop-i.invariant.hex).second
 
 pub overflow_add-out : goal.overflow_add-out
 overflow_add-out c =
-    let high = nibble-small (get_or c.args.ds.now (c.loop-i.i * 2) 0) (hex-at _ _ c.requires.hex (search rules)) in
-    let low = nibble-small (get_or c.args.ds.now (c.loop-i.i * 2 + 1) 0) (hex-at _ _ c.requires.hex (search rules)) in
-    omega (arith, c.nibble.ensures, c.nibble-in-loop-i.ensures, high, low)
+    let (cut, size) = c.in-Some.ensures.steps.0.1 in
+    let pair = hex-pair c.in-Some.pair.now (chunks_exact_rest c.next.new.self.iter) (size ∙ c.loop-i.invariant.pairs) cut c.loop-i.invariant.hex in
+    omega (arith, c.nibble.ensures, c.nibble-in-loop-i.ensures, pair.high, pair.low)
 
 pub bounds-out-i : goal.bounds-out-i
 bounds-out-i c =
-    omega (arith, c.loop-i.invariant.1, c.loop-i.invariant.3, c.requires.room)
+    let (cut, size) = c.in-Some.ensures.steps.0.1 in
+    let pair = hex-pair c.in-Some.pair.now (chunks_exact_rest c.next.new.self.iter) (size ∙ c.loop-i.invariant.pairs) cut c.loop-i.invariant.hex in
+    omega (arith, c.in-Some.ensures.steps.1, c.loop-i.invariant.room, pair.long)
 
 pub loop-i-preserved : goal.loop-i-preserved
 loop-i-preserved c =
+    let steps = c.in-Some.ensures.steps in
+    let (cut, size) = steps.0.1 in
     let inv = c.loop-i.invariant in
-    let ds = c.args.ds.now in (
-      search rules,
-      inv.1,
-      inv.2,
-      length-set c.loop-i.out c.loop-i.i _ ∙ inv.3,
-      pairs-stored c.loop-i.out ds c.loop-i.i _ _ (search rules) c.nibble.ensures c.nibble-in-loop-i.ensures ∙ inv.4,
-    )
+    let two = size ∙ inv.pairs in
+    let pair = hex-pair c.in-Some.pair.now (chunks_exact_rest c.next.new.self.iter) two cut inv.hex in
+    record {
+      pairs = steps.0.0 ∙ inv.pairs;
+      hex = pair.others;
+      room = rw length-set (omega (arith, steps.2, inv.room, pair.long));
+      bytes = rw (steps.1, steps.2) (pair-stored _ _ _ _ _ _ two cut c.nibble.ensures c.nibble-in-loop-i.ensures ∙ inv.bytes);
+    }
 
 pub returns : goal.returns
 returns c =
-    sym (pairs-done c.loop-i.out c.args.ds.now c.loop-i.i (search rules)) ∙ c.loop-i.invariant.4
+    let inv = c.loop-i.invariant in
+    let few = c.in-None.ensures.steps.0.1.0 in
+    sym (pairs-done c.loop-i.out _ c.loop-i.i-iterator.count (omega (arith, few, inv.pairs))) ∙ inv.bytes

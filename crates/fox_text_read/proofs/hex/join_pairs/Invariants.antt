@@ -1,14 +1,18 @@
--- `hex::join_pairs` meets its contract: whenever the loop's test is reached, storing the pairs from number i on gives what storing all of them into the first
--- output gives.
+-- `hex::join_pairs` meets its contract: whenever the next pair is taken, storing the pairs that are left from here on gives what storing all of them into the
+-- first output gives.
 -- Assumes nothing.
-use mathlib.Core.Path.{◌≡◌}
-use Prim.Native.Nat.{◌+◌, ◌-◌, ◌*◌, ◌≤◌, ◌<◌}
-use lib.ListN.{length, drop}
-use lib.Seq.{sets}
-use Rattle.fox_text.specs.Hex.{pairs_of}
+use Rattle.std.proofs.Common.{◌≡◌, ◌+◌, ◌*◌, ◌≤◌, length, true}
+use Rattle.std.proofs.lemmas.List.Edits.{sets}
+use Rattle.std.specs.Slice.Iter.{chunks_exact_rest, chunks_exact_size}
+use Rattle.fox_text.specs.Hex.{all_hex, pairs_of}
 use Rattle.fox_text_read.proofs.hex.join_pairs.Given as goal
 
 abbrev pub invariant-loop-i : goal.invariant-loop-i
 invariant-loop-i l =
-    (l.i ≤ l.n) × (l.n * 2 ≤ length l.ds) × (length l.ds < l.n * 2 + 2) × (length l.out ≡ length l.initial.out)
-    × (sets l.out l.i (pairs_of (drop (l.i * 2) l.ds)) ≡ sets l.initial.out 0 (pairs_of l.ds))
+    let left = chunks_exact_rest l.i-iterator.iter in
+    record {
+      pairs : chunks_exact_size l.i-iterator.iter ≡ 2;
+      hex : all_hex left ≡ true;
+      room : l.i-iterator.count * 2 + length left ≤ length l.out * 2;
+      bytes : sets l.out l.i-iterator.count (pairs_of left) ≡ sets l.initial.out 0 (pairs_of l.ds);
+    }

@@ -13,7 +13,7 @@ unfolding round_key_at
 returns-in-Ks64 c =
     let reg = c.args.reg in
     record {
-      whole = zero-add _ ∙ c.nl64.ensures ∙ ap (NL64 _) c.dkey16.ensures ∙ sym (ap (λ (s : Schedule). round_key_at s reg) c.in-Ks64.is);
+      whole = zero-add _ ∙ c.nl64.ensures ∙ ap (NL64 _) c.dkey.ensures ∙ sym (ap (λ (s : Schedule). round_key_at s reg) c.in-Ks64.is);
       short = λ e. refl;
     }
 
@@ -22,7 +22,7 @@ unfolding round_key_at
 returns-in-Ks64h c =
     let reg = c.args.reg in
     record {
-      whole = zero-add _ ∙ c.nl64h.ensures ∙ ap (NL64h _) c.dkey32.ensures ∙ sym (ap (λ (s : Schedule). round_key_at s reg) c.in-Ks64h.is);
+      whole = zero-add _ ∙ c.nl64h.ensures ∙ ap (NL64h _) c.dkey-in-Ks64h.ensures ∙ sym (ap (λ (s : Schedule). round_key_at s reg) c.in-Ks64h.is);
       short = λ e. refl;
     }
 
@@ -31,6 +31,6 @@ unfolding round_key_at narrow
 returns-in-Ks128 c =
     let reg = c.args.reg in
     record {
-      whole = c.nl128.ensures ∙ ap (NL128 _) c.dkey32-in-Ks128.ensures ∙ sym (ap (λ (s : Schedule). round_key_at s reg) c.in-Ks128.is);
+      whole = c.nl128.ensures ∙ ap (NL128 _) c.dkey-in-Ks128.ensures ∙ sym (ap (λ (s : Schedule). round_key_at s reg) c.in-Ks128.is);
       short = λ e. absurd (true≢false (sym e ∙ ap narrow c.in-Ks128.is));
     }

@@ -13,4 +13,4 @@ overflow_mul-blocks c = record { fits = few-steps _ _ (omega arith) c.steps.ensu
 pub returns : goal.returns
 returns c =
     let a = c.args in
-    (c.stepped.ensures.0 ∙ ap (λ (n : ℕ). stepped a.on (a.blocks * n) a.reg) c.steps.ensures, c.stepped.ensures.1)
+    c.stepped.ensures ∙ ap (λ (n : ℕ). stepped a.on (a.blocks * n) a.reg) c.steps.ensures

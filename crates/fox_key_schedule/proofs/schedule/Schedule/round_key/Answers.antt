@@ -14,6 +14,6 @@ returns c =
     let one = one-mul (steps a.self) in
     record {
       key = c.key_at-key.ensures;
-      next = c.moved-next.ensures.0 ∙ ap (λ (n : ℕ). stepped true n a.reg) one;
-      before = c.moved-before.ensures.0 ∙ ap (λ (n : ℕ). stepped false n a.reg) one;
+      next = c.moved-next.ensures ∙ ap (λ (n : ℕ). stepped true n a.reg) one;
+      before = c.moved-before.ensures ∙ ap (λ (n : ℕ). stepped false n a.reg) one;
     }

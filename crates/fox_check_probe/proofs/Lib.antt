@@ -1,0 +1,2 @@
+-- What a block sealed again and again is.
+pub mod LeftWords

@@ -1,0 +1,8 @@
+-- `fox_probe_again128` meets its contract: its state has the left word of the block.
+-- Assumes nothing.
+use Rattle.fox_rounds.specs.RoundKeys.{round_keys_in128}
+use Rattle.fox_check_probe.proofs.LeftWords.{left-128}
+use Rattle.fox_check_probe.proofs.fox_probe_again128.Goals as goal
+
+pub returns : goal.returns
+returns c = left-128 (round_keys_in128 c.args.keys.now 16) _ c.args.blocks c.again.ensures

@@ -1,0 +1,8 @@
+-- `words::U64Word8::split` meets its contract: std's bytes of a word, the highest first, are the definition's.
+-- Assumes nothing.
+use Rattle.std.proofs.Common.{◌∙◌}
+use Rattle.fox_layers.proofs.Laws.StdBytes.{be-split-8}
+use Rattle.fox_layers.proofs.words.U64Word8.split.Goals as goal
+
+pub returns : goal.returns
+returns c = c.to_be_bytes.ensures ∙ be-split-8 c.args.self

@@ -1,0 +1,2 @@
+-- The laws that the proofs of this crate share.
+pub mod Laws

@@ -1,2 +1,0 @@
--- Laws that the proofs of both ciphers share.
-pub mod Zero
