@@ -1,4 +1,3 @@
 -- Laws on lengths added up one by one, and on the tests of a call.
-pub mod Digits
 pub mod Sums
 pub mod Tests

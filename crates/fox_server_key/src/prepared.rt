@@ -4,7 +4,7 @@
 ghost use Rattle.std.specs.Prelude.{true, ◌≡◌, ◌≢◌, ◌+◌, ◌*◌, ◌<◌, ◌≤◌, length, slice_set};
 ghost use Rattle.fox_key_schedule.specs.Step.{narrow, round_keys_of};
 ghost use Rattle.fox_refusals.specs.Refusals.{block_size};
-ghost use Rattle.fox_server_key.specs.Prepared.{in_halves, filled, prepared_words, preparation_of, Prepares};
+ghost use Rattle.fox_server_key.specs.Prepared.{in_halves, filled, no_key, prepared_words, preparation_of, Prepares};
 
 use fox_key_nonlinear::nl128::Key128;
 use fox_key_schedule::schedule::Schedule;
@@ -70,6 +70,19 @@ fn words(cipher: u32, rounds: u8, key: &[u8]) -> [u64; 510]
         fill::<1>(s, rounds)
     } else {
         fill::<2>(s, rounds)
+    }
+}
+
+// The prepared key of a refused call: all zeros.
+#[tactic(auto, unfolding(crate::specs::Prepared::no_key))]
+pub fn no_key() -> Prepared
+    ensures { result ≡ no_key }
+{
+    Prepared {
+        cipher: 0,
+        rounds: 0,
+        key_len: 0,
+        keys: [0u64; 510],
     }
 }
 

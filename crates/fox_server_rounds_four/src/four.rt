@@ -18,44 +18,6 @@ pub struct Four<L> {
     pub fourth: L,
 }
 
-// One round of all four blocks with one round key.
-fn round_four<B: Beside>(
-    tables: &Tables<B>,
-    x: Four<B::Lane>,
-    left: u64,
-    right: u64,
-) -> Four<B::Lane>
-    ensures { Each (λ a b. B.state (B.narrow b) ≡ round (left * 2 ^ 64 + right) (B.state (B.narrow a))) x result }
-{
-    Four {
-        first: B::round_beside(x.first, tables, left, right),
-        second: B::round_beside(x.second, tables, left, right),
-        third: B::round_beside(x.third, tables, left, right),
-        fourth: B::round_beside(x.fourth, tables, left, right),
-    }
-}
-
-// One round of all four blocks with one round key, and "or" after it.
-fn round_or_four<B: Beside>(
-    tables: &Tables<B>,
-    x: Four<B::Lane>,
-    left: u64,
-    right: u64,
-) -> Four<B::Lane>
-    ensures { Each (λ a b. B.state (B.narrow b) ≡ between true (round (left * 2 ^ 64 + right) (B.state (B.narrow a)))) x result }
-{
-    let p = B::round_beside(x.first, tables, left, right);
-    let q = B::round_beside(x.second, tables, left, right);
-    let u = B::round_beside(x.third, tables, left, right);
-    let v = B::round_beside(x.fourth, tables, left, right);
-    Four {
-        first: B::or_beside(p),
-        second: B::or_beside(q),
-        third: B::or_beside(u),
-        fourth: B::or_beside(v),
-    }
-}
-
 // By the number of the round key. The round functions of the two ciphers have the words of their blocks, and stand in fox64.rt and wide.rt.
 pub fn seal_four<B: Beside>(engine: &Engine<B>, x: Four<B::Lane>) -> Four<B::Lane>
     ensures { Each (λ a b. B.state (B.narrow b) ≡ turned true (keys_by B.key_in engine.now.keys.now engine.now.rounds) (B.state (B.narrow a))) x result }
@@ -64,8 +26,25 @@ pub fn seal_four<B: Beside>(engine: &Engine<B>, x: Four<B::Lane>) -> Four<B::Lan
     let mut y = x;
     for i in 0..last {
         let (left, right) = B::key_at(engine.keys, i);
-        y = round_or_four::<B>(engine.tables, y, left, right);
+        B::round_or_four(
+            &mut y.first,
+            &mut y.second,
+            &mut y.third,
+            &mut y.fourth,
+            engine.tables,
+            left,
+            right,
+        );
     }
     let (left, right) = B::key_at(engine.keys, last);
-    round_four::<B>(engine.tables, y, left, right)
+    B::round_four(
+        &mut y.first,
+        &mut y.second,
+        &mut y.third,
+        &mut y.fourth,
+        engine.tables,
+        left,
+        right,
+    );
+    y
 }

@@ -95,4 +95,34 @@ impl Beside for Fox128 {
     fn or_beside(x: Wide128) -> Wide128 {
         x.or()
     }
+
+    fn round_four(
+        first: &mut Wide128,
+        second: &mut Wide128,
+        third: &mut Wide128,
+        fourth: &mut Wide128,
+        tables: &Tables<Fox128>,
+        left: u64,
+        right: u64,
+    ) {
+        *first = elmid_wide(tables, *first, left, right);
+        *second = elmid_wide(tables, *second, left, right);
+        *third = elmid_wide(tables, *third, left, right);
+        *fourth = elmid_wide(tables, *fourth, left, right);
+    }
+
+    fn round_or_four(
+        first: &mut Wide128,
+        second: &mut Wide128,
+        third: &mut Wide128,
+        fourth: &mut Wide128,
+        tables: &Tables<Fox128>,
+        left: u64,
+        right: u64,
+    ) {
+        *first = elmid_wide(tables, *first, left, right).or();
+        *second = elmid_wide(tables, *second, left, right).or();
+        *third = elmid_wide(tables, *third, left, right).or();
+        *fourth = elmid_wide(tables, *fourth, left, right).or();
+    }
 }

@@ -10,7 +10,7 @@ ghost use Rattle.fox_server_session.specs.Session.{basis_of, no_session, started
 
 use fox_refusals::refusal::Refusal;
 use fox_refusals::stretch::for_run;
-use fox_server_key::prepared::{Prepared, prepare};
+use fox_server_key::prepared::{Prepared, no_key, prepare};
 use fox_server_session_block::block::read_block;
 use fox_server_session_block::run::Run;
 use fox_server_session_step::step::Basis;
@@ -26,18 +26,14 @@ pub struct Session {
 
 impl Session {
     // The session of a refused start: all zeros, so that every call on it is refused.
-    #[tactic(auto, unfolding(crate::specs::Session::no_session, fox_server_key::specs::Prepared::no_key))]
+    #[tactic(auto, unfolding(crate::specs::Session::no_session))]
     pub fn none() -> Session
         ensures { result ≡ no_session }
     {
+        let none = no_key();
         let nothing = Pair { left: 0, right: 0 };
         Session {
-            key: Prepared {
-                cipher: 0,
-                rounds: 0,
-                key_len: 0,
-                keys: [0; 510],
-            },
+            key: none,
             counter: nothing,
             here: Here {
                 position: 0,

@@ -37,8 +37,10 @@ fn tagged<B: Tabled + Cipher>(engine: &Engine<B>, message: &[u8]) -> B
     engine.turn(true, y.xor(z))
 }
 
-// Tables are made once for all blocks, and the engine with them, in this frame: a function that answers an engine would hand out what it borrows of its own
-// frame, and one that lends it to a closure would say by the closure's predicates what these lines show.
+// A function of its own in the compiled code for each cipher, so that the tables of both never lie in the stack together. Tables are made once for all blocks,
+// and the engine with them, in this frame: a function that answers an engine would hand out what it borrows of its own frame, and one that lends it to a closure
+// would say by the closure's predicates what these lines show.
+#[inline(never)]
 pub(crate) fn tag_of<B: Tabled + Cipher>(keys: &[u64; 510], rounds: usize, message: &[u8]) -> B
     requires { (1 ≤ rounds) × (rounds ≤ 255) }
     ensures { B.state result ≡ state B.CIPHER (tag_with B.CIPHER (keys_by B.key_in keys.now rounds) message.now) }
