@@ -1,6 +1,6 @@
 // Padding and mixing of a key (001 §2.3.5 to §2.3.7).
 // A buffer has a fixed size, and its part in use is a slice: there is no heap.
-ghost use Rattle.std.specs.Prelude.{◌≡◌, ◌+◌, ◌*◌, ◌%◌, ◌≤◌, length, take};
+ghost use Rattle.std.specs.Prelude.{◌≡◌, ◌++◌, ◌+◌, ◌*◌, ◌%◌, ◌<◌, ◌≤◌, length, get_or, take};
 ghost use Rattle.fox_layers.specs.Words.{◌⊕◌};
 ghost use Rattle.fox_key_mixing.specs.Padding.{padded, mixed, mkey};
 ghost use Rattle.fox_key_mixing.specs.KeyBytes.{word_bytes};
@@ -20,29 +20,36 @@ fn mixed_byte(p: u8, x: u8, y: u8) -> u8
     p ^ y.wrapping_add(x)
 }
 
-// Mixes the bytes of a padded key, each with the two mixed bytes before it.
-fn mix(bytes: &mut [u8])
-    ensures { bytes.new ≡ mixed 0x6A 0x76 bytes.old }
+// Byte number i of the key followed by the pad.
+fn padded_byte(key: &[u8], pad: &[u8; 32], i: usize) -> u8
+    requires { i < 32 }
+    ensures { result ≡ get_or (key.now ++ pad.now) i 0 }
 {
-    let mut x = 0x6A;
-    let mut y = 0x76;
-    for b in bytes.iter_mut() {
-        let m = mixed_byte(*b, x, y);
-        *b = m;
-        x = y;
-        y = m;
+    if i < key.len() {
+        key[i]
+    } else {
+        pad[i - key.len()]
     }
 }
 
-// A key padded to 32 bytes.
-fn padded(key: &[u8]) -> [u8; 32]
-    requires { length key.now ≤ 32 }
-    ensures { result ≡ padded 32 key.now }
+// A key padded to ek bytes, and mixed; the bytes after these are not used. Byte by byte, by the byte's number: a copy of as many bytes as the key has calls
+// memcpy, and the card's code needs nothing of the C library; and where a key is padded first and mixed then, the compiler's frames take too much of a card's
+// stack.
+fn mixed_bytes(key: &[u8], ek: usize) -> [u8; 32]
+    requires { (length key.now ≤ ek) × (ek ≤ 32) }
+    ensures { take ek result ≡ mixed 0x6A 0x76 (padded ek key.now) }
 {
+    // A constant array is built anew wherever it is named, so it is named once, before the loop.
+    let pad = PAD;
     let mut out = [0; 32];
-    let (front, back) = out.split_at_mut(key.len());
-    front.copy_from_slice(key);
-    back.copy_from_slice(&PAD[..32 - key.len()]);
+    let mut x = 0x6A;
+    let mut y = 0x76;
+    for i in 0..ek {
+        let m = mixed_byte(padded_byte(key, &pad, i), x, y);
+        out[i] = m;
+        x = y;
+        y = m;
+    }
     out
 }
 
@@ -53,9 +60,7 @@ impl<const N: usize> Key<N> {
         ensures { word_bytes 8 result.words ≡ mkey (N * 8) key.now }
     {
         if key.len() < N * 8 {
-            let mut bytes = padded(key);
-            mix(&mut bytes[..N * 8]);
-            Key::load(&bytes)
+            Key::load(&mixed_bytes(key, N * 8))
         } else {
             Key::load(key)
         }

@@ -1,5 +1,5 @@
-// A block of FOX64 beside others: as it is. A round of four reads and writes their words one by one: if it handed a block on whole, the compiler would keep both
-// words in one register, and take them apart and put them together again in each round.
+// A block of FOX64 beside others: as it is. A round of four reads and writes their words one by one, in blocks that are lent; what that gave with an older
+// compiler, and what it gives with today's, stands in docs/DECISIONS.md.
 ghost use Rattle.std.specs.Prelude.{◌≡◌};
 
 use crate::beside::Beside;

@@ -7,7 +7,7 @@ use native.Mathlib.Numerals.{add-one}
 use native.Mathlib.Omega.{arith}
 use lib.ListN.{length, get_or, take, drop, set, length-append}
 use lib.Seq.{take-add, take-append-add, take_at, drop-cons, append_snoc, length-take-le}
-use Rattle.std.proofs.lemmas.List.{drop-set-lt, take_more_set}
+use Rattle.std.proofs.lemmas.List.{get_or-take, take_more_set}
 use borrow.Author.Tests.{lt-ltb, le-ltb}
 use Rattle.fox_layers.specs.Words.{◌⊕◌}
 use Rattle.fox_key_mixing.specs.Padding.{pad, padded, mixed, mkey}
@@ -22,6 +22,9 @@ pub length-padded : (ek : ℕ) (key : List ℕ) → length key ≤ ek → ek ≤
 unfolding pad
 length-padded ek key fits few = rw (padded-take ek key fits) (length-take-le ek (key ++ pad) (rw length-append (omega arith)))
 
+pub padded-at : (ek : ℕ) (key : List ℕ) → length key ≤ ek → (i : ℕ) → i < ek → get_or (padded ek key) i 0 ≡ get_or (key ++ pad) i 0
+padded-at ek key fits i h = rw (padded-take ek key fits, get_or-take ek (key ++ pad) i 0 h)
+
 -- a key padded to ek bytes begins the key padded to 32
 pub padded-front : (ek : ℕ) (key : List ℕ) → length key ≤ ek → ek ≤ 32 → take ek (padded 32 key) ≡ padded ek key
 padded-front ek key fits few =
@@ -32,12 +35,12 @@ padded-front ek key fits few =
     let long : length (take ek all) ≡ ek = ap length (sym front) ∙ length-padded ek key fits few in
     ap (take ek) (padded-take 32 key (omega arith) ∙ whole) ∙ take_at (take ek all) _ ek long ∙ sym front
 
--- one step: the mixed byte m, computed from the two before it and byte i, is stored at its place, and the rest is still to be mixed
-pub mixed-step : (xs all : List ℕ) (i x y m : ℕ) → i < length xs → m ≡ get_or xs i 0 ⊕ (y + x) % 256
-    → take i xs ++ mixed x y (drop i xs) ≡ all → take (i + 1) (set xs i m) ++ mixed y m (drop (i + 1) (set xs i m)) ≡ all
+-- one step: the mixed byte m, computed from the two before it and byte i of p, is stored at place i, and the rest is still to be mixed
+pub mixed-step : (p out all : List ℕ) (i x y m : ℕ) → i < length p → i < length out → m ≡ get_or p i 0 ⊕ (y + x) % 256
+    → take i out ++ mixed x y (drop i p) ≡ all → take (i + 1) (set out i m) ++ mixed y m (drop (i + 1) p) ≡ all
 unfolding mixed
-mixed-step xs all i x y m h e before =
-    rw (take_more_set xs i m h, drop-set-lt (i + 1) xs i m (omega arith), append_snoc, e, add-one) (rw (drop-cons xs i 0 h) at before)
+mixed-step p out all i x y m hp ho e before =
+    rw (take_more_set out i m ho, append_snoc, e, add-one) (rw (drop-cons p i 0 hp) at before)
 
 pub mkey-short : (ek : ℕ) (key : List ℕ) → length key < ek → mkey ek key ≡ mixed 0x6A 0x76 (padded ek key)
 unfolding mkey
