@@ -26,7 +26,7 @@ pub struct Session {
 
 impl Session {
     // The session of a refused start: all zeros, so that every call on it is refused.
-    #[tactic(auto, unfolding(crate::specs::Session::no_session))]
+    #[tactic(auto, unfolding(crate::specs::Session::no_session, fox_server_key::specs::Prepared::no_key))]
     pub fn none() -> Session
         ensures { result ≡ no_session }
     {
