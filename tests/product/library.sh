@@ -27,15 +27,16 @@ declared() { # EXPRESSION: the calls of the header, outside its comments, that i
     grep -v '^ \*' include/fox.h | grep -o 'fox_[a-z_]*(' | tr -d '(' | grep -E "$1" | sort
 }
 
-# It defines those calls and nothing else, so that it cannot clash with a program's own names.
-symbols() { # LIBRARY EXPRESSION WORDS..: those of nm
-    library=$OUT/$1 calls=$2
-    shift 2
+# It defines those calls and nothing else, so that it cannot clash with a program's own names, and needs nothing of the C library
+# but what is named: a card may have none, and a copy whose length is not known is a call of memcpy.
+symbols() { # LIBRARY EXPRESSION NEEDED WORDS..: those of nm
+    library=$OUT/$1 calls=$2 needed=$3
+    shift 3
     lister=$(tool nm)
     "$lister" -g "$@" "$library" | awk 'NF == 3 && $2 == "T" { print $3 }' | sort >"$room/defined"
     same_text "$(declared "$calls")" "$(cat "$room/defined")" || return 1
     "$lister" -gu "$@" "$library" | awk '$1 == "U" && $2 !~ /^_/ { sub(/@.*/, "", $2); print $2 }' | sort -u >"$room/wanted"
-    same_text '' "$(grep -v -x -e memcpy -e memset "$room/wanted")"
+    same_text '' "$(grep -v -x -F "$(printf '%s\n' $needed)" "$room/wanted")"
 }
 
 # The tests' table of engines, its verbs, and those of sessions and run files leave out no call of the header but the few that
@@ -144,10 +145,10 @@ if command -v clang >/dev/null 2>&1; then
 else
     left_out product "the header by clang" "there is no clang (Debian: clang)"
 fi
-check "the archive defines what the header declares, and nothing else" symbols libfox.a .
-check "the card's archive defines all calls but the server's, and nothing else" \
-    symbols libfox_card.a 'fox_(card_|counter|wipe|refusal_text)'
-check "the shared library defines what the header declares, and nothing else" symbols libfox.so . -D
+check "the archive defines what the header declares, and nothing else" symbols libfox.a . 'memcpy memset'
+check "the card's archive defines all calls but the server's, and nothing else, and wants memset alone" \
+    symbols libfox_card.a 'fox_(card_|counter|wipe|refusal_text)' memset
+check "the shared library defines what the header declares, and nothing else" symbols libfox.so . 'memcpy memset' -D
 check "a card's program has nothing of the server's in it" card_alone
 check "the compiler tells of an answer not looked at, of NULL, and of a short buffer" warned_of
 check "every call on vectors, refusals and limits" compiled_and_right calls tests/product/calls.c $engines

@@ -33,8 +33,7 @@ fn padded_byte(key: &[u8], pad: &[u8; 32], i: usize) -> u8
 }
 
 // A key padded to ek bytes, and mixed; the bytes after these are not used. Byte by byte, by the byte's number: a copy of as many bytes as the key has calls
-// memcpy, and the card's code needs nothing of the C library; and where a key is padded first and mixed then, the compiler's frames take too much of a card's
-// stack.
+// memcpy, and the card's proved code needs nothing of the C library. Padded in a loop of its own, before the mixing, a run takes more than a card's stack.
 fn mixed_bytes(key: &[u8], ek: usize) -> [u8; 32]
     requires { (length key.now ≤ ek) × (ek ≤ 32) }
     ensures { take ek result ≡ mixed 0x6A 0x76 (padded ek key.now) }

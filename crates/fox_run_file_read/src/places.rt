@@ -37,6 +37,7 @@ pub(crate) fn after(place: Place, s: Scan) -> Place
 }
 
 // How many bytes the next scan has; none at the end.
+#[tactic(auto, unfolding(fox_run_file::specs::Promise::next_at))]
 pub fn next_at(file: &[u8], place: Place) -> Option<usize>
     ensures { result ≡ next_at file.now place }
 {
