@@ -28,7 +28,8 @@ declared() { # EXPRESSION: the calls of the header, outside its comments, that i
 }
 
 # It defines those calls and nothing else, so that it cannot clash with a program's own names, and needs nothing of the C library
-# but what is named: a card may have none, and a copy whose length is not known is a call of memcpy.
+# but what is named: a card may have none, and a copy whose length is not known is a call of memcpy. Names that begin with _ are
+# the compiler's and the linker's, and are not looked at.
 symbols() { # LIBRARY EXPRESSION NEEDED WORDS..: those of nm
     library=$OUT/$1 calls=$2 needed=$3
     shift 3

@@ -1,5 +1,5 @@
 // Padding and mixing of a key (001 §2.3.5 to §2.3.7).
-// A buffer has a fixed size, and its part in use is a slice: there is no heap.
+// A buffer has a fixed size, and a number tells its part in use: there is no heap.
 ghost use Rattle.std.specs.Prelude.{◌≡◌, ◌++◌, ◌+◌, ◌*◌, ◌%◌, ◌<◌, ◌≤◌, length, get_or, take};
 ghost use Rattle.fox_layers.specs.Words.{◌⊕◌};
 ghost use Rattle.fox_key_mixing.specs.Padding.{padded, mixed, mkey};
