@@ -141,10 +141,11 @@
  *   session be one thread's, or hold a lock around every call on it.
  *
  * The calls keep no state but in a `place` or `session` that they are lent, allocate nothing and make no system
- * calls, so several threads may call at once. Of the C library they use memcpy and memset alone. A call by the
- * card engine takes less than FOX_CARD_STACK bytes of stack, which is 1 KiB. A call by the server engine has its
- * tables and round keys there, and takes less than FOX_SERVER_STACK, which is 40 KiB. So does a call on a session
- * or on a run file, which does its work by that engine.
+ * calls, so several threads may call at once. Of the C library they use memcpy and memset alone; those in
+ * libfox_card.a use memset alone, to wipe. A call by the card engine takes less than FOX_CARD_STACK bytes of
+ * stack, which is 1 KiB. A call by the server engine has its tables and round keys there, and takes less than
+ * FOX_SERVER_STACK, which is 40 KiB. So does a call on a session or on a run file, which does its work by that
+ * engine.
  *
  * Left out: protection against timing measurement; nothing of it is promised. What is measured, of the code
  * that the tests run on: calls by the card engine with the same cipher, rounds, lengths, offset and counter

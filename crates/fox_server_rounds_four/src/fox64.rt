@@ -1,5 +1,4 @@
-// A block of FOX64 beside others: as it is. A round of four reads and writes their words one by one, in blocks that are lent; what that gave with an older
-// compiler, and what it gives with today's, stands in docs/DECISIONS.md.
+// A block of FOX64 beside others: as it is. A round of four reads and writes their words one by one, in blocks that are lent: docs/DECISIONS.md says why.
 ghost use Rattle.std.specs.Prelude.{◌≡◌};
 
 use crate::beside::Beside;
